@@ -1,0 +1,77 @@
+-- Stuttering Hennessy-Milner logic with past: formulas, their meaning (definitions 3 and 4), and the test that decides it.
+use mathlib.Core.Path.{_≡_, refl, sym, ap, subst}
+use mathlib.Core.Logic.{_⊎_}
+use mathlib.Core.Bool.{Bool, true, false, _&&_, _||_, not as negate}
+use mathlib.Core.List.{Memᴰ·cast as ∈-cast}
+use Prim.Native.Nat.{ℕ, _+_}
+use Rattle.hml.specs.Tests.{apart, same, Decides, proves, refutes, decided-not, decided-and, decided-or, decided-iff, decided-same}
+use Rattle.hml.specs.Lists.{_∈_, any, decided-any}
+use Rattle.hml.specs.System.{System, move, idle, Run, start, _▸_, last}
+
+pub data Formula : Type 0 where
+  top bottom : Formula
+  not : Formula → Formula
+  and or : Formula → Formula → Formula
+  fwd back : ℕ → Formula → Formula
+  fwdIdle backIdle : Formula → Formula
+
+-- the number of nodes
+unfoldable pub size : Formula → ℕ
+size top = 1
+size bottom = 1
+size (not φ) = 1 + size φ
+size (and φ ψ) = 1 + size φ + size ψ
+size (or φ ψ) = 1 + size φ + size ψ
+size (fwd a φ) = 1 + size φ
+size (back a φ) = 1 + size φ
+size (fwdIdle φ) = 1 + size φ
+size (backIdle φ) = 1 + size φ
+
+module _ {S : Type 0} (M : System S) where
+  -- the meaning: what a reader has to believe
+  unfoldable pub Sat : Formula → Run S → Type 0
+  Sat top r = Unit {0}
+  Sat bottom r = ⊥
+  Sat (not φ) r = ¬ Sat φ r
+  Sat (and φ ψ) r = Sat φ r × Sat ψ r
+  Sat (or φ ψ) r = Sat φ r ⊎ Sat ψ r
+  Sat (fwd a φ) r = (p : S) × (a, p) ∈ M (last r) × Sat φ (r ▸ move a p)
+  Sat (back a φ) r = (r′ : Run S) × (p : S) × (r ≡ r′ ▸ move a p) × Sat φ r′
+  Sat (fwdIdle φ) r = Sat φ (r ▸ idle)
+  Sat (backIdle φ) r = (r′ : Run S) × (r ≡ r′ ▸ idle) × Sat φ r′
+
+  -- the same as a test: what a program computes
+  unfoldable pub holds : Formula → Run S → Bool
+  holds top r = true
+  holds bottom r = false
+  holds (not φ) r = negate (holds φ r)
+  holds (and φ ψ) r = holds φ r && holds ψ r
+  holds (or φ ψ) r = holds φ r || holds ψ r
+  holds (fwd a φ) r = any (λ m. same (m .0) a && holds φ (r ▸ move (m .0) (m .1))) (M (last r))
+  holds (back a φ) (start p) = false
+  holds (back a φ) (r ▸ move b p) = same b a && holds φ r
+  holds (back a φ) (r ▸ idle) = false
+  holds (fwdIdle φ) r = holds φ (r ▸ idle)
+  holds (backIdle φ) (start p) = false
+  holds (backIdle φ) (r ▸ move b p) = false
+  holds (backIdle φ) (r ▸ idle) = holds φ r
+
+  -- the test decides the meaning
+  pub decided : (φ : Formula) (r : Run S) → Decides (Sat φ r) (holds φ r)
+  unfolding Sat holds
+  decided top r = proves tt
+  decided bottom r = refutes (λ x. x)
+  decided (not φ) r = decided-not (decided φ r)
+  decided (and φ ψ) r = decided-and (decided φ r) (decided ψ r)
+  decided (or φ ψ) r = decided-or (decided φ r) (decided ψ r)
+  decided (fwd a φ) r = decided-iff
+      (λ t. (t .0 .1, ∈-cast (ap {B = ℕ × S} (λ b. (b, t .0 .1)) (sym (t .2 .0))) (t .1), subst (λ b. Sat φ (r ▸ move b (t .0 .1))) (t .2 .0) (t .2 .1)))
+      (λ t. ((a, t .0), t .1, (refl, t .2)))
+      (decided-any (λ m. decided-and (decided-same (m .0) a) (decided φ (r ▸ move (m .0) (m .1)))) (M (last r)))
+  decided (back a φ) (start p) = refutes (λ t. let e = t .2 in apart cc)
+  decided (back a φ) (r ▸ move b p) = decided-iff (λ t. (r, p, ap (λ c. r ▸ move c p) (t .0), t .1)) (λ t. let e = t .2 in let h : r ≡ t .0 = cc in (cc, rw h (t .3))) (decided-and (decided-same b a) (decided φ r))
+  decided (back a φ) (r ▸ idle) = refutes (λ t. let e = t .2 in apart cc)
+  decided (fwdIdle φ) r = decided φ (r ▸ idle)
+  decided (backIdle φ) (start p) = refutes (λ t. let e = t .1 in apart cc)
+  decided (backIdle φ) (r ▸ move b p) = refutes (λ t. let e = t .1 in apart cc)
+  decided (backIdle φ) (r ▸ idle) = decided-iff (λ s. (r, refl, s)) (λ t. let e = t .1 in let h : r ≡ t .0 = cc in rw h (t .2)) (decided φ r)

@@ -1,0 +1,16 @@
+pub mod Tests
+pub mod Lists
+pub mod System
+pub mod Formula
+pub mod Compose
+pub mod Quotient
+pub mod Theorem
+pub mod Joining
+pub mod Real
+pub mod Split
+pub mod Distinct
+pub mod Spell
+pub mod Labels
+pub mod Machine
+pub mod Cases
+pub mod Line
