@@ -21,6 +21,11 @@ pub data Run (S : Type 0) : Type 0 where
   _▸_ : Run S → Step S → Run S
 
 module _ {S : Type 0} where
+  -- the state in which a run starts, and the one in which it ends
+  abbrev pub first : Run S → S
+  first (start p) = p
+  first (r ▸ s) = first r
+
   abbrev pub last : Run S → S
   last (start p) = p
   last (r ▸ move a p) = p

@@ -1,0 +1,139 @@
+-- The laws of half runs: what the test accepts, the reading of their bytes, and half runs with a step more or stopped.
+use Prim.Native.Nat.{ℕ, suc, _+_, _-_, _*_, _/_, _%_, _≤_, _<_}
+use mathlib.Core.Path.{_≡_, refl, sym, _∙_}
+use mathlib.Core.Logic.{inl, inr}
+use mathlib.Core.Bool.{Bool, true, false, cond, false≢true}
+use mathlib.Core.List.{List, [], _∷_, _++_, Memᴰ·cast as ∈-cast}
+use native.Mathlib.Omega.{arith}
+use native.Mathlib.Numerals.{add-one}
+use lib.ListN.{length, getD, take, length-take}
+use lib.Seq.{take-nil}
+use lib.Dec.{eqb}
+use borrow.Author.Tests.{eqb-true, eqb-false}
+use Rattle.hml.specs.Tests.{same, Decides, decides, decided-iff, decided-and, decided-same}
+use Rattle.hml.specs.Lists.{_∈_, decided-any, each, length-each}
+use Rattle.hml.specs.System.{System, Run, start, _▸_, first, last, steps, stop, RunOf}
+use Rattle.machines.specs.Tables.{statesOf, tableOf, hasMove}
+use Rattle.machines.specs.Runs.{written, stepOf, goOn}
+use Rattle.machines.specs.Halves.{halfBytes, twos, halfOf, HalfRun, stepFits, isHalfRun}
+use Rattle.machines.proofs.Runs.{decided-by, decided-leb, decided-ltb, decided-true, NoIdleLabel, Fit, lengthened-more, first-lengthened, length-written, stop-start, stop-lengthened, goOn-take, run-keeps, run-goOn, Chunked, less, chunk, Chunks, chunks-take, chunks-read, chunks-append, stepBytes, dropped-at, read-accepted}
+
+-- the test passes exactly for the system's moves
+pub hasMove-decides : (M : System ℕ) (p a q : ℕ) → Decides ((a, q) ∈ M p) (hasMove M p a q)
+unfolding hasMove
+hasMove-decides M p a q = decided-iff
+    (λ t. ∈-cast (λ i. (sym (t .2 .0) i, sym (t .2 .1) i)) (t .1))
+    (λ i. ((a, q), i, (refl, refl)))
+    (decided-any (λ m. decided-and (decided-same (m .0) a) (decided-same (m .1) q)) (M p))
+
+-- the test passes exactly for the steps that the system has
+pub stepFits-decides : (M : System ℕ) (p a q : ℕ) → Decides (Fit M p a q) (stepFits M p a q)
+unfolding stepFits
+stepFits-decides M p a q = go (eqb a 255) refl
+  where
+    go : (b : Bool) → eqb a 255 ≡ b → Decides (Fit M p a q) (cond b (same q p) (hasMove M p a q))
+    go true e = decided-iff (λ f. inl (eqb-true a 255 e, f)) (λ s. elim s [ inl t ↦ t .1 | inr t ↦ absurd (t .0 (eqb-true a 255 e)) ]) (decided-same q p)
+    go false e = decided-iff (λ i. inr (eqb-false a 255 e, i)) (λ s. elim s [ inl t ↦ absurd (eqb-false a 255 e (t .0)) | inr t ↦ t .1 ]) (hasMove-decides M p a q)
+
+-- the bytes of a state, in a half run
+abbrev pub stateBytes : ℕ → List ℕ
+stateBytes p = p ∷ []
+
+-- two bytes a step
+pub twos-chunks : Chunks 2 (stepBytes stateBytes) twos
+unfolding twos
+twos-chunks = record { some = omega arith; sized = λ e. refl; none = none; one = λ e bs. refl; every = every }
+  where
+    none : (bs : List ℕ) → length bs < 2 → twos bs ≡ []
+    none [] h = refl
+    none (a ∷ []) h = refl
+    none (a ∷ q ∷ bs) h = absurd (omega arith)
+
+    every : (bs : List ℕ) → Chunked 2 (stepBytes stateBytes) bs
+    every [] = less [] (omega arith)
+    every (a ∷ []) = less (a ∷ []) (omega arith)
+    every (a ∷ q ∷ bs) = chunk (a, q) (every bs)
+
+-- what an accepted half is
+pub record AcceptedHalf (t s : List ℕ) : Type 0 where
+  pub run : RunOf (tableOf t) (halfOf s)
+  pub spelled : halfBytes (halfOf s) ≡ s
+  pub begins : first (halfOf s) < statesOf t
+  pub counted : steps (halfOf s) ≡ length s / 2
+  pub few : steps (halfOf s) ≤ 200
+  pub odd : length s % 2 ≡ 1
+  pub ends : last (halfOf s) ≡ getD s (length s - 1) 0
+
+-- the parts of the test: whole steps, at most 200 of them, a start state of the table, and steps that go on from it
+half-tested : (t : List ℕ) (p : ℕ) (bs : List ℕ) → Decides ((length bs % 2 ≡ 0) × (length bs ≤ 400) × (p < statesOf t) × (goOn (stepFits (tableOf t)) p (twos bs) ≡ true)) (isHalfRun t (p ∷ bs))
+unfolding isHalfRun
+half-tested t p bs = decided-iff
+    (λ ((o, m), (b, g)). (omega (arith, o), omega (arith, m), b, g))
+    (λ (o, m, b, g). ((omega (arith, o), omega (arith, m)), (b, g)))
+    (decided-and (decided-and (decided-same (suc (length bs) % 2) 1) (decided-leb (suc (length bs)) 401)) (decided-and (decided-ltb p (statesOf t)) (decided-true (goOn (stepFits (tableOf t)) p (twos bs)))))
+
+-- what the test accepts is the spelling of a run of the table: its reading
+pub accepted-half : (t s : List ℕ) → isHalfRun t s ≡ true → AcceptedHalf t s
+unfolding isHalfRun halfOf halfBytes
+accepted-half t [] e = absurd (false≢true e)
+accepted-half t (p ∷ bs) e =
+    let (o, m, b, g) = decides (half-tested t p bs) .0 e in
+    let (x, w, n, l) = read-accepted stateBytes twos-chunks (tableOf t) (stepFits (tableOf t)) (stepFits-decides (tableOf t)) p bs o g in
+    let f = first-lengthened (start p) (twos bs) in
+    record {
+      run = x;
+      spelled = rw (f, w);
+      begins = rw f b;
+      counted = n ∙ omega arith;
+      few = omega arith;
+      odd = omega arith;
+      ends = dropped-at (p ∷ bs) (length bs) (length (p ∷ bs) - 1) 0 l (omega arith);
+    }
+
+-- what is read of the spelling of a run of a table without the label 255 is the run
+pub half-read : (t : List ℕ) → NoIdleLabel (tableOf t) → {r : Run ℕ} → RunOf (tableOf t) r → halfOf (halfBytes r) ≡ r
+unfolding halfOf halfBytes
+half-read t free {r} x = rw (chunks-read twos-chunks (written r)) (run-goOn (tableOf t) (stepFits (tableOf t)) (stepFits-decides (tableOf t)) free x .1)
+
+-- the test passes exactly for the spellings of the runs of a table without the label 255
+pub half-decides : (t s : List ℕ) → NoIdleLabel (tableOf t) → Decides (HalfRun t s) (isHalfRun t s)
+unfolding HalfRun halfBytes
+half-decides t s free = decided-by (isHalfRun t s)
+    (λ e. let a = accepted-half t s e in (halfOf s, sym (a .spelled), a .run, a .begins, a .few))
+    (λ h. rw (h .1) (passes (h .0) (h .2) (h .3) (h .4)))
+  where
+    passes : (r : Run ℕ) → RunOf (tableOf t) r → first r < statesOf t → steps r ≤ 200 → isHalfRun t (halfBytes r) ≡ true
+    passes r x b l =
+        let n = length-each (stepBytes stateBytes) 2 (twos-chunks .sized) (written r) in
+        let m = length-written r in
+        decides (half-tested t (first r) (each (stepBytes stateBytes) (written r))) .1 (
+          omega arith,
+          omega arith,
+          b,
+          rw (chunks-read twos-chunks (written r)) (run-goOn (tableOf t) (stepFits (tableOf t)) (stepFits-decides (tableOf t)) free x .0),
+        )
+
+-- stopping the reading is the reading of the shorter bytes
+pub half-stop : (s : List ℕ) (n : ℕ) → halfOf (take (2 * n + 1) s) ≡ stop n (halfOf s)
+unfolding halfOf
+half-stop [] n = rw (take-nil, stop-start)
+half-stop (p ∷ bs) n = rw (add-one, chunks-take twos-chunks bs n) (sym (stop-lengthened n p (twos bs)))
+
+-- one more step in bytes is one more step in the reading
+pub half-more : (s : List ℕ) (a q : ℕ) → length s % 2 ≡ 1 → halfOf (s ++ a ∷ q ∷ []) ≡ halfOf s ▸ stepOf a q
+unfolding halfOf twos
+half-more [] a q o = absurd (omega arith)
+half-more (p ∷ bs) a q o = rw (chunks-append twos-chunks bs (omega arith) (a ∷ q ∷ [])) (lengthened-more (start p) (twos bs) a q)
+
+-- an accepted half stopped at one of its points is accepted
+pub half-stopped : (t s : List ℕ) (n : ℕ) → isHalfRun t s ≡ true → isHalfRun t (take (2 * n + 1) s) ≡ true
+unfolding isHalfRun
+half-stopped t [] n e = absurd (false≢true e)
+half-stopped t (p ∷ bs) n e =
+    let (o, m, b, g) = decides (half-tested t p bs) .0 e in
+    let l = length-take (2 * n) bs in
+    rw add-one (decides (half-tested t p (take (2 * n) bs)) .1 (omega arith, omega arith, b, rw (chunks-take twos-chunks bs n) (goOn-take (stepFits (tableOf t)) p n (twos bs) g)))
+
+-- if all moves of a table end in its states, an accepted half does
+pub half-in-range : (t s : List ℕ) → ((p a q : ℕ) → (a, q) ∈ tableOf t p → q < statesOf t) → isHalfRun t s ≡ true → last (halfOf s) < statesOf t
+half-in-range t s k e = let a = accepted-half t s e in run-keeps (tableOf t) (λ p. p < statesOf t) (λ p a q i m. k p a q m) (a .run) (a .begins)

@@ -1,0 +1,114 @@
+-- The cases of judging a half run, each from what the code knows at its return.
+use Prim.Native.Nat.{ℕ, suc, _+_, _*_, _/_, _%_, _≤_, _<_}
+use mathlib.Core.Path.{_≡_, refl, sym, _∙_, ap}
+use mathlib.Core.Bool.{Bool, true, false, _&&_}
+use mathlib.Core.List.{List, [], _∷_}
+use native.Mathlib.Omega.{arith}
+use lib.ListN.{length, getD, drop, length-drop, drop-of-length-le}
+use lib.Seq.{drop-cons}
+use lib.Dec.{eqb}
+use borrow.Author.Tests.{eq-eqb, ne-eqb, lt-ltb, le-ltb, le-leb, lt-leb}
+use Rattle.hml.specs.System.{System}
+use Rattle.machines.specs.Refusals.{firstOf}
+use Rattle.machines.specs.Tables.{statesOf, tableOf, hasMove, checkTable}
+use Rattle.machines.specs.Runs.{goOn}
+use Rattle.machines.specs.Halves.{twos, stepFits, isHalfRun, checkHalf, checkTableAndHalf}
+use Rattle.machines.specs.declared.refusal.Refusal.{Refusal}
+use Rattle.machines.specs.declared.refusal.Refusal.the-variants.{NotARun}
+use Rattle.machines.specs.declared.refusal.Check.the-variants.{Sound, Refused}
+
+-- one step
+module _ (M : System ℕ) (p a q : ℕ) where
+  pub idle-fits : eqb a 255 ≡ true → eqb q p ≡ stepFits M p a q
+  unfolding stepFits
+  idle-fits e = rw e
+
+  pub move-fits : eqb a 255 ≡ false → {x : Bool} → x ≡ hasMove M p a q → x ≡ stepFits M p a q
+  unfolding stepFits
+  move-fits e h = rw e h
+
+-- written steps that go on: the first decides, and leaves it to the others if it fits
+module _ {S : Type 0} (fits : S → ℕ → S → Bool) (p : S) {x : Bool} where
+  pub ended : {es : List (ℕ × S)} → es ≡ [] → goOn fits p es ≡ x → true ≡ x
+  unfolding goOn
+  ended e g = rw e at g
+
+  module _ {a : ℕ} {q : S} {es rest : List (ℕ × S)} (e : es ≡ (a, q) ∷ rest) (g : goOn fits p es ≡ x) where
+    pub stopped : fits p a q ≡ false → false ≡ x
+    unfolding goOn
+    stopped f = rw f at (rw e at g)
+
+    pub passed : fits p a q ≡ true → goOn fits q rest ≡ x
+    unfolding goOn
+    passed f = rw f at (rw e at g)
+
+-- the bytes of a half run, from step i on
+module _ (s : List ℕ) (i : ℕ) where
+  pub next-two : 2 * i + 2 < length s → twos (drop (2 * i + 1) s) ≡ (getD s (2 * i + 1) 0, getD s (2 * i + 2) 0) ∷ twos (drop (2 * (i + 1) + 1) s)
+  unfolding twos
+  next-two h =
+      let a : suc (2 * i + 1) ≡ 2 * i + 2 = omega arith in
+      let b : suc (2 * i + 2) ≡ 2 * (i + 1) + 1 = omega arith in
+      rw (drop-cons s (2 * i + 1) 0 (omega arith), a, drop-cons s (2 * i + 2) 0 h, b)
+
+  pub no-two : length s ≤ 2 * i + 1 → twos (drop (2 * i + 1) s) ≡ []
+  unfolding twos
+  no-two h = rw (drop-of-length-le s {i = 2 * i + 1} h)
+
+-- the steps before step i fit, and those from it on decide
+unfoldable pub Walked : List ℕ → List ℕ → ℕ → Type 0
+Walked t s i = goOn (stepFits (tableOf t)) (getD s (2 * i) 0) (twos (drop (2 * i + 1) s)) ≡ goOn (stepFits (tableOf t)) (getD s 0 0) (twos (drop 1 s))
+
+module _ (t s : List ℕ) where
+  pub even-half : (length s % 2 ≡ 1 → ⊥) → false ≡ isHalfRun t s
+  unfolding isHalfRun
+  even-half n = rw (ne-eqb _ _ n)
+
+  pub walked-start : Walked t s 0
+  unfolding Walked
+  walked-start = refl
+
+  module _ (odd : length s % 2 ≡ 1) where
+    pub long-half : 401 < length s → false ≡ isHalfRun t s
+    unfolding isHalfRun
+    long-half h = rw (eq-eqb _ _ odd, lt-leb _ _ h)
+
+    module _ (short : length s ≤ 401) where
+      pub start-out : statesOf t ≤ getD s 0 0 → false ≡ isHalfRun t s
+      unfolding isHalfRun
+      start-out h = rw (eq-eqb _ _ odd, le-leb _ _ short, le-ltb (getD s 0 0) (statesOf t) h)
+
+      module _ (begins : getD s 0 0 < statesOf t) where
+        steps-decide : {x : Bool} → x ≡ goOn (stepFits (tableOf t)) (getD s 0 0) (twos (drop 1 s)) → x ≡ isHalfRun t s
+        unfolding isHalfRun
+        steps-decide e = rw (eq-eqb _ _ odd, le-leb _ _ short, lt-ltb (getD s 0 0) (statesOf t) begins) e
+
+        module _ (i : ℕ) (w : Walked t s i) where
+          pub walked-end : length s / 2 ≤ i → true ≡ isHalfRun t s
+          unfolding Walked
+          walked-end h = steps-decide (ended (stepFits (tableOf t)) (getD s (2 * i) 0) (no-two s i (omega (arith, odd, h))) w)
+
+          module _ (h : i < length s / 2) where
+            pub walked-stop : stepFits (tableOf t) (getD s (2 * i) 0) (getD s (2 * i + 1) 0) (getD s (2 * i + 2) 0) ≡ false → false ≡ isHalfRun t s
+            unfolding Walked
+            walked-stop f = steps-decide (stopped (stepFits (tableOf t)) (getD s (2 * i) 0) (next-two s i (omega (arith, odd))) w f)
+
+            pub walked-on : stepFits (tableOf t) (getD s (2 * i) 0) (getD s (2 * i + 1) 0) (getD s (2 * i + 2) 0) ≡ true → Walked t s (i + 1)
+            unfolding Walked
+            walked-on f = let e : 2 * (i + 1) ≡ 2 * i + 2 = omega arith in
+                ap (λ m. goOn (stepFits (tableOf t)) (getD s m 0) (twos (drop (2 * (i + 1) + 1) s))) e ∙ passed (stepFits (tableOf t)) (getD s (2 * i) 0) (next-two s i (omega (arith, odd))) w f
+
+-- a table and a half of it
+module _ (k : ℕ) (t s : List ℕ) where
+  pub table-refused : (r : Refusal) → checkTable k t ≡ Refused r → Refused r ≡ checkTableAndHalf k t s
+  unfolding checkTableAndHalf firstOf
+  table-refused r e = rw e
+
+  module _ (sound : checkTable k t ≡ Sound) where
+    pub half-sound : isHalfRun t s ≡ true → Sound ≡ checkTableAndHalf k t s
+    unfolding checkTableAndHalf checkHalf firstOf
+    half-sound e = rw (sound, e)
+
+    pub half-refused : isHalfRun t s ≡ false → Refused NotARun ≡ checkTableAndHalf k t s
+    unfolding checkTableAndHalf checkHalf firstOf
+    half-refused e = rw (sound, e)

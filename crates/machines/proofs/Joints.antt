@@ -1,0 +1,198 @@
+-- The cases of judging a joint run, each from what the code knows at its return.
+use Prim.Native.Nat.{ℕ, suc, _+_, _*_, _/_, _%_, _≤_, _<_}
+use mathlib.Core.Path.{_≡_, refl, sym, _∙_, ap, ap₂}
+use mathlib.Core.Bool.{Bool, true, false, _&&_, _||_}
+use mathlib.Core.List.{List, [], _∷_, map}
+use mathlib.Core.Option.{Option, none, some}
+use native.Mathlib.Omega.{arith}
+use lib.ListN.{length, getD, drop, drop-of-length-le}
+use lib.Seq.{drop-cons}
+use lib.Dec.{eqb}
+use borrow.Author.Tests.{eq-eqb, ne-eqb, lt-ltb, le-ltb, le-leb, lt-leb}
+use Rattle.hml.specs.Tests.{apart}
+use Rattle.hml.specs.Lists.{any, present}
+use Rattle.hml.specs.System.{System, Pairing}
+use Rattle.hml.specs.Labels.{pairs}
+use Rattle.machines.specs.Refusals.{firstOf, thenOf}
+use Rattle.machines.specs.Labels.{pairing, partnerFound}
+use Rattle.machines.specs.Tables.{statesOf, tableOf, threes, hasMove, checkTable}
+use Rattle.machines.specs.Runs.{goOn}
+use Rattle.machines.specs.Joints.{jointSteps, shakesTo, isLeftAlone, isRightAlone, isHandshake, isJointIdle, isReal, isRealStep, fitJoint, isJointRun, checkJoint, checkTablesAndJoint}
+use Rattle.machines.specs.declared.label.Label.{Label}
+use Rattle.machines.specs.declared.label.Labels.{Labels}
+use Rattle.machines.specs.declared.label.Partner.the-variants as partner
+use Rattle.machines.specs.declared.refusal.Refusal.{Refusal}
+use Rattle.machines.specs.declared.refusal.Refusal.the-variants.{WrongLength, NotReal}
+use Rattle.machines.specs.declared.refusal.Check.{Check}
+use Rattle.machines.specs.declared.refusal.Check.the-variants.{Sound, Refused}
+use Rattle.machines.proofs.Refusals.{then-assoc, both-sound}
+use Rattle.machines.specs.Working.{Tables}
+use Rattle.machines.proofs.SoundTables.{ready}
+use Rattle.machines.proofs.Halves.{ended, stopped, passed}
+
+-- a joint idle
+module _ (p q c p′ q′ : ℕ) where
+  pub other-label : eqb c 255 ≡ false → false ≡ isJointIdle p q c p′ q′
+  unfolding isJointIdle
+  other-label e = rw e
+
+  module _ (idle : eqb c 255 ≡ true) where
+    pub left-moved : (p′ ≡ p → ⊥) → false ≡ isJointIdle p q c p′ q′
+    unfolding isJointIdle
+    left-moved n = rw (idle, ne-eqb _ _ n)
+
+    pub left-kept : p′ ≡ p → eqb q′ q ≡ isJointIdle p q c p′ q′
+    unfolding isJointIdle
+    left-kept e = rw (idle, eq-eqb _ _ e)
+
+-- what a partner lookup found
+found-some : (o : Option ℕ) (b : Label) → partner.Label b ≡ partnerFound o → o ≡ some (b .0)
+unfolding partnerFound
+found-some none b e = absurd (apart cc)
+found-some (some x) b e = let q : b ≡ record { 0 = x } = cc in ap (λ l. some (l .0)) (sym q)
+
+found-none : (o : Option ℕ) → partner.Nobody ≡ partnerFound o → o ≡ none
+unfolding partnerFound
+found-none none e = refl
+found-none (some x) e = absurd (apart cc)
+
+-- a handshake by one row of the left, of label a and target to
+module _ (P : Pairing) (R : System ℕ) (q p′ q′ a to : ℕ) where
+  pub elsewhere : (to ≡ p′ → ⊥) → false ≡ shakesTo P R q p′ q′ (a, to)
+  unfolding shakesTo
+  elsewhere n = rw (ne-eqb _ _ n)
+
+  module _ (there : to ≡ p′) where
+    pub nobody-shakes : partner.Nobody ≡ partnerFound (P .partner a) → false ≡ shakesTo P R q p′ q′ (a, to)
+    unfolding shakesTo
+    nobody-shakes e = rw (eq-eqb _ _ there, found-none (P .partner a) e)
+
+    pub partner-shakes : (b : Label) → partner.Label b ≡ partnerFound (P .partner a) → {x : Bool} → x ≡ hasMove R q (b .0) q′ → x ≡ shakesTo P R q p′ q′ (a, to)
+    unfolding shakesTo
+    partner-shakes b e h = rw (eq-eqb _ _ there, found-some (P .partner a) b e) h
+
+-- a handshake, and the four ways
+module _ (P : Pairing) (L R : System ℕ) (p q c p′ q′ : ℕ) where
+  pub no-handshake : eqb c 0 ≡ false → false ≡ isHandshake P L R p q c p′ q′
+  unfolding isHandshake
+  no-handshake e = rw e
+
+  pub search-decides : eqb c 0 ≡ true → {x : Bool} → x ≡ any (shakesTo P R q p′ q′) (L p) → x ≡ isHandshake P L R p q c p′ q′
+  unfolding isHandshake
+  search-decides e h = rw e h
+
+  pub by-left : (eqb q′ q && hasMove L p c p′) ≡ true → true ≡ isReal P L R p q c p′ q′
+  unfolding isReal isLeftAlone
+  by-left e = rw e
+
+  module _ (l : (eqb q′ q && hasMove L p c p′) ≡ false) where
+    pub by-right : (eqb p′ p && hasMove R q c q′) ≡ true → true ≡ isReal P L R p q c p′ q′
+    unfolding isReal isLeftAlone isRightAlone
+    by-right e = rw (l, e)
+
+    module _ (r : (eqb p′ p && hasMove R q c q′) ≡ false) where
+      pub by-handshake : isHandshake P L R p q c p′ q′ ≡ true → true ≡ isReal P L R p q c p′ q′
+      unfolding isReal isLeftAlone isRightAlone
+      by-handshake e = rw (l, r, e)
+
+      pub by-idle : isHandshake P L R p q c p′ q′ ≡ false → {x : Bool} → x ≡ isJointIdle p q c p′ q′ → x ≡ isReal P L R p q c p′ q′
+      unfolding isReal isLeftAlone isRightAlone
+      by-idle h e = rw (l, r, h) e
+
+-- the bytes of a joint run, from step i on
+module _ (s : List ℕ) (i : ℕ) where
+  pub next-three : 3 * i + 4 < length s
+      → jointSteps (drop (3 * i + 2) s) ≡ (getD s (3 * i + 2) 0, (getD s (3 * i + 3) 0, getD s (3 * i + 4) 0)) ∷ jointSteps (drop (3 * (i + 1) + 2) s)
+  unfolding jointSteps threes
+  next-three h =
+      let a : suc (3 * i + 2) ≡ 3 * i + 3 = omega arith in
+      let b : suc (3 * i + 3) ≡ 3 * i + 4 = omega arith in
+      let d : suc (3 * i + 4) ≡ 3 * (i + 1) + 2 = omega arith in
+      rw (drop-cons s (3 * i + 2) 0 (omega arith), a, drop-cons s (3 * i + 3) 0 (omega arith), b, drop-cons s (3 * i + 4) 0 h, ← d)
+
+  pub no-three : length s ≤ 3 * i + 2 → jointSteps (drop (3 * i + 2) s) ≡ []
+  unfolding jointSteps threes
+  no-three h = rw (drop-of-length-le s {i = 3 * i + 2} h)
+
+module _ (k : ℕ) (l r s : List ℕ) where
+  abbrev fitsHere : ℕ × ℕ → ℕ → ℕ × ℕ → Bool
+  fitsHere = isRealStep (pairs k) (tableOf l) (tableOf r)
+
+  -- the steps before step i are real, and those from it on decide
+  unfoldable pub Walked : ℕ → Type 0
+  Walked i = goOn fitsHere (getD s (3 * i) 0, getD s (3 * i + 1) 0) (jointSteps (drop (3 * i + 2) s)) ≡ goOn fitsHere (getD s 0 0, getD s 1 0) (jointSteps (drop 2 s))
+
+  pub walked-start : Walked 0
+  unfolding Walked
+  walked-start = refl
+
+  pub left-out : statesOf l ≤ getD s 0 0 → false ≡ isJointRun k l r s
+  unfolding isJointRun
+  left-out h = rw (le-ltb (getD s 0 0) (statesOf l) h)
+
+  module _ (left : getD s 0 0 < statesOf l) where
+    pub right-out : statesOf r ≤ getD s 1 0 → false ≡ isJointRun k l r s
+    unfolding isJointRun
+    right-out h = rw (lt-ltb (getD s 0 0) (statesOf l) left, le-ltb (getD s 1 0) (statesOf r) h)
+
+    module _ (right : getD s 1 0 < statesOf r) where
+      steps-decide : {x : Bool} → x ≡ goOn fitsHere (getD s 0 0, getD s 1 0) (jointSteps (drop 2 s)) → x ≡ isJointRun k l r s
+      unfolding isJointRun
+      steps-decide e = rw (lt-ltb (getD s 0 0) (statesOf l) left, lt-ltb (getD s 1 0) (statesOf r) right) e
+
+      module _ (fit : length s % 3 ≡ 2) (i : ℕ) (w : Walked i) where
+        pub walked-end : length s / 3 ≤ i → true ≡ isJointRun k l r s
+        unfolding Walked
+        walked-end h = steps-decide (ended fitsHere _ (no-three s i (omega (arith, fit, h))) w)
+
+        module _ (h : i < length s / 3) where
+          abbrev realHere : Bool
+          realHere = isReal (pairs k) (tableOf l) (tableOf r) (getD s (3 * i) 0) (getD s (3 * i + 1) 0) (getD s (3 * i + 2) 0) (getD s (3 * i + 3) 0) (getD s (3 * i + 4) 0)
+
+          pub walked-stop : realHere ≡ false → false ≡ isJointRun k l r s
+          unfolding Walked
+          walked-stop f = steps-decide (stopped fitsHere _ (next-three s i (omega (arith, fit))) w f)
+
+          pub walked-on : realHere ≡ true → Walked (i + 1)
+          unfolding Walked
+          walked-on f =
+              let e : 3 * (i + 1) ≡ 3 * i + 3 = omega arith in
+              let d : 3 * (i + 1) + 1 ≡ 3 * i + 4 = omega arith in
+              ap₂ (λ m n. goOn fitsHere (getD s m 0, getD s n 0) (jointSteps (drop (3 * (i + 1) + 2) s))) e d ∙ passed fitsHere _ (next-three s i (omega (arith, fit))) w f
+
+-- the two tables' checks as the code has them
+module _ (k : ℕ) (l r : List ℕ) where
+  pub tables-judged : {x y a b : Check} → x ≡ thenOf a b → a ≡ checkTable k l → b ≡ checkTable k r → x ≡ y → thenOf (checkTable k l) (checkTable k r) ≡ y
+  tables-judged e f g h = rw (← f, ← g, ← e) h
+
+  pub tables-ready : thenOf (checkTable k l) (checkTable k r) ≡ Sound → Tables l r
+  tables-ready e = let b = both-sound (checkTable k l) (checkTable k r) e in record { left = ready k l (b .0); right = ready k r (b .1) }
+
+-- two tables and a joint run of them
+module _ (k : ℕ) (l r s : List ℕ) where
+  pub tables-refused : (x : Refusal) → thenOf (checkTable k l) (checkTable k r) ≡ Refused x → Refused x ≡ checkTablesAndJoint k l r s
+  unfolding checkTablesAndJoint firstOf
+  tables-refused x e = rw (← then-assoc (checkTable k l) (checkTable k r) _, e)
+
+  module _ (sound : thenOf (checkTable k l) (checkTable k r) ≡ Sound) where
+    run-decides : (x : Check) → x ≡ thenOf (checkJoint k l r s) Sound → x ≡ checkTablesAndJoint k l r s
+    unfolding checkTablesAndJoint firstOf
+    run-decides x e = rw (← then-assoc (checkTable k l) (checkTable k r) _, sound) e
+
+    pub misfit-run : (length s % 3 ≡ 2 → ⊥) → Refused WrongLength ≡ checkTablesAndJoint k l r s
+    unfolding checkJoint firstOf fitJoint
+    misfit-run n = run-decides _ (rw (ne-eqb (length s % 3) 2 n))
+
+    module _ (fit : length s % 3 ≡ 2) where
+      pub long-run : 602 < length s → Refused WrongLength ≡ checkTablesAndJoint k l r s
+      unfolding checkJoint firstOf fitJoint
+      long-run h = run-decides _ (rw (eq-eqb (length s % 3) 2 fit, lt-leb (length s) 602 h))
+
+      module _ (short : length s ≤ 602) where
+        pub joint-sound : isJointRun k l r s ≡ true → Sound ≡ checkTablesAndJoint k l r s
+        unfolding checkJoint firstOf fitJoint
+        joint-sound e = run-decides _ (rw (eq-eqb (length s % 3) 2 fit, le-leb (length s) 602 short, e))
+
+        pub joint-refused : isJointRun k l r s ≡ false → Refused NotReal ≡ checkTablesAndJoint k l r s
+        unfolding checkJoint firstOf fitJoint
+        joint-refused e = run-decides _ (rw (eq-eqb (length s % 3) 2 fit, le-leb (length s) 602 short, e))

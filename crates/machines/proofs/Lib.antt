@@ -1,0 +1,14 @@
+pub mod Refusals
+pub mod Labels
+pub mod Spans
+pub mod Halving
+pub mod Searching
+pub mod Tables
+pub mod SoundTables
+pub mod Runs
+pub mod Steps
+pub mod Halves
+pub mod Joints
+pub mod HalfRuns
+pub mod JointRuns
+pub mod Cuts

@@ -1,0 +1,33 @@
+-- The known side and the cut: document 01, "The quotient" and the end of "Who can cause a refusal".
+use Prim.Native.Nat.{ℕ, _+_, _*_, _/_, _%_}
+use mathlib.Core.List.{List, []}
+use mathlib.Core.Bool.{Bool, cond, _||_}
+use lib.ListN.{length, take}
+use lib.Dec.{eqb, ltb}
+use Rattle.machines.specs.declared.side.Side.{Side}
+use Rattle.machines.specs.declared.side.Side.the-variants as side
+use Rattle.machines.specs.declared.side.Known.{Known}
+use Rattle.machines.specs.declared.side.Known.the-variants as known
+
+-- "A caller may name the known side; unnamed, it is the right."
+abbrev pub knownOf : Side → Known
+knownOf side.Unnamed = known.Right
+knownOf side.Left = known.Left
+knownOf side.Right = known.Right
+
+-- 12: is the point beyond the run of a half? A half of even length has no points, any other as many as steps, and 0
+unfoldable pub beyond : List ℕ → ℕ → Bool
+beyond s point = eqb (length s % 2) 0 || ltb (length s / 2) point
+
+-- a half up to a point: its start state and two bytes a step. Empty where the point is beyond
+unfoldable pub prefixOf : List ℕ → ℕ → List ℕ
+prefixOf s point = cond (beyond s point) [] (take (2 * point + 1) s)
+
+-- the half that is known
+abbrev pub knownHalf : List ℕ → List ℕ → Known → List ℕ
+knownHalf l r known.Left = l
+knownHalf l r known.Right = r
+
+-- "A cut returns the known half as the part of whichever lent half it is, up to the point." It looks at that half alone
+unfoldable pub cutOf : List ℕ → List ℕ → Side → ℕ → List ℕ
+cutOf l r s point = prefixOf (knownHalf l r (knownOf s)) point
