@@ -3,28 +3,22 @@ use Prim.Native.Nat.{ℕ, suc, _+_, _-_, _*_, _/_, _%_, _≤_, _<_}
 use mathlib.Core.Path.{_≡_, refl, sym, _∙_}
 use mathlib.Core.Logic.{inl, inr}
 use mathlib.Core.Bool.{Bool, true, false, cond, false≢true}
-use mathlib.Core.List.{List, [], _∷_, _++_, Memᴰ·cast as ∈-cast}
+use mathlib.Core.List.{List, [], _∷_, _++_}
 use native.Mathlib.Omega.{arith}
 use native.Mathlib.Numerals.{add-one}
 use lib.ListN.{length, getD, take, length-take}
 use lib.Seq.{take-nil}
 use lib.Dec.{eqb}
 use borrow.Author.Tests.{eqb-true, eqb-false}
-use Rattle.hml.specs.Tests.{same, Decides, decides, decided-iff, decided-and, decided-same}
-use Rattle.hml.specs.Lists.{_∈_, decided-any, each, length-each}
+use Rattle.hml.specs.Tests.{same, Decides, decides, decided-by, decided-le, decided-lt, decided-true, decided-iff, decided-and, decided-same}
+use Rattle.hml.specs.Lists.{_∈_, each, length-each}
 use Rattle.hml.specs.System.{System, Run, start, _▸_, first, last, steps, stop, RunOf}
-use Rattle.machines.specs.Tables.{statesOf, tableOf, hasMove}
+use Rattle.tables.specs.Tables.{statesOf, tableOf, hasMove}
 use Rattle.machines.specs.Runs.{written, stepOf, goOn}
 use Rattle.machines.specs.Halves.{halfBytes, twos, halfOf, HalfRun, stepFits, isHalfRun}
-use Rattle.machines.proofs.Runs.{decided-by, decided-leb, decided-ltb, decided-true, NoIdleLabel, Fit, lengthened-more, first-lengthened, length-written, stop-start, stop-lengthened, goOn-take, run-keeps, run-goOn, Chunked, less, chunk, Chunks, chunks-take, chunks-read, chunks-append, stepBytes, dropped-at, read-accepted}
-
--- the test passes exactly for the system's moves
-pub hasMove-decides : (M : System ℕ) (p a q : ℕ) → Decides ((a, q) ∈ M p) (hasMove M p a q)
-unfolding hasMove
-hasMove-decides M p a q = decided-iff
-    (λ t. ∈-cast (λ i. (sym (t .2 .0) i, sym (t .2 .1) i)) (t .1))
-    (λ i. ((a, q), i, (refl, refl)))
-    (decided-any (λ m. decided-and (decided-same (m .0) a) (decided-same (m .1) q)) (M p))
+use Rattle.tables.proofs.Chunks.{Chunked, less, chunk, Chunks, chunks-take, chunks-read, chunks-append}
+use Rattle.tables.proofs.Rows.{hasMove-decides}
+use Rattle.machines.proofs.Runs.{NoIdleLabel, Fit, lengthened-more, first-lengthened, length-written, stop-start, stop-lengthened, goOn-take, run-keeps, run-goOn, stepBytes, dropped-at, read-accepted}
 
 -- the test passes exactly for the steps that the system has
 pub stepFits-decides : (M : System ℕ) (p a q : ℕ) → Decides (Fit M p a q) (stepFits M p a q)
@@ -70,7 +64,7 @@ unfolding isHalfRun
 half-tested t p bs = decided-iff
     (λ ((o, m), (b, g)). (omega (arith, o), omega (arith, m), b, g))
     (λ (o, m, b, g). ((omega (arith, o), omega (arith, m)), (b, g)))
-    (decided-and (decided-and (decided-same (suc (length bs) % 2) 1) (decided-leb (suc (length bs)) 401)) (decided-and (decided-ltb p (statesOf t)) (decided-true (goOn (stepFits (tableOf t)) p (twos bs)))))
+    (decided-and (decided-and (decided-same (suc (length bs) % 2) 1) (decided-le (suc (length bs)) 401)) (decided-and (decided-lt p (statesOf t)) (decided-true (goOn (stepFits (tableOf t)) p (twos bs)))))
 
 -- what the test accepts is the spelling of a run of the table: its reading
 pub accepted-half : (t s : List ℕ) → isHalfRun t s ≡ true → AcceptedHalf t s

@@ -9,13 +9,13 @@ use lib.Seq.{drop-cons}
 use lib.Dec.{eqb}
 use borrow.Author.Tests.{eq-eqb, ne-eqb, lt-ltb, le-ltb, le-leb, lt-leb}
 use Rattle.hml.specs.System.{System}
-use Rattle.machines.specs.Refusals.{firstOf}
-use Rattle.machines.specs.Tables.{statesOf, tableOf, hasMove, checkTable}
+use Rattle.labels.specs.Refusals.{firstOf}
+use Rattle.tables.specs.Tables.{statesOf, tableOf, hasMove, checkTable}
 use Rattle.machines.specs.Runs.{goOn}
 use Rattle.machines.specs.Halves.{twos, stepFits, isHalfRun, checkHalf, checkTableAndHalf}
-use Rattle.machines.specs.declared.refusal.Refusal.{Refusal}
-use Rattle.machines.specs.declared.refusal.Refusal.the-variants.{NotARun}
-use Rattle.machines.specs.declared.refusal.Check.the-variants.{Sound, Refused}
+use Rattle.labels.specs.declared.refusal.Refusal.{Refusal}
+use Rattle.labels.specs.declared.refusal.Refusal.the-variants.{NotARun}
+use Rattle.labels.specs.declared.refusal.Check.the-variants.{Sound, Refused}
 
 -- one step
 module _ (M : System ℕ) (p a q : ℕ) where

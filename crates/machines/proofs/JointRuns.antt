@@ -8,17 +8,18 @@ use mathlib.Core.Option.{some}
 use native.Mathlib.Omega.{arith}
 use lib.ListN.{length, getD, take, length-take}
 use lib.Seq.{take-nil}
-use Rattle.hml.specs.Tests.{Decides, decides, decided-iff, decided-and, decided-or, decided-same, tested-ℕ, tested-pair}
+use Rattle.hml.specs.Tests.{Decides, decides, decided-by, decided-le, decided-lt, decided-true, both-true, decided-iff, decided-and, decided-or, decided-same, tested-ℕ, tested-pair}
 use Rattle.hml.specs.Lists.{_∈_, decided-any, decided-present, each, length-each}
 use Rattle.hml.specs.System.{System, Run, start, _▸_, first, last, steps, stop, RunOf, Pairing}
 use Rattle.hml.specs.Compose.{beside, left, right, both, joint}
 use Rattle.hml.specs.Real.{Real, real-rows}
 use Rattle.hml.specs.Labels.{pairs}
-use Rattle.machines.specs.Tables.{statesOf, threes, tableOf}
+use Rattle.tables.specs.Tables.{statesOf, threes, tableOf}
 use Rattle.machines.specs.Runs.{written, stepOf, lengthened, goOn}
 use Rattle.machines.specs.Joints.{jointBytes, jointSteps, jointOf, JointRun, isLeftAlone, isRightAlone, shakesTo, isJointIdle, isHandshake, isReal, isRealStep, fitJoint, isJointRun}
-use Rattle.machines.proofs.Runs.{both-true, decided-by, decided-leb, decided-ltb, decided-true, NoIdleLabel, Fit, lengthened-more, first-lengthened, length-written, stop-start, stop-lengthened, goOn-take, run-keeps, run-goOn, Chunks, chunks-map, threes-chunks, chunks-take, chunks-read, chunks-append, stepBytes, dropped-at, read-accepted}
-use Rattle.machines.proofs.HalfRuns.{hasMove-decides}
+use Rattle.machines.proofs.Runs.{NoIdleLabel, Fit, lengthened-more, first-lengthened, length-written, stop-start, stop-lengthened, goOn-take, run-keeps, run-goOn, stepBytes, dropped-at, read-accepted}
+use Rattle.tables.proofs.Chunks.{Chunks, chunks-map, threes-chunks, chunks-take, chunks-read, chunks-append}
+use Rattle.tables.proofs.Rows.{hasMove-decides}
 
 module _ (P : Pairing) (L R : System ℕ) where
   -- two systems without the label 255 have none beside each other
@@ -108,8 +109,8 @@ unfolding fitJoint isJointRun
 joint-tested k l r p q bs = decided-iff
     (λ ((o, m), (b, (b′, g))). (omega (arith, o), omega (arith, m), b, b′, g))
     (λ (o, m, b, b′, g). ((omega (arith, o), omega (arith, m)), (b, (b′, g))))
-    (decided-and (decided-and (decided-same (suc (suc (length bs)) % 3) 2) (decided-leb (suc (suc (length bs))) 602))
-    (decided-and (decided-ltb p (statesOf l)) (decided-and (decided-ltb q (statesOf r)) (decided-true (goOn (realFits k l r) (p, q) (jointSteps bs))))))
+    (decided-and (decided-and (decided-same (suc (suc (length bs)) % 3) 2) (decided-le (suc (suc (length bs))) 602))
+    (decided-and (decided-lt p (statesOf l)) (decided-and (decided-lt q (statesOf r)) (decided-true (goOn (realFits k l r) (p, q) (jointSteps bs))))))
 
 -- stopping the reading is the reading of the shorter bytes
 pub joint-stop : (s : List ℕ) (n : ℕ) → jointOf (take (3 * n + 2) s) ≡ stop n (jointOf s)

@@ -13,21 +13,20 @@ use Rattle.hml.specs.Tests.{apart}
 use Rattle.hml.specs.Lists.{any, present}
 use Rattle.hml.specs.System.{System, Pairing}
 use Rattle.hml.specs.Labels.{pairs}
-use Rattle.machines.specs.Refusals.{firstOf, thenOf}
-use Rattle.machines.specs.Labels.{pairing, partnerFound}
-use Rattle.machines.specs.Tables.{statesOf, tableOf, threes, hasMove, checkTable}
+use Rattle.labels.specs.Refusals.{firstOf, thenOf}
+use Rattle.labels.specs.Labels.{pairing, partnerFound}
+use Rattle.tables.specs.Tables.{statesOf, tableOf, threes, hasMove, checkTable, Ready}
 use Rattle.machines.specs.Runs.{goOn}
 use Rattle.machines.specs.Joints.{jointSteps, shakesTo, isLeftAlone, isRightAlone, isHandshake, isJointIdle, isReal, isRealStep, fitJoint, isJointRun, checkJoint, checkTablesAndJoint}
-use Rattle.machines.specs.declared.label.Label.{Label}
-use Rattle.machines.specs.declared.label.Labels.{Labels}
-use Rattle.machines.specs.declared.label.Partner.the-variants as partner
-use Rattle.machines.specs.declared.refusal.Refusal.{Refusal}
-use Rattle.machines.specs.declared.refusal.Refusal.the-variants.{WrongLength, NotReal}
-use Rattle.machines.specs.declared.refusal.Check.{Check}
-use Rattle.machines.specs.declared.refusal.Check.the-variants.{Sound, Refused}
-use Rattle.machines.proofs.Refusals.{then-assoc, both-sound}
-use Rattle.machines.specs.Working.{Tables}
-use Rattle.machines.proofs.SoundTables.{ready}
+use Rattle.labels.specs.declared.label.Label.{Label}
+use Rattle.labels.specs.declared.label.Labels.{Labels}
+use Rattle.labels.specs.declared.label.Partner.the-variants as partner
+use Rattle.labels.specs.declared.refusal.Refusal.{Refusal}
+use Rattle.labels.specs.declared.refusal.Refusal.the-variants.{WrongLength, NotReal}
+use Rattle.labels.specs.declared.refusal.Check.{Check}
+use Rattle.labels.specs.declared.refusal.Check.the-variants.{Sound, Refused}
+use Rattle.labels.proofs.Refusals.{then-assoc, both-sound}
+use Rattle.tables.proofs.SoundTables.{ready}
 use Rattle.machines.proofs.Halves.{ended, stopped, passed}
 
 -- a joint idle
@@ -165,8 +164,8 @@ module _ (k : ℕ) (l r : List ℕ) where
   pub tables-judged : {x y a b : Check} → x ≡ thenOf a b → a ≡ checkTable k l → b ≡ checkTable k r → x ≡ y → thenOf (checkTable k l) (checkTable k r) ≡ y
   tables-judged e f g h = rw (← f, ← g, ← e) h
 
-  pub tables-ready : thenOf (checkTable k l) (checkTable k r) ≡ Sound → Tables l r
-  tables-ready e = let b = both-sound (checkTable k l) (checkTable k r) e in record { left = ready k l (b .0); right = ready k r (b .1) }
+  pub tables-ready : thenOf (checkTable k l) (checkTable k r) ≡ Sound → Ready l × Ready r
+  tables-ready e = let b = both-sound (checkTable k l) (checkTable k r) e in (ready k l (b .0), ready k r (b .1))
 
 -- two tables and a joint run of them
 module _ (k : ℕ) (l r s : List ℕ) where

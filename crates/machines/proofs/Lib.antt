@@ -1,10 +1,3 @@
-pub mod Refusals
-pub mod Labels
-pub mod Spans
-pub mod Halving
-pub mod Searching
-pub mod Tables
-pub mod SoundTables
 pub mod Runs
 pub mod Steps
 pub mod Halves

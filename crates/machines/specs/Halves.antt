@@ -8,11 +8,11 @@ use lib.Dec.{eqb, leb, ltb}
 use Rattle.hml.specs.Tests.{same}
 use Rattle.hml.specs.Lists.{each}
 use Rattle.hml.specs.System.{System, Run, start, steps, first, RunOf}
-use Rattle.machines.specs.Refusals.{refusedIf, firstOf}
-use Rattle.machines.specs.Tables.{statesOf, tableOf, hasMove, checkTable}
+use Rattle.labels.specs.Refusals.{refusedIf, firstOf}
+use Rattle.tables.specs.Tables.{statesOf, tableOf, hasMove, checkTable}
 use Rattle.machines.specs.Runs.{written, lengthened, goOn}
-use Rattle.machines.specs.declared.refusal.Check.{Check}
-use Rattle.machines.specs.declared.refusal.Refusal.the-variants.{NotARun}
+use Rattle.labels.specs.declared.refusal.Check.{Check}
+use Rattle.labels.specs.declared.refusal.Refusal.the-variants.{NotARun}
 
 -- a half run as bytes: "the state, then label and target for each step"
 unfoldable pub halfBytes : Run ℕ → List ℕ

@@ -11,11 +11,11 @@ use Rattle.hml.specs.Lists.{any, present, each}
 use Rattle.hml.specs.System.{System, Run, start, steps, first, RunOf, Pairing}
 use Rattle.hml.specs.Compose.{beside}
 use Rattle.hml.specs.Labels.{pairs}
-use Rattle.machines.specs.Refusals.{refusedIf, firstOf}
-use Rattle.machines.specs.Tables.{statesOf, threes, tableOf, hasMove, checkTable}
+use Rattle.labels.specs.Refusals.{refusedIf, firstOf}
+use Rattle.tables.specs.Tables.{statesOf, threes, tableOf, hasMove, checkTable}
 use Rattle.machines.specs.Runs.{written, lengthened, goOn}
-use Rattle.machines.specs.declared.refusal.Check.{Check}
-use Rattle.machines.specs.declared.refusal.Refusal.the-variants.{WrongLength, NotReal}
+use Rattle.labels.specs.declared.refusal.Check.{Check}
+use Rattle.labels.specs.declared.refusal.Refusal.the-variants.{WrongLength, NotReal}
 
 -- a joint run as bytes; a joint idle is 255 and both states kept
 unfoldable pub jointBytes : Run (ℕ × ℕ) → List ℕ

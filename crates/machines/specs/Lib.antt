@@ -1,9 +1,5 @@
-pub mod Refusals
-pub mod Labels
-pub mod Tables
 pub mod Runs
 pub mod Steps
 pub mod Halves
 pub mod Joints
 pub mod Cuts
-pub mod Working

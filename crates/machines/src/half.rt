@@ -1,15 +1,14 @@
 // Half runs: the check against a table.
-use crate::label::Label;
-use crate::label::Labels;
-use crate::refusal::Check;
-use crate::refusal::Refusal;
-use crate::table::check_table;
-use crate::table::has_row;
+use labels::label::Label;
+use labels::label::Labels;
+use labels::refusal::Check;
+use labels::refusal::Refusal;
+use tables::check::check_table;
+use tables::leaving::has_row;
 ghost use mathlib.Core.Path.{_≡_};
 ghost use Prim.Native.Nat.{_+_, _*_, _<_};
 ghost use lib.ListN.{length, getD};
-ghost use Rattle.machines.specs.Tables.{rowsOf, tableOf, Rising};
-ghost use Rattle.machines.specs.Working.{Ready};
+ghost use Rattle.tables.specs.Tables.{rowsOf, tableOf, Rising, Ready};
 ghost use Rattle.machines.specs.Halves.{stepFits, isHalfRun, checkTableAndHalf};
 
 // The check of a table and of a half run of it: the table's numbers, then 15.

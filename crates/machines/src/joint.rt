@@ -1,24 +1,21 @@
 // Joint runs: the check against two tables.
-use crate::label::Label;
-use crate::label::Labels;
-use crate::label::Partner;
-use crate::refusal::Check;
-use crate::refusal::Refusal;
-use crate::table::Row;
-use crate::table::check_table;
-use crate::table::has_row;
-use crate::table::row_of;
-use crate::table::rows_leaving;
+use labels::label::Label;
+use labels::label::Labels;
+use labels::label::Partner;
+use labels::refusal::Check;
+use labels::refusal::Refusal;
+use tables::check::check_table;
+use tables::leaving::has_row;
+use tables::leaving::rows_leaving;
 ghost use mathlib.Core.Path.{_≡_};
-ghost use Prim.Native.Nat.{_+_, _*_, _%_, _<_};
+ghost use Prim.Native.Nat.{_+_, _*_, _%_, _≤_, _<_};
 ghost use mathlib.Core.Bool.{_&&_};
 ghost use lib.Dec.{eqb};
 ghost use lib.ListN.{length, getD};
 ghost use Rattle.hml.specs.Labels.{pairs};
-ghost use Rattle.machines.specs.Labels.{pairing};
-ghost use Rattle.machines.specs.Tables.{rowsOf, tableOf, hasMove, Rising};
+ghost use Rattle.labels.specs.Labels.{pairing};
+ghost use Rattle.tables.specs.Tables.{rowsOf, tableOf, hasMove, Rising, Ready};
 ghost use Rattle.machines.specs.Joints.{shakesTo, isHandshake, isJointIdle, isReal, isJointRun, checkTablesAndJoint};
-ghost use Rattle.machines.specs.Working.{Tables};
 
 // The check of two tables and of a joint run of them: the tables' numbers, then 3 and 8.
 pub fn check_joint(labels: Labels, left: &[u8], right: &[u8], run: &[u8]) -> Check
@@ -49,7 +46,7 @@ pub struct States {
 
 // 8, for tables that no check refuses and a run of fit length.
 fn is_joint_run(labels: Labels, left: &[u8], right: &[u8], run: &[u8]) -> bool
-    requires { ⌜ Tables (now left) (now right) ⌝ }
+    requires { ⌜ Ready (now left) × Ready (now right) ⌝ }
     requires { ⌜ length (now run) % 3 ≡ 2 ⌝ }
     ensures { λ r. ⌜ r ≡ isJointRun (labels .pairs) (now (left .entry)) (now (right .entry)) (now (run .entry)) ⌝ }
 {
@@ -72,7 +69,7 @@ fn is_joint_run(labels: Labels, left: &[u8], right: &[u8], run: &[u8]) -> bool
 
 // Is step i real? The states before it stand in the three bytes before its own.
 fn step_is_real(labels: Labels, left: &[u8], right: &[u8], run: &[u8], i: usize) -> bool
-    requires { ⌜ Tables (now left) (now right) ⌝ }
+    requires { ⌜ Ready (now left) × Ready (now right) ⌝ }
     requires { ⌜ 3 * i + 4 < length (now run) ⌝ }
     ensures { λ r. ⌜ r ≡ isReal (pairing labels) (tableOf (now (left .entry))) (tableOf (now (right .entry)))
         (getD (now (run .entry)) (3 * i) 0) (getD (now (run .entry)) (3 * i + 1) 0) (getD (now (run .entry)) (3 * i + 2) 0)
@@ -100,7 +97,7 @@ fn is_real(
     label: Label,
     to: States,
 ) -> bool
-    requires { ⌜ Tables (now left) (now right) ⌝ }
+    requires { ⌜ Ready (now left) × Ready (now right) ⌝ }
     ensures { λ r. ⌜ r ≡ isReal (pairing labels) (tableOf (now (left .entry))) (tableOf (now (right .entry)))
         (from .left) (from .right) (label .0) (to .left) (to .right) ⌝ }
 {
@@ -136,34 +133,33 @@ fn is_handshake(
     label: Label,
     to: States,
 ) -> bool
-    requires { ⌜ Tables (now left) (now right) ⌝ }
+    requires { ⌜ Ready (now left) × Ready (now right) ⌝ }
     ensures { λ r. ⌜ r ≡ isHandshake (pairing labels) (tableOf (now (left .entry))) (tableOf (now (right .entry)))
         (from .left) (from .right) (label .0) (to .left) (to .right) ⌝ }
 {
     if !label.is_silent() {
         return false;
     }
-    let rows = rows_leaving(left, from.left);
-    let end = rows.end;
-    let mut i = rows.start;
-    while i < end {
-        if shakes_hands(labels, row_of(left, i), right, from.right, to) {
+    let mut rows = rows_leaving(left, from.left);
+    while 3 <= rows.len() {
+        if shakes_hands(labels, rows, right, from.right, to) {
             return true;
         }
-        i += 1;
+        rows = &rows[3..];
     }
     false
 }
 
-// Does this row of the left lead to its target, and a row of the right, by the partner of its label, to the other?
-fn shakes_hands(labels: Labels, row: Row, right: &[u8], from: u8, to: States) -> bool
-    requires { ⌜ Rising (rowsOf (now right)) ⌝ }
-    ensures { λ r. ⌜ r ≡ shakesTo (pairing labels) (tableOf (now (right .entry))) from (to .left) (to .right) (row .label .0, row .to) ⌝ }
+// Does the first of these rows of the left lead to its target, and a row of the right, by the partner of its label, to the other?
+fn shakes_hands(labels: Labels, rows: &[u8], right: &[u8], from: u8, to: States) -> bool
+    requires { ⌜ (3 ≤ length (now rows)) × Rising (rowsOf (now right)) ⌝ }
+    ensures { λ r. ⌜ r ≡ shakesTo (pairing labels) (tableOf (now (right .entry))) from (to .left) (to .right)
+        (getD (now (rows .entry)) 1 0, getD (now (rows .entry)) 2 0) ⌝ }
 {
-    if row.to != to.left {
+    if rows[2] != to.left {
         return false;
     }
-    match labels.partner(row.label) {
+    match labels.partner(Label(rows[1])) {
         Partner::Label(partner) => has_row(right, from, partner, to.right),
         Partner::Nobody => false,
     }

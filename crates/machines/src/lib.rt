@@ -1,9 +1,5 @@
-// Machines, their labels and their runs, as bytes: what document 01 says under "Machines and labels".
-// Each file is one term of the document; what it means stands in specs/ under that name.
+// Runs of machines: steps, half runs, joint runs, and the cut. Document 01, "Machines and labels".
 pub mod half;
 pub mod joint;
-pub mod label;
-pub mod refusal;
 pub mod side;
 pub mod step;
-pub mod table;

@@ -1,5 +1,5 @@
 // Steps of a half run, read from its bytes.
-use crate::label::Label;
+use labels::label::Label;
 ghost use mathlib.Core.Path.{_≡_};
 ghost use Rattle.machines.specs.Steps.{stepRead};
 

@@ -1,6 +1,6 @@
 -- The table's refusal comes first; in a sound table the steps decide.
 use mathlib.Core.Path.{sym, _∙_}
-use Rattle.machines.proofs.SoundTables.{ready}
+use Rattle.tables.proofs.SoundTables.{ready}
 use Rattle.machines.proofs.Halves.{table-refused, half-sound, half-refused}
 use borrow.Author.Needs.{needs}
 use Rattle.machines.proofs.half.check_half.Statement.{statement}

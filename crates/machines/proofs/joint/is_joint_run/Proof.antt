@@ -4,7 +4,7 @@ use native.Mathlib.Omega.{arith}
 use mathlib.Core.Path.{sym, _∙_}
 use Prim.Native.Nat.{_-_}
 use borrow.Author.Tests.{not-true, not-false}
-use Rattle.machines.specs.Labels.{pairing}
+use Rattle.labels.specs.Labels.{pairing}
 use Rattle.machines.proofs.Joints.{Walked, walked-start, left-out, right-out, walked-end, walked-stop, walked-on}
 use Rattle.machines.proofs.joint.is_joint_run.Statement.{statement}
 use Rattle.machines.proofs.joint.is_joint_run.Tie as tie
@@ -16,7 +16,7 @@ abbrev μ-loop : tie.MeasureT-loop
 μ-loop labels left right run steps i₀ i = steps - i
 
 shared-slice-read-if1 : tie.Need-shared-slice-read-if1 Inv-loop μ-loop
-shared-slice-read-if1 c = omega (arith, c .before .before .before .before .pre .0 .left .some)
+shared-slice-read-if1 c = omega (arith, c .before .before .before .before .pre .0 .0 .some)
 
 shared-slice-read-if1-2 : tie.Need-shared-slice-read-if1-2 Inv-loop μ-loop
 shared-slice-read-if1-2 c = omega (arith, c .before .before .before .before .before .pre .1)
@@ -25,7 +25,7 @@ returns : tie.Need-returns Inv-loop μ-loop
 returns c = left-out _ _ _ _ (c .if1 .taken)
 
 shared-slice-read-if2 : tie.Need-shared-slice-read-if2 Inv-loop μ-loop
-shared-slice-read-if2 c = omega (arith, c .before .before .before .before .before .before .before .pre .0 .right .some)
+shared-slice-read-if2 c = omega (arith, c .before .before .before .before .before .before .before .pre .0 .1 .some)
 
 shared-slice-read-if2-2 : tie.Need-shared-slice-read-if2-2 Inv-loop μ-loop
 shared-slice-read-if2-2 c = omega (arith, c .before .before .before .before .before .before .before .before .pre .1)

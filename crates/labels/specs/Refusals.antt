@@ -1,0 +1,44 @@
+-- The numbers of document 01, "Who can cause a refusal", and how checks follow one another.
+use Prim.Native.Nat.{ℕ}
+use mathlib.Core.Bool.{Bool, true, false}
+use mathlib.Core.List.{List, [], _∷_}
+use Rattle.labels.specs.declared.refusal.Refusal.{Refusal}
+use Rattle.labels.specs.declared.refusal.Refusal.the-variants as refusal
+use Rattle.labels.specs.declared.refusal.Check.{Check}
+use Rattle.labels.specs.declared.refusal.Check.the-variants.{Sound, Refused}
+
+-- the number of each refusal
+abbrev pub numberOf : Refusal → ℕ
+numberOf refusal.Truncated = 1
+numberOf refusal.WrongKind = 2
+numberOf refusal.WrongLength = 3
+numberOf refusal.TooManyPairs = 4
+numberOf refusal.OutOfRange = 5
+numberOf refusal.RowNotAbove = 6
+numberOf refusal.NinthRow = 7
+numberOf refusal.NotReal = 8
+numberOf refusal.NotATree = 9
+numberOf refusal.NestedTooDeep = 10
+numberOf refusal.BytesAfter = 11
+numberOf refusal.PointBeyond = 12
+numberOf refusal.TooManySplittings = 13
+numberOf refusal.NoSuchSplitting = 14
+numberOf refusal.NotARun = 15
+numberOf refusal.HalvesDoNotMatch = 16
+numberOf refusal.QuotientTooLarge = 17
+numberOf refusal.OutputTooShort = 18
+
+-- a check that refuses decides; a sound one leaves it to the next
+abbrev pub thenOf : Check → Check → Check
+thenOf Sound next = next
+thenOf (Refused r) next = Refused r
+
+-- refused for this reason if the fault is there
+abbrev pub refusedIf : Bool → Refusal → Check
+refusedIf true r = Refused r
+refusedIf false r = Sound
+
+-- the checks of a call, in the order in which they are judged: the first that refuses decides
+unfoldable pub firstOf : List Check → Check
+firstOf [] = Sound
+firstOf (c ∷ cs) = thenOf c (firstOf cs)

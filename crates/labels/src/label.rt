@@ -1,0 +1,95 @@
+// Labels: the silent step, the mark of an idle, and which labels shake hands.
+use crate::refusal::Check;
+use crate::refusal::Refusal;
+ghost use mathlib.Core.Path.{_≡_};
+ghost use lib.Dec.{eqb, leb};
+ghost use Rattle.hml.specs.Labels.{count};
+ghost use Rattle.labels.specs.Labels.{checkPairs, anyPartner, partnerFound, pairing};
+
+// A label's number: 0 is the silent step, 255 marks an idle.
+pub struct Label(pub u8);
+
+// The label that a label shakes hands with, if there is one.
+pub enum Partner {
+    Label(Label),
+    Nobody,
+}
+
+impl Label {
+    pub const SILENT: Label = Label(0);
+
+    pub const IDLE: Label = Label(255);
+
+    pub fn is_silent(self) -> bool
+        ensures { λ r. ⌜ r ≡ eqb (self .0) 0 ⌝ }
+    {
+        self.0 == Label::SILENT.0
+    }
+
+    pub fn is_idle(self) -> bool
+        ensures { λ r. ⌜ r ≡ eqb (self .0) 255 ⌝ }
+    {
+        self.0 == Label::IDLE.0
+    }
+
+    // Of an odd label the next number, of an even one the number before. The silent step and the mark of an idle have none.
+    pub fn partner(self) -> Partner
+        ensures { λ r. ⌜ r ≡ partnerFound (anyPartner (self .0)) ⌝ }
+    {
+        let code = self.0;
+        if code == Label::SILENT.0 {
+            return Partner::Nobody;
+        }
+        if code == Label::IDLE.0 {
+            return Partner::Nobody;
+        }
+        if code % 2 == 1 {
+            return Partner::Label(Label(code + 1));
+        }
+        Partner::Label(Label(code - 1))
+    }
+}
+
+// The labels of one call: those of its handshake pairs, and 0.
+pub struct Labels {
+    pub pairs: u8,
+}
+
+impl Labels {
+    // The highest label.
+    pub fn count(self) -> u8
+        ensures { λ r. ⌜ r ≡ count (self .pairs) ⌝ }
+    {
+        let pairs = self.pairs;
+        if 127 < pairs {
+            return 254;
+        }
+        2 * pairs
+    }
+
+    // Is this one of the labels?
+    pub fn has(self, label: Label) -> bool
+        ensures { λ r. ⌜ r ≡ leb (label .0) (count (self .pairs)) ⌝ }
+    {
+        label.0 <= self.count()
+    }
+
+    pub fn partner(self, label: Label) -> Partner
+        ensures { λ r. ⌜ r ≡ partnerFound (pairing self .partner (label .0)) ⌝ }
+    {
+        if self.has(label) {
+            return label.partner();
+        }
+        Partner::Nobody
+    }
+}
+
+// k over 15 is 4.
+pub fn check_pairs(k: u8) -> Check
+    ensures { λ r. ⌜ r ≡ checkPairs k ⌝ }
+{
+    if 15 < k {
+        return Check::Refused(Refusal::TooManyPairs);
+    }
+    Check::Sound
+}

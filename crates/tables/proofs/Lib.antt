@@ -1,0 +1,6 @@
+pub mod Chunks
+pub mod Rows
+pub mod Halving
+pub mod Searching
+pub mod Judging
+pub mod SoundTables

@@ -1,0 +1,249 @@
+-- Laws of sound tables: a table is accepted exactly if it is as document 01 says; its moves are in range, without repetition, at most 8 a state.
+use Prim.Native.Nat.{ℕ, _+_, _-_, _%_, _≤_, _<_}
+use native.Mathlib.Omega.{arith}
+use mathlib.Core.Path.{_≡_, refl, sym, _∙_, ap}
+use mathlib.Core.Logic.{_↔_, _⊎_, inl, inr}
+use mathlib.Core.Bool.{Bool, true, false, cond, not, _||_, _&&_, false≢true}
+use mathlib.Core.List.{List, [], _∷_, _++_}
+use mathlib.Core.List.{List·Memᴰ·head as here, List·Memᴰ·tail as there, List·Memᴰ·not-nil as nowhere, List·Memᴰ·cases-cons as ∈-cons, Memᴰ·cast as ∈-cast}
+use lib.ListN.{length}
+use lib.Dec.{eqb, leb, ltb}
+use borrow.Author.Tests.{ltb-true, ltb-false, eqb-true, leb-true, leb-false}
+use Rattle.labels.proofs.Refusals.{Judges, accepts, rejects, judges, judged-unless, judged-fault, judged-iff, judged-then}
+use Rattle.hml.specs.Tests.{apart, same, Decides, proves, refutes, decides, decided-lt, decided-le, decided-true, decided-iff, decided-and, decided-or, decided-same, same-refl}
+use Rattle.hml.specs.Lists.{_∈_, only, ∈-only, ∈-each, each-∈}
+use Rattle.hml.specs.Machine.{Row, machine}
+use Rattle.hml.specs.Labels.{count}
+use Rattle.hml.specs.Distinct.{Distinct, distinct-only, distinct-each}
+use Rattle.labels.specs.Refusals.{refusedIf, thenOf, firstOf}
+use Rattle.labels.specs.declared.refusal.Refusal.{Refusal}
+use Rattle.labels.specs.declared.refusal.Refusal.the-variants.{WrongLength, OutOfRange, RowNotAbove, NinthRow}
+use Rattle.labels.specs.declared.refusal.Check.{Check}
+use Rattle.labels.specs.declared.refusal.Check.the-variants.{Sound, Refused}
+use Rattle.tables.specs.Tables.{statesOf, rowsOf, tableOf, fitTable, fitStates, inRange, rowBelow, aboveLast, leaving, checkRow, checkRows, checkTable, Rising, none, one, more, Ready}
+
+-- a row in range
+abbrev pub Ranged : ℕ → ℕ → Row → Type 0
+Ranged k n r = (r .0 < n) × (r .1 ≤ count k) × (r .2 < n)
+
+decided-ranged : (k n : ℕ) (r : Row) → Decides (Ranged k n r) (inRange k n r)
+unfolding inRange
+decided-ranged k n r = decided-iff (λ t. (t .0, t .1 .0, t .1 .1)) (λ t. (t .0, (t .1, t .2)))
+    (decided-and (decided-lt (r .0) n) (decided-and (decided-le (r .1) (count k)) (decided-lt (r .2) n)))
+
+-- rows that rise, also above the newest of those before
+abbrev Follows : List Row → List Row → Type 0
+Follows [] rows = Rising rows
+Follows (b ∷ before) rows = Rising (b ∷ rows)
+
+follows-none : (before : List Row) → Follows before []
+follows-none [] = none
+follows-none (b ∷ before) = one
+
+row-path : {r s : Row} → r .0 ≡ s .0 → r .1 ≡ s .1 → r .2 ≡ s .2 → r ≡ s
+row-path e f g i = (e i, f i, g i)
+
+-- compared by a number first, then by P
+data Lex (a b : ℕ) (P : Type 0) : Type 0 where
+  early : a < b → Lex a b P
+  late : a ≡ b → P → Lex a b P
+
+decided-lex : (a b : ℕ) {P : Type 0} {x : Bool} → Decides P x → Decides (Lex a b P) (ltb a b || (eqb a b && x))
+decided-lex a b {P} d = decided-iff to from (decided-or (decided-lt a b) (decided-and (decided-same a b) d))
+  where
+    to : (a < b) ⊎ ((a ≡ b) × P) → Lex a b P
+    to (inl h) = early h
+    to (inr t) = late (t .0) (t .1)
+
+    from : Lex a b P → (a < b) ⊎ ((a ≡ b) × P)
+    from (early h) = inl h
+    from (late e x) = inr (e, x)
+
+lex-trans : {a b c : ℕ} {P Q R : Type 0} → (P → Q → R) → Lex a b P → Lex b c Q → Lex a c R
+lex-trans f (early h) (early k) = early (omega arith)
+lex-trans f (early h) (late e y) = early (omega arith)
+lex-trans f (late e x) (early k) = early (omega arith)
+lex-trans f (late e x) (late e′ y) = late (e ∙ e′) (f x y)
+
+lex-same : {a : ℕ} {P : Type 0} → Lex a a P → P
+lex-same (early h) = absurd (omega arith)
+lex-same (late e x) = x
+
+-- a row below another: by from, then label, then to
+Under : Row → Row → Type 0
+Under r s = Lex (r .0) (s .0) (Lex (r .1) (s .1) (r .2 < s .2))
+
+decided-under : (r s : Row) → Decides (Under r s) (rowBelow r s)
+unfolding rowBelow Under
+decided-under r s = decided-lex (r .0) (s .0) (decided-lex (r .1) (s .1) (decided-lt (r .2) (s .2)))
+
+under-trans : (r s u : Row) → Under r s → Under s u → Under r u
+unfolding Under
+under-trans r s u x y = lex-trans (λ x y. lex-trans (λ h k. omega (arith, h, k)) x y) x y
+
+never-under : (r : Row) → Under r r → ⊥
+unfolding Under
+never-under r x = let h = lex-same (lex-same x) in omega arith
+
+-- the first of rows that rise is below each other
+head-under : {r s : Row} {rows : List Row} → Rising (r ∷ rows) → s ∈ rows → Under r s
+head-under one i = absurd (nowhere i)
+head-under {s} (more {r = r} {s = u} {rows = rows} e t) i = go (∈-cons i) (λ k. head-under t k)
+  where
+    h : Under r u
+    h = decides (decided-under r u) .0 e
+
+    go : (s ≡ u) ⊎ (s ∈ rows) → (s ∈ rows → Under u s) → Under r s
+    go (inl q) later = rw q h
+    go (inr k) later = under-trans r u s h (later k)
+
+-- rows that rise are without repetition
+pub rows-distinct : {rows : List Row} → Rising rows → Distinct rows
+rows-distinct none = Distinct.none
+rows-distinct one = Distinct.some nowhere Distinct.none
+rows-distinct (more {r = r} e t) = Distinct.some (λ i. never-under r (head-under (more e t) i)) (rows-distinct t)
+
+-- rows that fit after those before them, the newest first: in range, each above the one before, at most 8 from a state with those before
+record Fit (k n : ℕ) (before rows : List Row) : Type 0 where
+  ranged : (r : Row) → r ∈ rows → Ranged k n r
+  rising : Follows before rows
+  eight : (p : ℕ) → leaving p rows ≤ 8 - leaving p before
+
+-- what the check of a row says
+RowFit : ℕ → ℕ → List Row → Row → Type 0
+RowFit k n before r = Ranged k n r × (aboveLast before r ≡ true) × ¬ (8 ≤ leaving (r .0) before)
+
+judged-row : (k n : ℕ) (before : List Row) (r : Row) → Judges (RowFit k n before r) (checkRow k n before r)
+unfolding checkRow firstOf inRange RowFit
+judged-row k n before r = judged-iff (λ t. (t .0, t .1 .0, t .1 .1 .0)) (λ t. (t .0, (t .1, (t .2, tt))))
+    (judged-then (judged-unless OutOfRange (decided-ranged k n r))
+    (judged-then (judged-unless RowNotAbove (decided-true (aboveLast before r)))
+    (judged-then (judged-fault NinthRow (decided-le 8 (leaving (r .0) before))) (accepts (tt {0})))))
+
+-- a row more: it rises above those before, and the later ones above it
+follows-more : (before : List Row) (r : Row) (rows : List Row) → Follows before (r ∷ rows) ↔ ((aboveLast before r ≡ true) × Rising (r ∷ rows))
+unfolding aboveLast
+follows-more [] r rows = (λ s. (refl, s), λ t. t .1)
+follows-more (b ∷ before) r rows = (split, λ t. more (t .0) (t .1))
+  where
+    split : Rising (b ∷ r ∷ rows) → (rowBelow b r ≡ true) × Rising (r ∷ rows)
+    split (more e s) = (e, s)
+
+-- a row more: at most 8 leave each state exactly if fewer than 8 left its state before, and so for the later ones
+eight-more : (before : List Row) (r : Row) (rows : List Row) → ((p : ℕ) → leaving p (r ∷ rows) ≤ 8 - leaving p before)
+    ↔ ((¬ (8 ≤ leaving (r .0) before)) × ((p : ℕ) → leaving p rows ≤ 8 - leaving p (r ∷ before)))
+unfolding leaving
+eight-more before r rows = (λ h. (first h, λ p. rest (eqb (r .0) p) p (h p)), λ t p. both (eqb (r .0) p) p refl (t .0) (t .1 p))
+  where
+    first : ((p : ℕ) → leaving p (r ∷ rows) ≤ 8 - leaving p before) → ¬ (8 ≤ leaving (r .0) before)
+    first h k = omega (arith, rw (same-refl (r .0)) at (h (r .0)))
+
+    rest : (b : Bool) (p : ℕ) → cond b 1 0 + leaving p rows ≤ 8 - leaving p before → leaving p rows ≤ 8 - (cond b 1 0 + leaving p before)
+    rest true p h = omega arith
+    rest false p h = omega arith
+
+    both : (b : Bool) (p : ℕ) → eqb (r .0) p ≡ b → ¬ (8 ≤ leaving (r .0) before) → leaving p rows ≤ 8 - (cond b 1 0 + leaving p before) → cond b 1 0 + leaving p rows ≤ 8 - leaving p before
+    both true p e n h = omega (arith, rw (eqb-true (r .0) p e) at n)
+    both false p e n h = omega arith
+
+-- row by row, the check judges whether the rows fit those before
+judged-rows : (k n : ℕ) (before rows : List Row) → Judges (Fit k n before rows) (checkRows k n before rows)
+unfolding checkRows leaving RowFit
+judged-rows k n before [] = accepts (record { ranged = λ r i. absurd (nowhere i); rising = follows-none before; eight = λ p. omega arith })
+judged-rows k n before (r ∷ rows) = judged-iff join part (judged-then (judged-row k n before r) (judged-rows k n (r ∷ before) rows))
+  where
+    join : RowFit k n before r × Fit k n (r ∷ before) rows → Fit k n before (r ∷ rows)
+    join (h, f) = record {
+      ranged = λ s i. elim (∈-cons i) [ inl e ↦ rw e (h .0) | inr m ↦ f .ranged s m ];
+      rising = follows-more before r rows .1 (h .1, f .rising);
+      eight = eight-more before r rows .1 (h .2, f .eight);
+    }
+
+    part : Fit k n before (r ∷ rows) → RowFit k n before r × Fit k n (r ∷ before) rows
+    part f =
+        let (above, rest) = follows-more before r rows .0 (f .rising) in
+        let (fewer, few) = eight-more before r rows .0 (f .eight) in
+        ((f .ranged r (here refl), above, fewer), record { ranged = λ s i. f .ranged s (there i); rising = rest; eight = few })
+
+-- a table as document 01 says: n, then rows of three bytes; 1 to 64 states; rows in range, each above the one before, at most 8 from a state
+pub record SoundTable (k : ℕ) (t : List ℕ) : Type 0 where
+  pub fits : (length t % 3 ≡ 1) × (length t ≤ 1537)
+  pub some : 1 ≤ statesOf t
+  pub few-states : statesOf t ≤ 64
+  pub ranged : (r : Row) → r ∈ rowsOf t → (r .0 < statesOf t) × (r .1 ≤ count k) × (r .2 < statesOf t)
+  pub rising : Rising (rowsOf t)
+  pub eight : (p : ℕ) → leaving p (rowsOf t) ≤ 8
+
+-- the check of a table judges whether it is sound
+pub judged-table : (k : ℕ) (t : List ℕ) → Judges (SoundTable k t) (checkTable k t)
+unfolding checkTable firstOf fitTable fitStates leaving
+judged-table k t = judged-iff
+    (λ (a, b). let c = b .1 .0 in record { fits = a; some = b .0 .0; few-states = b .0 .1; ranged = c .ranged; rising = c .rising; eight = λ p. omega (arith, c .eight p) })
+    (λ s. (s .fits, ((s .some, s .few-states), (record { ranged = s .ranged; rising = s .rising; eight = λ p. omega (arith, s .eight p) }, tt))))
+    (judged-then (judged-unless WrongLength (decided-and (decided-same (length t % 3) 1) (decided-le (length t) 1537)))
+    (judged-then (judged-unless OutOfRange (decided-and (decided-le 1 (statesOf t)) (decided-le (statesOf t) 64)))
+    (judged-then (judged-rows k (statesOf t) [] (rowsOf t)) (accepts (tt {0})))))
+
+-- an accepted table is as document 01 says
+pub sound-table : (k : ℕ) (t : List ℕ) → checkTable k t ≡ Sound → SoundTable k t
+sound-table k t = judges (judged-table k t) .0
+
+-- a table as document 01 says is accepted
+pub table-sound : (k : ℕ) (t : List ℕ) → SoundTable k t → checkTable k t ≡ Sound
+table-sound k t = judges (judged-table k t) .1
+
+-- what a row must be for a move from p to come from it
+only-row : (r : Row) (p : ℕ) {z : ℕ × ℕ} → z ∈ only (same (r .0) p) (r .1, r .2) → (p, z .0, z .1) ≡ r
+only-row r p i =
+    let (h, e) = ∈-only (same (r .0) p) .0 i in
+    row-path (sym (decides (decided-same (r .0) p) .0 h)) (ap (λ z. z .0) e) (ap (λ z. z .1) e)
+
+-- a move is a row
+pub move-row : (rows : List Row) (p a q : ℕ) → (a, q) ∈ machine rows p → (p, a, q) ∈ rows
+unfolding machine
+move-row rows p a q i = let (r, m, o) = each-∈ _ rows i in ∈-cast (only-row r p o) m
+
+-- a row is a move
+pub row-move : (rows : List Row) (p a q : ℕ) → (p, a, q) ∈ rows → (a, q) ∈ machine rows p
+unfolding machine
+row-move rows p a q i = ∈-each _ i (∈-only (same p p) .1 (same-refl p, refl))
+
+-- as many moves leave a state as rows
+pub moves-length : (p : ℕ) (rows : List Row) → length (machine rows p) ≡ leaving p rows
+unfolding machine leaving only
+moves-length p [] = refl
+moves-length p (r ∷ rows) = go (eqb (r .0) p) (moves-length p rows)
+  where
+    go : (b : Bool) → length (machine rows p) ≡ leaving p rows → length (only b (r .1, r .2) ++ machine rows p) ≡ cond b 1 0 + leaving p rows
+    go true e = omega arith
+    go false e = omega arith
+
+-- rows without repetition make moves without repetition
+pub machine-distinct : {rows : List Row} → Distinct rows → (p : ℕ) → Distinct (machine rows p)
+unfolding machine
+machine-distinct d p = distinct-each _ (λ r. distinct-only (same (r .0) p) (r .1, r .2)) (λ r s z i k. sym (only-row r p i) ∙ only-row s p k) d
+
+module _ {k : ℕ} {t : List ℕ} (s : SoundTable k t) where
+  -- a move's states and label are in range
+  pub move-ranged : (p a q : ℕ) → (a, q) ∈ tableOf t p → (p < statesOf t) × (a ≤ count k) × (q < statesOf t)
+  unfolding tableOf
+  move-ranged p a q i = s .ranged (p, a, q) (move-row (rowsOf t) p a q i)
+
+  -- no move has the label that marks an idle
+  pub no-idle-label : (p a q : ℕ) → (a, q) ∈ tableOf t p → a ≡ 255 → ⊥
+  unfolding count
+  no-idle-label p a q i e = omega (arith, move-ranged p a q i)
+
+  -- no move is listed twice
+  pub moves-distinct : (p : ℕ) → Distinct (tableOf t p)
+  unfolding tableOf
+  moves-distinct p = machine-distinct (rows-distinct (s .rising)) p
+
+  -- at most 8 moves leave a state
+  pub moves-few : (p : ℕ) → length (tableOf t p) ≤ 8
+  unfolding tableOf
+  moves-few p = omega (arith, moves-length p (rowsOf t), s .eight p)
+
+-- a sound table is all that the functions inside the crate ask for
+pub ready : (k : ℕ) (t : List ℕ) → checkTable k t ≡ Sound → Ready t
+ready k t e = let s = sound-table k t e in record { some = omega (arith, s .fits .0); rising = s .rising }

@@ -1,0 +1,71 @@
+// The rows that leave a state: one span of the table, found by halving.
+use crate::row::from_at;
+use crate::row::row_count;
+use labels::label::Label;
+ghost use mathlib.Core.Path.{_≡_};
+ghost use mathlib.Core.Bool.{_&&_};
+ghost use Prim.Native.Nat.{_≤_, _%_};
+ghost use lib.ListN.{length, getD};
+ghost use lib.Dec.{eqb};
+ghost use Rattle.tables.specs.Tables.{rowsOf, rowsFrom, bytesOf, tableOf, hasMove, Rising};
+ghost use Rattle.tables.specs.Working.{below};
+
+// The rows that leave a state, as the part of the table that they are. In rows that do not rise the answer is left open:
+// it is some whole number of rows.
+pub fn rows_leaving<'a>(table: &'a [u8], state: u8) -> &'a [u8]
+    ensures whole { λ r. ⌜ length (now r) % 3 ≡ 0 ⌝ }
+    ensures exact { λ r. ⌜ (Rising (rowsOf (now (table .entry))) → now r ≡ bytesOf (rowsFrom state (rowsOf (now (table .entry))))) ⌝ }
+{
+    let state = state as usize;
+    let start = rows_below(table, state);
+    let end = rows_below(table, state + 1);
+    if end <= start {
+        return &table[..0];
+    }
+    let from = 3 * start + 1;
+    let to = 3 * end + 1;
+    &table[from..to]
+}
+
+// How many rows leave a state below this one, by halving. In rows that do not rise the answer is left open: some number of rows.
+fn rows_below(table: &[u8], state: usize) -> usize
+    ensures within { λ r. ⌜ r ≤ length (rowsOf (now (table .entry))) ⌝ }
+    ensures exact { λ r. ⌜ (Rising (rowsOf (now (table .entry))) → r ≡ below state (rowsOf (now (table .entry)))) ⌝ }
+{
+    let mut low: usize = 0;
+    let mut high = row_count(table);
+    while low < high {
+        let middle = low + (high - low) / 2;
+        if from_at(table, middle) < state {
+            low = middle + 1;
+        } else {
+            high = middle;
+        }
+    }
+    low
+}
+
+// Is there a row from this state with this label and target? In rows that do not rise the answer is left open.
+pub fn has_row(table: &[u8], from: u8, label: Label, to: u8) -> bool
+    ensures exact { λ r. ⌜ (Rising (rowsOf (now (table .entry))) → r ≡ hasMove (tableOf (now (table .entry))) from (label .0) to) ⌝ }
+{
+    let mut rows = rows_leaving(table, from);
+    while 3 <= rows.len() {
+        if leads(rows, label, to) {
+            return true;
+        }
+        rows = &rows[3..];
+    }
+    false
+}
+
+// Has the first of these rows this label and target?
+fn leads(rows: &[u8], label: Label, to: u8) -> bool
+    requires { ⌜ 3 ≤ length (now rows) ⌝ }
+    ensures { λ r. ⌜ r ≡ (eqb (getD (now (rows .entry)) 1 0) (label .0) && eqb (getD (now (rows .entry)) 2 0) to) ⌝ }
+{
+    if rows[1] != label.0 {
+        return false;
+    }
+    rows[2] == to
+}
