@@ -15,9 +15,9 @@ use Rattle.hml.specs.Compose.{beside, left, right, both, joint}
 use Rattle.hml.specs.Real.{Real, real-rows}
 use Rattle.hml.specs.Labels.{pairs}
 use Rattle.tables.specs.Tables.{statesOf, threes, tableOf}
-use Rattle.machines.specs.Runs.{written, stepOf, lengthened, goOn}
+use Rattle.halves.specs.Runs.{written, stepOf, lengthened, goOn}
 use Rattle.machines.specs.Joints.{jointBytes, jointSteps, jointOf, JointRun, isLeftAlone, isRightAlone, shakesTo, isJointIdle, isHandshake, isReal, isRealStep, fitJoint, isJointRun}
-use Rattle.machines.proofs.Runs.{NoIdleLabel, Fit, lengthened-more, first-lengthened, length-written, stop-start, stop-lengthened, goOn-take, run-keeps, run-goOn, stepBytes, dropped-at, read-accepted}
+use Rattle.halves.proofs.Runs.{NoIdleLabel, Fit, lengthened-more, first-lengthened, length-written, stop-start, stop-lengthened, goOn-take, run-keeps, run-goOn, stepBytes, dropped-at, read-accepted}
 use Rattle.tables.proofs.Chunks.{Chunks, chunks-map, threes-chunks, chunks-take, chunks-read, chunks-append}
 use Rattle.tables.proofs.Rows.{hasMove-decides}
 

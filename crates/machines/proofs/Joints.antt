@@ -16,7 +16,7 @@ use Rattle.hml.specs.Labels.{pairs}
 use Rattle.labels.specs.Refusals.{firstOf, thenOf}
 use Rattle.labels.specs.Labels.{pairing, partnerFound}
 use Rattle.tables.specs.Tables.{statesOf, tableOf, threes, hasMove, checkTable, Ready}
-use Rattle.machines.specs.Runs.{goOn}
+use Rattle.halves.specs.Runs.{goOn}
 use Rattle.machines.specs.Joints.{jointSteps, shakesTo, isLeftAlone, isRightAlone, isHandshake, isJointIdle, isReal, isRealStep, fitJoint, isJointRun, checkJoint, checkTablesAndJoint}
 use Rattle.labels.specs.declared.label.Label.{Label}
 use Rattle.labels.specs.declared.label.Labels.{Labels}
@@ -27,7 +27,7 @@ use Rattle.labels.specs.declared.refusal.Check.{Check}
 use Rattle.labels.specs.declared.refusal.Check.the-variants.{Sound, Refused}
 use Rattle.labels.proofs.Refusals.{then-assoc, both-sound}
 use Rattle.tables.proofs.SoundTables.{ready}
-use Rattle.machines.proofs.Halves.{ended, stopped, passed}
+use Rattle.halves.proofs.Halves.{ended, stopped, passed}
 
 -- a joint idle
 module _ (p q c p′ q′ : ℕ) where

@@ -1,7 +1,2 @@
-pub mod Runs
-pub mod Steps
-pub mod Halves
 pub mod Joints
-pub mod HalfRuns
 pub mod JointRuns
-pub mod Cuts

@@ -13,7 +13,7 @@ use Rattle.hml.specs.Compose.{beside}
 use Rattle.hml.specs.Labels.{pairs}
 use Rattle.labels.specs.Refusals.{refusedIf, firstOf}
 use Rattle.tables.specs.Tables.{statesOf, threes, tableOf, hasMove, checkTable}
-use Rattle.machines.specs.Runs.{written, lengthened, goOn}
+use Rattle.halves.specs.Runs.{written, lengthened, goOn}
 use Rattle.labels.specs.declared.refusal.Check.{Check}
 use Rattle.labels.specs.declared.refusal.Refusal.the-variants.{WrongLength, NotReal}
 

@@ -1,5 +1,1 @@
-pub mod Runs
-pub mod Steps
-pub mod Halves
 pub mod Joints
-pub mod Cuts

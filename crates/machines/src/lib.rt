@@ -1,5 +1,2 @@
-// Runs of machines: steps, half runs, joint runs, and the cut. Document 01, "Machines and labels".
-pub mod half;
+// Two machines side by side: joint runs, and the check of one against two tables. Document 01, "Machines and labels".
 pub mod joint;
-pub mod side;
-pub mod step;

@@ -1,7 +1,7 @@
 // Steps of a half run, read from its bytes.
 use labels::label::Label;
 ghost use mathlib.Core.Path.{_≡_};
-ghost use Rattle.machines.specs.Steps.{stepRead};
+ghost use Rattle.halves.specs.Steps.{stepRead};
 
 pub struct Move {
     pub label: Label,

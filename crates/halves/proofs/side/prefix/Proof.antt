@@ -2,10 +2,10 @@
 use native.Mathlib.Omega.{arith}
 use mathlib.Core.Path.{sym}
 use lib.Seq.{length-take-le}
-use Rattle.machines.proofs.Cuts.{even-prefix, beyond-prefix, inner-prefix}
+use Rattle.halves.proofs.Cuts.{even-prefix, beyond-prefix, inner-prefix}
 use borrow.Author.Needs.{needs}
-use Rattle.machines.proofs.side.prefix.Statement.{statement}
-use Rattle.machines.proofs.side.prefix.Tie as tie
+use Rattle.halves.proofs.side.prefix.Statement.{statement}
+use Rattle.halves.proofs.side.prefix.Tie as tie
 
 slice-aggregate-result : tie.Need-slice-aggregate-result
 slice-aggregate-result c = search needs

@@ -1,10 +1,10 @@
 -- At each return the tests say which case of `stepRead` holds.
 use mathlib.Core.Path.{sym, _∙_}
 use native.Mathlib.Omega.{arith}
-use Rattle.machines.proofs.Steps.{even-length, beyond-steps, idle-step, move-step}
+use Rattle.halves.proofs.Steps.{even-length, beyond-steps, idle-step, move-step}
 use borrow.Author.Needs.{needs}
-use Rattle.machines.proofs.step.step_at.Statement.{statement}
-use Rattle.machines.proofs.step.step_at.Tie as tie
+use Rattle.halves.proofs.step.step_at.Statement.{statement}
+use Rattle.halves.proofs.step.step_at.Tie as tie
 
 returns : tie.Need-returns
 returns c = even-length _ _ (c .if1 .taken)

@@ -7,10 +7,10 @@ use native.Mathlib.Omega.{arith}
 use lib.ListN.{length, getD}
 use lib.Dec.{eqb}
 use borrow.Author.Tests.{eq-eqb, ne-eqb, lt-ltb, le-ltb}
-use Rattle.machines.specs.Runs.{stepOf}
-use Rattle.machines.specs.Steps.{stepRead, stepStruct}
-use Rattle.machines.specs.declared.step.Step.the-variants as step
-use Rattle.machines.specs.declared.step.StepRead.the-variants as read
+use Rattle.halves.specs.Runs.{stepOf}
+use Rattle.halves.specs.Steps.{stepRead, stepStruct}
+use Rattle.halves.specs.declared.step.Step.the-variants as step
+use Rattle.halves.specs.declared.step.StepRead.the-variants as read
 
 module _ (s : List ℕ) (i : ℕ) where
   pub even-length : (length s % 2 ≡ 1 → ⊥) → read.NoSuchStep ≡ stepRead s i

@@ -1,6 +1,6 @@
 // The known side, and the cut: the known half up to a point.
 ghost use mathlib.Core.Path.{_≡_};
-ghost use Rattle.machines.specs.Cuts.{knownOf, cutOf, prefixOf};
+ghost use Rattle.halves.specs.Cuts.{knownOf, cutOf, prefixOf};
 
 // The known side as a caller names it, or does not.
 pub enum Side {

@@ -5,11 +5,11 @@ use mathlib.Core.List.{List}
 use lib.ListN.{length, getD}
 use lib.Dec.{ltb, eqb}
 use Rattle.hml.specs.System as theory
-use Rattle.machines.specs.Runs.{stepOf}
-use Rattle.machines.specs.declared.step.Step.{Step}
-use Rattle.machines.specs.declared.step.Step.the-variants as step
-use Rattle.machines.specs.declared.step.StepRead.{StepRead}
-use Rattle.machines.specs.declared.step.StepRead.the-variants as read
+use Rattle.halves.specs.Runs.{stepOf}
+use Rattle.halves.specs.declared.step.Step.{Step}
+use Rattle.halves.specs.declared.step.Step.the-variants as step
+use Rattle.halves.specs.declared.step.StepRead.{StepRead}
+use Rattle.halves.specs.declared.step.StepRead.the-variants as read
 
 -- a step as the program holds it
 unfoldable pub stepStruct : theory.Step ℕ → Step

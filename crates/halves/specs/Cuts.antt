@@ -4,10 +4,10 @@ use mathlib.Core.List.{List, []}
 use mathlib.Core.Bool.{Bool, cond, _||_}
 use lib.ListN.{length, take}
 use lib.Dec.{eqb, ltb}
-use Rattle.machines.specs.declared.side.Side.{Side}
-use Rattle.machines.specs.declared.side.Side.the-variants as side
-use Rattle.machines.specs.declared.side.Known.{Known}
-use Rattle.machines.specs.declared.side.Known.the-variants as known
+use Rattle.halves.specs.declared.side.Side.{Side}
+use Rattle.halves.specs.declared.side.Side.the-variants as side
+use Rattle.halves.specs.declared.side.Known.{Known}
+use Rattle.halves.specs.declared.side.Known.the-variants as known
 
 -- "A caller may name the known side; unnamed, it is the right."
 abbrev pub knownOf : Side → Known

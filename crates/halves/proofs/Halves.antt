@@ -11,8 +11,8 @@ use borrow.Author.Tests.{eq-eqb, ne-eqb, lt-ltb, le-ltb, le-leb, lt-leb}
 use Rattle.hml.specs.System.{System}
 use Rattle.labels.specs.Refusals.{firstOf}
 use Rattle.tables.specs.Tables.{statesOf, tableOf, hasMove, checkTable}
-use Rattle.machines.specs.Runs.{goOn}
-use Rattle.machines.specs.Halves.{twos, stepFits, isHalfRun, checkHalf, checkTableAndHalf}
+use Rattle.halves.specs.Runs.{goOn}
+use Rattle.halves.specs.Halves.{twos, stepFits, isHalfRun, checkHalf, checkTableAndHalf}
 use Rattle.labels.specs.declared.refusal.Refusal.{Refusal}
 use Rattle.labels.specs.declared.refusal.Refusal.the-variants.{NotARun}
 use Rattle.labels.specs.declared.refusal.Check.the-variants.{Sound, Refused}

@@ -10,7 +10,7 @@ use Rattle.hml.specs.Lists.{each}
 use Rattle.hml.specs.System.{System, Run, start, steps, first, RunOf}
 use Rattle.labels.specs.Refusals.{refusedIf, firstOf}
 use Rattle.tables.specs.Tables.{statesOf, tableOf, hasMove, checkTable}
-use Rattle.machines.specs.Runs.{written, lengthened, goOn}
+use Rattle.halves.specs.Runs.{written, lengthened, goOn}
 use Rattle.labels.specs.declared.refusal.Check.{Check}
 use Rattle.labels.specs.declared.refusal.Refusal.the-variants.{NotARun}
 

@@ -14,11 +14,11 @@ use Rattle.hml.specs.Tests.{same, Decides, decides, decided-by, decided-le, dec
 use Rattle.hml.specs.Lists.{_∈_, each, length-each}
 use Rattle.hml.specs.System.{System, Run, start, _▸_, first, last, steps, stop, RunOf}
 use Rattle.tables.specs.Tables.{statesOf, tableOf, hasMove}
-use Rattle.machines.specs.Runs.{written, stepOf, goOn}
-use Rattle.machines.specs.Halves.{halfBytes, twos, halfOf, HalfRun, stepFits, isHalfRun}
+use Rattle.halves.specs.Runs.{written, stepOf, goOn}
+use Rattle.halves.specs.Halves.{halfBytes, twos, halfOf, HalfRun, stepFits, isHalfRun}
 use Rattle.tables.proofs.Chunks.{Chunked, less, chunk, Chunks, chunks-take, chunks-read, chunks-append}
 use Rattle.tables.proofs.Rows.{hasMove-decides}
-use Rattle.machines.proofs.Runs.{NoIdleLabel, Fit, lengthened-more, first-lengthened, length-written, stop-start, stop-lengthened, goOn-take, run-keeps, run-goOn, stepBytes, dropped-at, read-accepted}
+use Rattle.halves.proofs.Runs.{NoIdleLabel, Fit, lengthened-more, first-lengthened, length-written, stop-start, stop-lengthened, goOn-take, run-keeps, run-goOn, stepBytes, dropped-at, read-accepted}
 
 -- the test passes exactly for the steps that the system has
 pub stepFits-decides : (M : System ℕ) (p a q : ℕ) → Decides (Fit M p a q) (stepFits M p a q)

@@ -9,7 +9,7 @@ ghost use mathlib.Core.Path.{_≡_};
 ghost use Prim.Native.Nat.{_+_, _*_, _<_};
 ghost use lib.ListN.{length, getD};
 ghost use Rattle.tables.specs.Tables.{rowsOf, tableOf, Rising, Ready};
-ghost use Rattle.machines.specs.Halves.{stepFits, isHalfRun, checkTableAndHalf};
+ghost use Rattle.halves.specs.Halves.{stepFits, isHalfRun, checkTableAndHalf};
 
 // The check of a table and of a half run of it: the table's numbers, then 15.
 pub fn check_half(labels: Labels, table: &[u8], half: &[u8]) -> Check

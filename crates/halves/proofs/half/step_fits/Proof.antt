@@ -1,9 +1,9 @@
 -- An idle must keep the state; a move must be a row.
 use mathlib.Core.Path.{sym, _∙_}
-use Rattle.machines.proofs.Halves.{idle-fits, move-fits}
+use Rattle.halves.proofs.Halves.{idle-fits, move-fits}
 use borrow.Author.Needs.{needs}
-use Rattle.machines.proofs.half.step_fits.Statement.{statement}
-use Rattle.machines.proofs.half.step_fits.Tie as tie
+use Rattle.halves.proofs.half.step_fits.Statement.{statement}
+use Rattle.halves.proofs.half.step_fits.Tie as tie
 
 mul-from : tie.Need-mul-from
 mul-from c = search needs

@@ -4,9 +4,9 @@ use mathlib.Core.Path.{_≡_, refl}
 use mathlib.Core.List.{List, []}
 use lib.ListN.{length, take}
 use borrow.Author.Tests.{eq-eqb, ne-eqb, lt-ltb, le-ltb}
-use Rattle.machines.specs.Cuts.{beyond, prefixOf, cutOf, knownHalf, knownOf}
-use Rattle.machines.specs.declared.side.Side.{Side}
-use Rattle.machines.specs.declared.side.Known.{Known}
+use Rattle.halves.specs.Cuts.{beyond, prefixOf, cutOf, knownHalf, knownOf}
+use Rattle.halves.specs.declared.side.Side.{Side}
+use Rattle.halves.specs.declared.side.Known.{Known}
 
 module _ (s : List ℕ) (point : ℕ) where
   pub even-prefix : length s % 2 ≡ 0 → [] ≡ prefixOf s point

@@ -4,9 +4,9 @@ use native.Mathlib.Omega.{arith}
 use mathlib.Core.Path.{sym, _∙_}
 use Prim.Native.Nat.{_-_, _/_}
 use borrow.Author.Tests.{not-true, not-false}
-use Rattle.machines.proofs.Halves.{Walked, even-half, long-half, start-out, walked-start, walked-end, walked-stop, walked-on}
-use Rattle.machines.proofs.half.is_half_run.Statement.{statement}
-use Rattle.machines.proofs.half.is_half_run.Tie as tie
+use Rattle.halves.proofs.Halves.{Walked, even-half, long-half, start-out, walked-start, walked-end, walked-stop, walked-on}
+use Rattle.halves.proofs.half.is_half_run.Statement.{statement}
+use Rattle.halves.proofs.half.is_half_run.Tie as tie
 
 abbrev Inv-loop : tie.InvT-loop
 Inv-loop table half n i₀ i = Walked table half i

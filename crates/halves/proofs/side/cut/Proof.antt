@@ -1,9 +1,9 @@
 -- The side that is known picks the half, and the cut is its prefix.
 use mathlib.Core.Path.{sym, _∙_}
-use Rattle.machines.proofs.Cuts.{cut-prefix}
+use Rattle.halves.proofs.Cuts.{cut-prefix}
 use borrow.Author.Needs.{needs}
-use Rattle.machines.proofs.side.cut.Statement.{statement}
-use Rattle.machines.proofs.side.cut.Tie as tie
+use Rattle.halves.proofs.side.cut.Statement.{statement}
+use Rattle.halves.proofs.side.cut.Tie as tie
 
 known-requires : tie.Need-known-requires
 known-requires c κs = search needs

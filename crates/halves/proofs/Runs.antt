@@ -15,7 +15,7 @@ use Rattle.hml.specs.Tests.{Decides, decides, decided-by, both-true}
 use Rattle.hml.specs.Lists.{_∈_, each, length-each}
 use Rattle.hml.specs.System.{System, move, idle, Run, start, _▸_, first, last, steps, undo, stop, Allowed, moves, idles, RunOf, begins, goes}
 use Rattle.tables.proofs.Chunks.{Chunks, chunks-whole, chunks-length}
-use Rattle.machines.specs.Runs.{written, stepOf, lengthened, goOn}
+use Rattle.halves.specs.Runs.{written, stepOf, lengthened, goOn}
 
 module _ {S : Type 0} (M : System S) where
   -- no move has the label 255, which marks an idle

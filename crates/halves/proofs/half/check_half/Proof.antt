@@ -1,10 +1,10 @@
 -- The table's refusal comes first; in a sound table the steps decide.
 use mathlib.Core.Path.{sym, _∙_}
 use Rattle.tables.proofs.SoundTables.{ready}
-use Rattle.machines.proofs.Halves.{table-refused, half-sound, half-refused}
+use Rattle.halves.proofs.Halves.{table-refused, half-sound, half-refused}
 use borrow.Author.Needs.{needs}
-use Rattle.machines.proofs.half.check_half.Statement.{statement}
-use Rattle.machines.proofs.half.check_half.Tie as tie
+use Rattle.halves.proofs.half.check_half.Statement.{statement}
+use Rattle.halves.proofs.half.check_half.Tie as tie
 
 check-table-requires : tie.Need-check-table-requires
 check-table-requires c κs = search needs

@@ -1,0 +1,5 @@
+pub mod Runs
+pub mod Steps
+pub mod Halves
+pub mod HalfRuns
+pub mod Cuts
