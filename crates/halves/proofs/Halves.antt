@@ -12,6 +12,7 @@ use Rattle.hml.specs.System.{System}
 use Rattle.labels.specs.Refusals.{firstOf}
 use Rattle.tables.specs.Tables.{statesOf, tableOf, hasMove, checkTable}
 use Rattle.halves.specs.Runs.{goOn}
+use Rattle.halves.proofs.Runs.{ended, stopped, passed}
 use Rattle.halves.specs.Halves.{twos, stepFits, isHalfRun, checkHalf, checkTableAndHalf}
 use Rattle.labels.specs.declared.refusal.Refusal.{Refusal}
 use Rattle.labels.specs.declared.refusal.Refusal.the-variants.{NotARun}
@@ -26,21 +27,6 @@ module _ (M : System ℕ) (p a q : ℕ) where
   pub move-fits : eqb a 255 ≡ false → {x : Bool} → x ≡ hasMove M p a q → x ≡ stepFits M p a q
   unfolding stepFits
   move-fits e h = rw e h
-
--- written steps that go on: the first decides, and leaves it to the others if it fits
-module _ {S : Type 0} (fits : S → ℕ → S → Bool) (p : S) {x : Bool} where
-  pub ended : {es : List (ℕ × S)} → es ≡ [] → goOn fits p es ≡ x → true ≡ x
-  unfolding goOn
-  ended e g = rw e at g
-
-  module _ {a : ℕ} {q : S} {es rest : List (ℕ × S)} (e : es ≡ (a, q) ∷ rest) (g : goOn fits p es ≡ x) where
-    pub stopped : fits p a q ≡ false → false ≡ x
-    unfolding goOn
-    stopped f = rw f at (rw e at g)
-
-    pub passed : fits p a q ≡ true → goOn fits q rest ≡ x
-    unfolding goOn
-    passed f = rw f at (rw e at g)
 
 -- the bytes of a half run, from step i on
 module _ (s : List ℕ) (i : ℕ) where

@@ -17,6 +17,21 @@ use Rattle.hml.specs.System.{System, move, idle, Run, start, _▸_, first, last
 use Rattle.tables.proofs.Chunks.{Chunks, chunks-whole, chunks-length}
 use Rattle.halves.specs.Runs.{written, stepOf, lengthened, goOn}
 
+-- written steps that go on: the first decides, and leaves it to the others if it fits
+module _ {S : Type 0} (fits : S → ℕ → S → Bool) (p : S) {x : Bool} where
+  pub ended : {es : List (ℕ × S)} → es ≡ [] → goOn fits p es ≡ x → true ≡ x
+  unfolding goOn
+  ended e g = rw e at g
+
+  module _ {a : ℕ} {q : S} {es rest : List (ℕ × S)} (e : es ≡ (a, q) ∷ rest) (g : goOn fits p es ≡ x) where
+    pub stopped : fits p a q ≡ false → false ≡ x
+    unfolding goOn
+    stopped f = rw f at (rw e at g)
+
+    pub passed : fits p a q ≡ true → goOn fits q rest ≡ x
+    unfolding goOn
+    passed f = rw f at (rw e at g)
+
 module _ {S : Type 0} (M : System S) where
   -- no move has the label 255, which marks an idle
   abbrev pub NoIdleLabel : Type 0

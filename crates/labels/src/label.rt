@@ -6,7 +6,7 @@ ghost use lib.Dec.{eqb, leb};
 ghost use Rattle.hml.specs.Labels.{count};
 ghost use Rattle.labels.specs.Labels.{checkPairs, anyPartner, partnerFound, pairing};
 
-// A label's number: 0 is the silent step, 255 marks an idle.
+// A label by its number.
 pub struct Label(pub u8);
 
 // The label that a label shakes hands with, if there is one.
@@ -16,8 +16,10 @@ pub enum Partner {
 }
 
 impl Label {
+    // The silent step.
     pub const SILENT: Label = Label(0);
 
+    // Marks an idle, and is never in a row.
     pub const IDLE: Label = Label(255);
 
     pub fn is_silent(self) -> bool
@@ -50,13 +52,13 @@ impl Label {
     }
 }
 
-// The labels of one call: those of its handshake pairs, and 0.
+// The labels of one call, read off k, its number of handshake pairs.
 pub struct Labels {
     pub pairs: u8,
 }
 
 impl Labels {
-    // The highest label.
+    // The highest label: they are 0 to 2k.
     pub fn count(self) -> u8
         ensures { λ r. ⌜ r ≡ count (self .pairs) ⌝ }
     {
@@ -74,6 +76,7 @@ impl Labels {
         label.0 <= self.count()
     }
 
+    // The partner of a label of the call; what is no label of it has none.
     pub fn partner(self, label: Label) -> Partner
         ensures { λ r. ⌜ r ≡ partnerFound (pairing self .partner (label .0)) ⌝ }
     {

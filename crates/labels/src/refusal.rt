@@ -2,25 +2,45 @@
 ghost use mathlib.Core.Path.{_≡_};
 ghost use Rattle.labels.specs.Refusals.{numberOf, thenOf};
 
-// Why a call is refused: one case for each number of "Who can cause a refusal".
+// Why a call is refused: one case for each number of "Who can cause a refusal", in the order of the numbers.
 pub enum Refusal {
+    // 1 to 11: the author of the bytes.
+    // The bytes end before the question record is complete.
     Truncated,
+    // Not the kind of record that is due.
     WrongKind,
+    // A length that the record, or the part, cannot have.
     WrongLength,
+    // k over 15.
     TooManyPairs,
+    // No state at all or over 64, or a row with a state or label out of range.
     OutOfRange,
+    // A row not above the one before.
     RowNotAbove,
+    // A ninth row from one state.
     NinthRow,
+    // A start state out of range, or a step not real.
     NotReal,
+    // A formula that is not one whole tree of its operators and labels.
     NotATree,
+    // Forward modalities nested over 4 deep.
     NestedTooDeep,
+    // Bytes after the question record.
     BytesAfter,
+    // 12 to 18: the caller, but for 13 and 17, which are the size of a sound case.
+    // A point beyond the run.
     PointBeyond,
+    // Over 65,535 splittings.
     TooManySplittings,
+    // A splitting number not below the count.
     NoSuchSplitting,
+    // A half that is no run of its table.
     NotARun,
+    // Halves that do not match.
     HalvesDoNotMatch,
+    // A quotient of over 4,096 nodes.
     QuotientTooLarge,
+    // A lent output shorter than the answer.
     OutputTooShort,
 }
 

@@ -27,7 +27,7 @@ use Rattle.labels.specs.declared.refusal.Check.{Check}
 use Rattle.labels.specs.declared.refusal.Check.the-variants.{Sound, Refused}
 use Rattle.labels.proofs.Refusals.{then-assoc, both-sound}
 use Rattle.tables.proofs.SoundTables.{ready}
-use Rattle.halves.proofs.Halves.{ended, stopped, passed}
+use Rattle.halves.proofs.Runs.{ended, stopped, passed}
 
 -- a joint idle
 module _ (p q c p′ q′ : ℕ) where
