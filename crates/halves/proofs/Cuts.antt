@@ -1,9 +1,17 @@
 -- The cases of a cut, each from what the code knows at its return.
 use Prim.Native.Nat.{ℕ, _+_, _*_, _/_, _%_, _≤_, _<_}
-use mathlib.Core.Path.{_≡_, refl}
+use mathlib.Core.Path.{_≡_, refl, sym, _∙_, ap}
+use mathlib.Core.Logic.{_↔_}
+use mathlib.Core.Bool.{Bool, true, false, _||_}
+use native.Mathlib.Omega.{arith}
+use lib.Dec.{eqb, ltb}
 use mathlib.Core.List.{List, []}
-use lib.ListN.{length, take}
-use borrow.Author.Tests.{eq-eqb, ne-eqb, lt-ltb, le-ltb}
+use lib.ListN.{length, take, length-take}
+use borrow.Author.Tests.{eq-eqb, ne-eqb, lt-ltb, le-ltb, eqb-false, ltb-false}
+use Rattle.hml.specs.Tests.{apart}
+use Rattle.hml.specs.System.{steps, stop}
+use Rattle.halves.specs.Halves.{halfOf, isHalfRun}
+use Rattle.halves.proofs.HalfRuns.{accepted-half, half-stop, half-stopped}
 use Rattle.halves.specs.Cuts.{beyond, prefixOf, cutOf, knownHalf, knownOf}
 use Rattle.halves.specs.declared.side.Side.{Side}
 use Rattle.halves.specs.declared.side.Known.{Known}
@@ -25,3 +33,50 @@ module _ (s : List ℕ) (point : ℕ) where
 pub cut-prefix : (l r x : List ℕ) (side : Side) (known : Known) (point : ℕ) → known ≡ knownOf side → x ≡ prefixOf (knownHalf l r known) point → x ≡ cutOf l r side point
 unfolding cutOf
 cut-prefix l r x side known point e h = rw (← e) h
+
+odd-of : (n : ℕ) → (n % 2 ≡ 0 → ⊥) → n % 2 ≡ 1
+odd-of n h = omega (arith, h)
+
+-- what the cases mean for a half: a point is one of its own, or beyond it
+data Placed (s : List ℕ) (point : ℕ) : Bool → Type 0 where
+  outside : prefixOf s point ≡ [] → Placed s point true
+  inside : length s % 2 ≡ 1 → point ≤ length s / 2 → prefixOf s point ≡ take (2 * point + 1) s → Placed s point false
+
+placed : (s : List ℕ) (point : ℕ) → Placed s point (beyond s point)
+unfolding beyond prefixOf
+placed s point = go (eqb (length s % 2) 0) (ltb (length s / 2) point) refl refl
+  where
+    go : (a b : Bool) → eqb (length s % 2) 0 ≡ a → ltb (length s / 2) point ≡ b → Placed s point (a || b)
+    go true b e f = outside (rw e)
+    go false true e f = outside (rw (e, f))
+    go false false e f = inside (odd-of (length s) (eqb-false (length s % 2) 0 e)) (ltb-false _ _ f) (rw (e, f))
+
+module _ (s : List ℕ) (point : ℕ) where
+  -- a cut is empty exactly where it is refused
+  pub refused-empty : (beyond s point ≡ true) ↔ (prefixOf s point ≡ [])
+  refused-empty = go (placed s point)
+    where
+      go : {b : Bool} → Placed s point b → (b ≡ true) ↔ (prefixOf s point ≡ [])
+      go (outside e) = (λ h. e, λ h. refl)
+      go (inside o h e) = (λ f. absurd (apart cc), λ f. absurd (omega (arith, ap length (sym e ∙ f), length-take (2 * point + 1) s, o)))
+
+  -- the reading of a cut is the reading of the half, stopped
+  pub cut-stopped : beyond s point ≡ false → halfOf (prefixOf s point) ≡ stop point (halfOf s)
+  cut-stopped = go (placed s point)
+    where
+      go : {b : Bool} → Placed s point b → b ≡ false → halfOf (prefixOf s point) ≡ stop point (halfOf s)
+      go (outside e) f = absurd (apart cc)
+      go (inside o h e) f = rw e (half-stop s point)
+
+  -- a cut of a run of a table is one
+  pub cut-accepted : (t : List ℕ) → isHalfRun t s ≡ true → beyond s point ≡ false → isHalfRun t (prefixOf s point) ≡ true
+  cut-accepted t a = go (placed s point)
+    where
+      go : {b : Bool} → Placed s point b → b ≡ false → isHalfRun t (prefixOf s point) ≡ true
+      go (outside e) f = absurd (apart cc)
+      go (inside o h e) f = rw e (half-stopped t s point a)
+
+  -- the points of a run of a table are 0 to its number of steps
+  pub cut-points : (t : List ℕ) → isHalfRun t s ≡ true → beyond s point ≡ ltb (steps (halfOf s)) point
+  unfolding beyond
+  cut-points t e = let a = accepted-half t s e in rw (a .counted, ne-eqb (length s % 2) 0 (λ z. omega (arith, z, a .odd)))

@@ -15,7 +15,11 @@ use Rattle.hml.specs.Lists.{_∈_, each, length-each}
 use Rattle.hml.specs.System.{System, Run, start, _▸_, first, last, steps, stop, RunOf}
 use Rattle.tables.specs.Tables.{statesOf, tableOf, hasMove}
 use Rattle.halves.specs.Runs.{written, stepOf, goOn}
-use Rattle.halves.specs.Halves.{halfBytes, twos, halfOf, HalfRun, stepFits, isHalfRun}
+use Rattle.halves.specs.Halves.{halfBytes, twos, halfOf, HalfRun, stepFits, isHalfRun, checkHalf, checkTableAndHalf}
+use Rattle.labels.specs.Refusals.{firstOf}
+use Rattle.labels.specs.declared.refusal.Refusal.the-variants.{NotARun}
+use Rattle.labels.proofs.Refusals.{Judges, judged-unless, judged-next, then-sound}
+use Rattle.tables.proofs.SoundTables.{SoundTable, judged-table, no-idle-label}
 use Rattle.tables.proofs.Chunks.{Chunked, less, chunk, Chunks, chunks-take, chunks-read, chunks-append}
 use Rattle.tables.proofs.Rows.{hasMove-decides}
 use Rattle.halves.proofs.Runs.{NoIdleLabel, Fit, lengthened-more, first-lengthened, length-written, stop-start, stop-lengthened, goOn-take, run-keeps, run-goOn, stepBytes, dropped-at, read-accepted}
@@ -131,3 +135,13 @@ half-stopped t (p ∷ bs) n e =
 -- if all moves of a table end in its states, an accepted half does
 pub half-in-range : (t s : List ℕ) → ((p a q : ℕ) → (a, q) ∈ tableOf t p → q < statesOf t) → isHalfRun t s ≡ true → last (halfOf s) < statesOf t
 half-in-range t s k e = let a = accepted-half t s e in run-keeps (tableOf t) (λ p. p < statesOf t) (λ p a q i m. k p a q m) (a .run) (a .begins)
+
+-- 15: beside a sound table, a half is accepted exactly if its bytes spell a run of the table, of at most 200 steps, from one of its states
+pub judged-half : (k : ℕ) (t s : List ℕ) → SoundTable k t → Judges (HalfRun t s) (checkHalf t s)
+unfolding checkHalf
+judged-half k t s sound = judged-unless NotARun (half-decides t s (no-idle-label sound))
+
+-- a table and a half of it are accepted exactly if each is sound
+pub judged-table-and-half : (k : ℕ) (t s : List ℕ) → Judges (SoundTable k t × HalfRun t s) (checkTableAndHalf k t s)
+unfolding checkTableAndHalf firstOf
+judged-table-and-half k t s = judged-next (judged-table k t) (λ sound. rw (then-sound (checkHalf t s)) (judged-half k t s sound))

@@ -1,4 +1,5 @@
--- Two systems side by side: the ways of a joint step, the joint system, and when two runs join to a third.
+-- Two systems side by side: the ways of a joint step, the joint system, and when two runs join to a third. (Document 01 counts
+-- all ways; source document 000 picks one by which side changed.)
 use mathlib.Core.Path.{_≡_, refl, sym, _∙_, ap}
 use mathlib.Core.Bool.{Bool, _&&_, _||_}
 use mathlib.Core.List.{List, _++_, map}

@@ -1,4 +1,5 @@
--- Stuttering Hennessy-Milner logic with past: formulas, their meaning (definitions 3 and 4), and the test that decides it.
+-- Stuttering Hennessy-Milner logic with past: formulas, their meaning (definitions 3 and 4 of source document 000), and the test
+-- that decides it.
 use mathlib.Core.Path.{_≡_, refl, sym, ap, subst}
 use mathlib.Core.Logic.{_⊎_}
 use mathlib.Core.Bool.{Bool, true, false, _&&_, _||_, not as negate}
@@ -28,7 +29,8 @@ size (fwdIdle φ) = 1 + size φ
 size (backIdle φ) = 1 + size φ
 
 module _ {S : Type 0} (M : System S) where
-  -- the meaning: what a reader has to believe
+  -- the meaning, clause by clause as definitions 3 and 4 have it: what a reader has to believe. A forward modality speaks of the
+  -- runs one step longer, a back modality of the run without its last step
   unfoldable pub Sat : Formula → Run S → Type 0
   Sat top r = Unit {0}
   Sat bottom r = ⊥

@@ -1,4 +1,5 @@
--- The quotient of a formula by one half of a joint run (table 1), and the theorem that it keeps the verdict.
+-- The quotient of a formula by one half of a joint run (table 1 of source document 000, as document 01 writes it out), and the
+-- theorem that it keeps the verdict (theorem 1).
 use mathlib.Core.Path.{_≡_, refl, sym, _∙_, ap, ap₂}
 use mathlib.Core.Bool.{Bool, true, false, _&&_, _||_, or-false, and-false, not as negate}
 use mathlib.Core.List.{List, [], _∷_, _++_}

@@ -1,4 +1,5 @@
--- What it is for a joint move to be real, and that the rows of the joint system are the real moves.
+-- What it is for a joint step to be real (document 01, "A joint step .. is real exactly if one of these ways exists"), and that
+-- the moves of the joint system are the real steps.
 use mathlib.Core.Path.{_≡_, refl, sym}
 use mathlib.Core.Logic.{_↔_, _⊎_, inl, inr}
 use mathlib.Core.List.{_++_, List·Memᴰ·append-cases as ∈-append, Memᴰ·append-left as ∈-left, Memᴰ·append-right as ∈-right, Memᴰ·map as ∈-map, Memᴰ·of-map as map-∈, Memᴰ·cast as ∈-cast}

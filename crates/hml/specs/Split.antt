@@ -1,4 +1,5 @@
--- All splittings of a joint run: the pairs of runs that join to it, and no others.
+-- All splittings of a joint run: the pairs of runs that join to it, and no others. A splitting (a term of document 01) chooses one
+-- way for each step; source document 000 has them as the decompositions D.
 use mathlib.Core.Path.{_≡_, refl}
 use mathlib.Core.List.{List, [], _∷_, map, List·Memᴰ·head as here, List·Memᴰ·eq-of-singleton as ∈-single, Memᴰ·map as ∈-map, Memᴰ·of-map as map-∈}
 use Prim.Native.Nat.{ℕ, _*_}

@@ -7,7 +7,10 @@ use lib.Dec.{eqb, leb}
 use mathlib.Core.Bool.{true, false}
 use borrow.Author.Tests.{eq-eqb, ne-eqb, le-leb, leb-true}
 use Rattle.hml.specs.Labels.{count, partnerOf, partnerAmong, pairs, silent-alone}
-use Rattle.labels.specs.Labels.{anyPartner, partnerFound, pairing}
+use Rattle.labels.specs.Labels.{checkPairs, anyPartner, partnerFound, pairing}
+use Rattle.hml.specs.Tests.{decided-lt}
+use Rattle.labels.specs.declared.refusal.Refusal.the-variants.{TooManyPairs}
+use Rattle.labels.proofs.Refusals.{Judges, judged-iff, judged-fault}
 use Rattle.labels.specs.declared.label.Label.{Label}
 use Rattle.labels.specs.declared.label.Labels.{Labels}
 use Rattle.labels.specs.declared.label.Partner.the-variants as partner
@@ -43,3 +46,10 @@ inside-found labels a h = rw (h, le-leb a (count 127) (count-most (labels .pairs
 pub outside-found : (labels : Labels) (a : ℕ) → leb a (count (labels .pairs)) ≡ false → partner.Nobody ≡ partnerFound (pairing labels .partner a)
 unfolding pairing pairs partnerAmong partnerFound
 outside-found labels a h = rw h
+
+-- 4: k is accepted exactly if it is at most 15
+pub judged-pairs : (k : ℕ) → Judges (k ≤ 15) (checkPairs k)
+judged-pairs k = judged-iff (λ n. small k n) (λ h n. omega (arith, h, n)) (judged-fault TooManyPairs (decided-lt 15 k))
+  where
+    small : (k : ℕ) → (15 < k → ⊥) → k ≤ 15
+    small k n = omega (arith, n)

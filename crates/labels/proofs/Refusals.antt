@@ -18,11 +18,6 @@ pub both-sound : (c d : Check) → thenOf c d ≡ Sound → (c ≡ Sound) × (d 
 both-sound Sound d e = (refl, e)
 both-sound (Refused r) d e = absurd (apart cc)
 
--- a fault that is looked for and not refused is not there
-pub not-refused : (b : Bool) (r : Refusal) → refusedIf (not b) r ≡ Sound → b ≡ true
-not-refused true r e = refl
-not-refused false r e = absurd (apart cc)
-
 -- checks are grouped as one likes
 pub then-assoc : (c d e : Check) → thenOf (thenOf c d) e ≡ thenOf c (thenOf d e)
 then-assoc Sound d e = refl
@@ -55,8 +50,10 @@ module _ {A B : Type 0} where
   judged-iff f g (accepts x) = accepts (f x)
   judged-iff f g (rejects k) = rejects (λ y. k (g y))
 
-  -- one check, then another
+  -- one check, then another, which may rest on the first
+  pub judged-next : {c d : Check} → Judges A c → (A → Judges B d) → Judges (A × B) (thenOf c d)
+  judged-next (accepts x) f = elim (f x) [ accepts y ↦ accepts (x, y) | rejects k ↦ rejects (λ t. k (t .1)) ]
+  judged-next (rejects k) f = rejects (λ t. k (t .0))
+
   pub judged-then : {c d : Check} → Judges A c → Judges B d → Judges (A × B) (thenOf c d)
-  judged-then (accepts x) (accepts y) = accepts (x, y)
-  judged-then (accepts x) (rejects k) = rejects (λ t. k (t .1))
-  judged-then (rejects k) j = rejects (λ t. k (t .0))
+  judged-then j h = judged-next j (λ x. h)

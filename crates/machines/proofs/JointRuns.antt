@@ -2,7 +2,7 @@
 use Prim.Native.Nat.{ℕ, suc, _+_, _-_, _*_, _/_, _%_, _≤_, _<_}
 use mathlib.Core.Path.{_≡_, refl, sym, _∙_, ap}
 use mathlib.Core.Logic.{_⊎_, inl, inr}
-use mathlib.Core.Bool.{Bool, true, _&&_, _||_, false≢true, or-assoc}
+use mathlib.Core.Bool.{Bool, true, not, _&&_, _||_, false≢true, or-assoc}
 use mathlib.Core.List.{List, [], _∷_, _++_, Memᴰ·cast as ∈-cast}
 use mathlib.Core.Option.{some}
 use native.Mathlib.Omega.{arith}
@@ -16,8 +16,12 @@ use Rattle.hml.specs.Real.{Real, real-rows}
 use Rattle.hml.specs.Labels.{pairs}
 use Rattle.tables.specs.Tables.{statesOf, threes, tableOf}
 use Rattle.halves.specs.Runs.{written, stepOf, lengthened, goOn}
-use Rattle.machines.specs.Joints.{jointBytes, jointSteps, jointOf, JointRun, isLeftAlone, isRightAlone, shakesTo, isJointIdle, isHandshake, isReal, isRealStep, fitJoint, isJointRun}
+use Rattle.machines.specs.Joints.{jointBytes, jointSteps, jointOf, JointRun, isLeftAlone, isRightAlone, shakesTo, isJointIdle, isHandshake, isReal, isRealStep, fitJoint, isJointRun, checkJoint, checkTablesAndJoint}
 use Rattle.halves.proofs.Runs.{NoIdleLabel, Fit, lengthened-more, first-lengthened, length-written, stop-start, stop-lengthened, goOn-take, run-keeps, run-goOn, stepBytes, dropped-at, read-accepted}
+use Rattle.labels.specs.Refusals.{firstOf, refusedIf}
+use Rattle.labels.specs.declared.refusal.Refusal.the-variants.{WrongLength, NotReal}
+use Rattle.labels.proofs.Refusals.{Judges, judged-iff, judged-unless, judged-next, judged-then, then-sound}
+use Rattle.tables.proofs.SoundTables.{SoundTable, judged-table, no-idle-label}
 use Rattle.tables.proofs.Chunks.{Chunks, chunks-map, threes-chunks, chunks-take, chunks-read, chunks-append}
 use Rattle.tables.proofs.Rows.{hasMove-decides}
 
@@ -201,3 +205,17 @@ module _ (k : ℕ) (l r : List ℕ) (fl : NoIdleLabel (tableOf l)) (fr : NoIdleL
 
       keeps : (u : ℕ × ℕ) (c : ℕ) (v : ℕ × ℕ) → In u → (c, v) ∈ tablesOf k l r u → In v
       keeps u c v i m = kept u (c, v) i (real-rows (pairs k) (tableOf l) (tableOf r) (u .0) (u .1) (c, v) .0 m)
+
+-- 3 and 8: beside two sound tables, a joint run is accepted exactly if its bytes spell a run, of at most 200 steps, of the two systems
+-- beside each other, from a state of each
+pub judged-joint : (k : ℕ) (l r s : List ℕ) → SoundTable k l → SoundTable k r → Judges (JointRun k l r s) (checkJoint k l r s)
+unfolding checkJoint firstOf
+judged-joint k l r s sl sr = judged-iff
+    (λ t. decides (joint-decides k l r (no-idle-label sl) (no-idle-label sr) s) .0 (rw (t .0, t .1)))
+    (λ h. both-true (decides (joint-decides k l r (no-idle-label sl) (no-idle-label sr) s) .1 h))
+    (judged-then (judged-unless WrongLength (decided-true (fitJoint s))) (rw (then-sound (refusedIf (not (isJointRun k l r s)) NotReal)) (judged-unless NotReal (decided-true (isJointRun k l r s)))))
+
+-- two tables and a joint run of them are accepted exactly if each is sound
+pub judged-tables-and-joint : (k : ℕ) (l r s : List ℕ) → Judges (SoundTable k l × (SoundTable k r × JointRun k l r s)) (checkTablesAndJoint k l r s)
+unfolding checkTablesAndJoint firstOf
+judged-tables-and-joint k l r s = judged-next (judged-table k l) (λ sl. judged-next (judged-table k r) (λ sr. rw (then-sound (checkJoint k l r s)) (judged-joint k l r s sl sr)))
