@@ -58,7 +58,7 @@ pub struct Labels {
 }
 
 impl Labels {
-    // The highest label: they are 0 to 2k.
+    // The highest label: they are 0 to 2k. A byte's labels end at 254, since 255 marks an idle.
     pub fn count(self) -> u8
         ensures { λ r. ⌜ r ≡ count (self .pairs) ⌝ }
     {

@@ -39,9 +39,9 @@ pub fn check_joint(labels: Labels, left: &[u8], right: &[u8], run: &[u8]) -> Che
 }
 
 // A state of the left table and one of the right.
-pub struct States {
-    pub left: u8,
-    pub right: u8,
+struct States {
+    left: u8,
+    right: u8,
 }
 
 // 8, for tables that no check refuses and a run of fit length.

@@ -29,6 +29,7 @@ pub(crate) fn row_count(table: &[u8]) -> usize
     (n - 1) / 3
 }
 
+// A row by its number, from 0: any bytes have as many rows as three bytes each make behind the first.
 pub fn row_at(table: &[u8], i: usize) -> RowRead
     ensures { λ r. ⌜ r ≡ rowRead (now (table .entry)) i ⌝ }
 {
