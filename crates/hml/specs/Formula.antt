@@ -4,7 +4,8 @@ use mathlib.Core.Path.{_≡_, refl, sym, ap, subst}
 use mathlib.Core.Logic.{_⊎_}
 use mathlib.Core.Bool.{Bool, true, false, _&&_, _||_, not as negate}
 use mathlib.Core.List.{Memᴰ·cast as ∈-cast}
-use Prim.Native.Nat.{ℕ, _+_}
+use Prim.Native.Nat.{ℕ, _+_, max}
+use lib.Dec.{leb}
 use Rattle.hml.specs.Tests.{apart, same, Decides, proves, refutes, decided-not, decided-and, decided-or, decided-iff, decided-same}
 use Rattle.hml.specs.Lists.{_∈_, any, decided-any}
 use Rattle.hml.specs.System.{System, move, idle, Run, start, _▸_, last}
@@ -27,6 +28,30 @@ size (fwd a φ) = 1 + size φ
 size (back a φ) = 1 + size φ
 size (fwdIdle φ) = 1 + size φ
 size (backIdle φ) = 1 + size φ
+
+-- how deep forward modalities nest, by a label or by idle, along one branch
+unfoldable pub nesting : Formula → ℕ
+nesting top = 0
+nesting bottom = 0
+nesting (not φ) = nesting φ
+nesting (and φ ψ) = max (nesting φ) (nesting ψ)
+nesting (or φ ψ) = max (nesting φ) (nesting ψ)
+nesting (fwd a φ) = 1 + nesting φ
+nesting (back a φ) = nesting φ
+nesting (fwdIdle φ) = 1 + nesting φ
+nesting (backIdle φ) = nesting φ
+
+-- is no label above n?
+unfoldable pub labelled : ℕ → Formula → Bool
+labelled n top = true
+labelled n bottom = true
+labelled n (not φ) = labelled n φ
+labelled n (and φ ψ) = labelled n φ && labelled n ψ
+labelled n (or φ ψ) = labelled n φ && labelled n ψ
+labelled n (fwd a φ) = leb a n && labelled n φ
+labelled n (back a φ) = leb a n && labelled n φ
+labelled n (fwdIdle φ) = labelled n φ
+labelled n (backIdle φ) = labelled n φ
 
 module _ {S : Type 0} (M : System S) where
   -- the meaning, clause by clause as definitions 3 and 4 have it: what a reader has to believe. A forward modality speaks of the

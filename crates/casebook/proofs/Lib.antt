@@ -1,0 +1,5 @@
+pub mod Records
+pub mod RecordLaws
+pub mod Reading
+pub mod RoundTrip
+pub mod Writing

@@ -1,0 +1,56 @@
+-- The first record decides, then k, then what follows.
+use native.Mathlib.Omega.{arith}
+use mathlib.Core.Path.{sym, _∙_}
+use Rattle.casebook.proofs.Reading.{found-within, pairs-sound, pairs-refused, first-refused}
+use borrow.Author.Needs.{needs}
+use Rattle.casebook.proofs.read.read.Statement.{statement}
+use Rattle.casebook.proofs.read.read.Tie as tie
+
+next-requires : tie.Need-next-requires
+next-requires c κs = search needs
+
+enum-known-record : tie.Need-enum-known-record
+enum-known-record c = search needs
+
+shared-slice-read-k : tie.Need-shared-slice-read-k
+shared-slice-read-k c = omega (arith, found-within _ _ _ _ _ (sym (c .before .before .«record» .given .1) ∙ c .before .before .before .before .next .ensures))
+
+check-pairs-requires : tie.Need-check-pairs-requires
+check-pairs-requires c κs = search needs
+
+enum-told : tie.Need-enum-told
+enum-told c = search needs
+
+read-left-requires : tie.Need-read-left-requires
+read-left-requires c κs = search needs
+
+enum-known-refusal : tie.Need-enum-known-refusal
+enum-known-refusal c = search needs
+
+enum-known-refusal-2 : tie.Need-enum-known-refusal-2
+enum-known-refusal-2 c = search needs
+
+returns : tie.Need-returns
+returns c = pairs-sound _ _ _ (sym (c .before .before .before .before .before .before .«record» .given .1) ∙ c .before .before .before .before .before .before .before .before .next .ensures) (sym (c .before .before .before .check-pairs .ensures) ∙ c .before .enum-told .given .1) (c .read-left .ensures)
+
+returns-2 : tie.Need-returns-2
+returns-2 c = pairs-refused _ _ _ (sym (c .before .before .before .before .before .before .«record» .given .1) ∙ c .before .before .before .before .before .before .before .before .next .ensures) _ (sym (c .before .before .before .check-pairs .ensures) ∙ c .before .refusal .given .1)
+
+returns-3 : tie.Need-returns-3
+returns-3 c = first-refused _ _ (sym (c .before .refusal2 .given .1) ∙ c .before .before .before .next .ensures)
+
+pub read-spec : {M : Type 1} → statement M
+read-spec =
+    tie.close
+    (tie.spec
+    next-requires
+    enum-known-record
+    shared-slice-read-k
+    check-pairs-requires
+    enum-told
+    read-left-requires
+    enum-known-refusal
+    enum-known-refusal-2
+    returns
+    returns-2
+    returns-3)

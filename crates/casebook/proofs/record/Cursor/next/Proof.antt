@@ -1,0 +1,82 @@
+-- At each return the tests say which case of `nextAt` holds.
+use mathlib.Core.Path.{sym, _∙_, ap}
+use native.Mathlib.Omega.{arith}
+use borrow.Author.Tests.{not-true, not-false}
+use Rattle.casebook.specs.Records.{fitLength}
+use Rattle.casebook.proofs.Records.{fit-some, short-header, other-kind, misfit, short-body, found}
+use borrow.Author.Needs.{needs}
+use Rattle.casebook.proofs.record.Cursor.next.Statement.{statement}
+use Rattle.casebook.proofs.record.Cursor.next.Tie as tie
+
+returns : tie.Need-returns
+returns c = short-header _ _ _ (omega arith)
+
+sub-if2 : tie.Need-sub-if2
+sub-if2 c = search needs
+
+returns-2 : tie.Need-returns-2
+returns-2 c = short-header _ _ _ (omega arith)
+
+add-word : tie.Need-add-word
+add-word c = search needs
+
+word-requires : tie.Need-word-requires
+word-requires c κs = search needs
+
+returns-3 : tie.Need-returns-3
+returns-3 c = other-kind _ _ _ (omega arith) (λ e. c .if3 .taken (c .before .word .ensures .0 ∙ e))
+
+word-requires-2 : tie.Need-word-requires-2
+word-requires-2 c κs = search needs
+
+fits-requires : tie.Need-fits-requires
+fits-requires c κs = search needs
+
+returns-4 : tie.Need-returns-4
+returns-4 c = misfit _ _ _ (omega arith) (sym (c .before .before .before .before .word .ensures .0) ∙ c .before .before .before .if3 .left) (ap (fitLength _) (sym (c .before .before .word2 .ensures .0)) ∙ sym (c .before .fits2 .ensures) ∙ not-true _ (c .if4 .taken))
+
+sub-if5 : tie.Need-sub-if5
+sub-if5 c = search needs
+
+sub-if5-2 : tie.Need-sub-if5-2
+sub-if5-2 c = search needs
+
+returns-5 : tie.Need-returns-5
+returns-5 c = short-body _ _ _ (omega arith) (sym (c .before .before .before .before .before .word .ensures .0) ∙ c .before .before .before .before .if3 .left) (ap (fitLength _) (sym (c .before .before .before .word2 .ensures .0)) ∙ sym (c .before .before .fits2 .ensures) ∙ not-false _ (c .before .if4 .left)) (omega arith)
+
+add-start : tie.Need-add-start
+add-start c = search needs
+
+sub-t7 : tie.Need-sub-t7
+sub-t7 c = omega (arith, fit-some _ _ (sym (c .before .before .fits2 .ensures) ∙ not-false _ (c .before .if4 .left)))
+
+add-t10 : tie.Need-add-t10
+add-t10 c = search needs
+
+add-t15 : tie.Need-add-t15
+add-t15 c = search needs
+
+returns-6 : tie.Need-returns-6
+returns-6 c = found _ _ _ (omega arith) (sym (c .before .before .before .before .before .word .ensures .0) ∙ c .before .before .before .before .if3 .left) (ap (fitLength _) (sym (c .before .before .before .word2 .ensures .0)) ∙ sym (c .before .before .fits2 .ensures) ∙ not-false _ (c .before .if4 .left)) _ _ (omega arith) (omega arith) (omega arith)
+
+pub next-spec : {M : Type 1} → statement M
+next-spec =
+    tie.close
+    (tie.spec
+    returns
+    sub-if2
+    returns-2
+    add-word
+    word-requires
+    returns-3
+    word-requires-2
+    fits-requires
+    returns-4
+    sub-if5
+    sub-if5-2
+    returns-5
+    add-start
+    sub-t7
+    add-t10
+    add-t15
+    returns-6)

@@ -1,0 +1,52 @@
+-- Reading a casebook: document 01, "The casebook" and "Who can cause a refusal": "Checked record by record, in the order 1 (header), 2, 3,
+-- 1 (body), then contents from left to right."
+use Prim.Native.Nat.{ℕ}
+use mathlib.Core.List.{List}
+use lib.ListN.{length, getD}
+use lib.Dec.{ltb}
+use Rattle.labels.specs.Refusals.{refusedIf}
+use Rattle.labels.specs.Labels.{checkPairs}
+use Rattle.labels.specs.declared.refusal.Check.{Check}
+use Rattle.labels.specs.declared.refusal.Check.the-variants as check
+use Rattle.labels.specs.declared.refusal.Refusal.the-variants.{BytesAfter}
+use Rattle.tables.specs.Tables.{checkTable}
+use Rattle.machines.specs.Joints.{checkJoint}
+use Rattle.formulas.specs.Formulas.{checkFormula}
+use Rattle.casebook.specs.Records.{nextAt, bodyOf}
+use Rattle.casebook.specs.declared.record.Cursor.{Cursor}
+use Rattle.casebook.specs.declared.record.Record.{Record}
+use Rattle.casebook.specs.declared.record.Next.{Next}
+use Rattle.casebook.specs.declared.record.Next.the-variants as next
+use Rattle.casebook.specs.declared.read.Parts.{Parts}
+use Rattle.casebook.specs.declared.read.Reading.{Reading}
+use Rattle.casebook.specs.declared.read.Reading.the-variants as reading
+
+-- go on with a record and the position behind it
+abbrev pub after : Next → (Record → Cursor → Reading) → Reading
+after (next.Found r c) go = go r c
+after (next.Refused x) go = reading.Refused x
+
+-- go on if the contents are sound
+abbrev pub ifSound : Check → Reading → Reading
+ifSound check.Sound go = go
+ifSound (check.Refused x) go = reading.Refused x
+
+-- the question record, then 11: "bytes after the question record"
+unfoldable pub readQuestion : List ℕ → ℕ → Record → Record → Record → ℕ → Reading
+readQuestion s k l r j at = after (nextAt s at 5) (λ q c.
+    ifSound (checkFormula k 64 (bodyOf s q))
+    (ifSound (refusedIf (ltb (c .at) (length s)) BytesAfter)
+    (reading.Casebook (record { pairs = k; left = l; right = r; run = j; question = q }))))
+
+unfoldable pub readRun : List ℕ → ℕ → Record → Record → ℕ → Reading
+readRun s k l r at = after (nextAt s at 4) (λ j c. ifSound (checkJoint k (bodyOf s l) (bodyOf s r) (bodyOf s j)) (readQuestion s k l r j (c .at)))
+
+unfoldable pub readRight : List ℕ → ℕ → Record → ℕ → Reading
+readRight s k l at = after (nextAt s at 3) (λ r c. ifSound (checkTable k (bodyOf s r)) (readRun s k l r (c .at)))
+
+unfoldable pub readLeft : List ℕ → ℕ → ℕ → Reading
+readLeft s k at = after (nextAt s at 2) (λ l c. ifSound (checkTable k (bodyOf s l)) (readRight s k l (c .at)))
+
+-- "Five records, each once, in this order."
+unfoldable pub readOf : List ℕ → Reading
+readOf s = after (nextAt s 0 1) (λ h c. ifSound (checkPairs (getD s (h .start) 0)) (readLeft s (getD s (h .start) 0) (c .at)))

@@ -1,0 +1,16 @@
+-- What functions inside the crate promise each other. No public promise cites this file.
+use Prim.Native.Nat.{ℕ, _+_, _≤_}
+use mathlib.Core.List.{List, _++_}
+use lib.ListN.{length, drop}
+
+-- bytes written over the front of others; what is past them keeps its value
+abbrev pub over : List ℕ → List ℕ → List ℕ
+over bytes out = bytes ++ drop (length bytes) out
+
+-- parts short enough for their records, and room for all of them
+pub record Fitting (l r j q out : List ℕ) : Type 0 where
+  pub left : length l ≤ 1537
+  pub right : length r ≤ 1537
+  pub run : length j ≤ 602
+  pub question : length q ≤ 128
+  pub room : 21 + length l + length r + length j + length q ≤ length out

@@ -1,0 +1,4 @@
+// Casebooks: records, reading one whole or refusing it under one number, and writing one from its parts.
+pub mod read;
+pub mod record;
+pub mod write;

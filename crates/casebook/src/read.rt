@@ -1,0 +1,129 @@
+// Reading a casebook: where each part lies and k, or the one number of document 01's order.
+use crate::record::Cursor;
+use crate::record::Next;
+use crate::record::Record;
+use formulas::check::check_formula;
+use labels::label::Labels;
+use labels::label::check_pairs;
+use labels::refusal::Check;
+use labels::refusal::Refusal;
+use machines::joint::check_joint;
+use tables::check::check_table;
+ghost use mathlib.Core.Path.{_≡_};
+ghost use Rattle.labels.specs.declared.refusal.Check.the-variants.{Sound};
+ghost use Rattle.tables.specs.Tables.{checkTable};
+ghost use Rattle.casebook.specs.Records.{bodyOf};
+ghost use Rattle.casebook.specs.Reading.{readQuestion, readRun, readRight, readLeft, readOf};
+
+// A casebook that was read: k, and where the bodies of the four other records lie.
+pub struct Parts {
+    pub pairs: u8,
+    pub left: Record,
+    pub right: Record,
+    pub run: Record,
+    pub question: Record,
+}
+
+// What reading some bytes gives.
+pub enum Reading {
+    Casebook(Parts),
+    Refused(Refusal),
+}
+
+// Any bytes are read as a casebook whole, or refused under one number.
+pub fn read(s: &[u8]) -> Reading
+    ensures { λ r. ⌜ r ≡ readOf (now (s .entry)) ⌝ }
+{
+    match (Cursor { at: 0 }).next(s, 1) {
+        Next::Found(record, cursor) => {
+            let start = record.start;
+            let k = s[start];
+            match check_pairs(k) {
+                Check::Sound => read_left(s, k, cursor),
+                Check::Refused(refusal) => Reading::Refused(refusal),
+            }
+        }
+        Next::Refused(refusal) => Reading::Refused(refusal),
+    }
+}
+
+// The left table, and what follows it.
+fn read_left(s: &[u8], k: u8, cursor: Cursor) -> Reading
+    ensures { λ r. ⌜ r ≡ readLeft (now (s .entry)) k (cursor .at) ⌝ }
+{
+    match cursor.next(s, 2) {
+        Next::Found(left, next) => match check_table(Labels { pairs: k }, left.body(s)) {
+            Check::Sound => read_right(s, k, left, next),
+            Check::Refused(refusal) => Reading::Refused(refusal),
+        },
+        Next::Refused(refusal) => Reading::Refused(refusal),
+    }
+}
+
+// The right table, and what follows it.
+fn read_right(s: &[u8], k: u8, left: Record, cursor: Cursor) -> Reading
+    requires { ⌜ checkTable k (bodyOf (now s) left) ≡ Sound ⌝ }
+    ensures { λ r. ⌜ r ≡ readRight (now (s .entry)) k left (cursor .at) ⌝ }
+{
+    match cursor.next(s, 3) {
+        Next::Found(right, next) => match check_table(Labels { pairs: k }, right.body(s)) {
+            Check::Sound => read_run(s, k, left, right, next),
+            Check::Refused(refusal) => Reading::Refused(refusal),
+        },
+        Next::Refused(refusal) => Reading::Refused(refusal),
+    }
+}
+
+// The joint run, and what follows it.
+fn read_run(s: &[u8], k: u8, left: Record, right: Record, cursor: Cursor) -> Reading
+    requires { ⌜ (checkTable k (bodyOf (now s) left) ≡ Sound) × (checkTable k (bodyOf (now s) right) ≡ Sound) ⌝ }
+    ensures { λ r. ⌜ r ≡ readRun (now (s .entry)) k left right (cursor .at) ⌝ }
+{
+    match cursor.next(s, 4) {
+        Next::Found(run, next) => {
+            match check_joint(
+                Labels { pairs: k },
+                left.body(s),
+                right.body(s),
+                run.body(s),
+            ) {
+                Check::Sound => read_question(s, k, left, right, run, next),
+                Check::Refused(refusal) => Reading::Refused(refusal),
+            }
+        }
+        Next::Refused(refusal) => Reading::Refused(refusal),
+    }
+}
+
+// The question, and that nothing follows it.
+fn read_question(
+    s: &[u8],
+    k: u8,
+    left: Record,
+    right: Record,
+    run: Record,
+    cursor: Cursor,
+) -> Reading
+    ensures { λ r. ⌜ r ≡ readQuestion (now (s .entry)) k left right run (cursor .at) ⌝ }
+{
+    match cursor.next(s, 5) {
+        Next::Found(question, next) => {
+            match check_formula(Labels { pairs: k }, 64, question.body(s)) {
+                Check::Sound => {
+                    if next.at < s.len() {
+                        return Reading::Refused(Refusal::BytesAfter);
+                    }
+                    Reading::Casebook(Parts {
+                        pairs: k,
+                        left,
+                        right,
+                        run,
+                        question,
+                    })
+                }
+                Check::Refused(refusal) => Reading::Refused(refusal),
+            }
+        }
+        Next::Refused(refusal) => Reading::Refused(refusal),
+    }
+}

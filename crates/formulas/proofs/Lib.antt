@@ -1,0 +1,5 @@
+pub mod Nodes
+pub mod Trees
+pub mod FormulaLabels
+pub mod Measures
+pub mod Checking

@@ -1,0 +1,205 @@
+-- The measure of a tree by its first node: the second operand begins where the first one ends.
+use Prim.Native.Nat.{ℕ, zero, suc, _+_, _-_, _*_, _≤_, _<_, max}
+use mathlib.Core.Path.{_≡_, refl, sym, _∙_, ap}
+use mathlib.Core.Bool.{cond, _||_}
+use mathlib.Core.List.{List, [], _∷_, _++_}
+use mathlib.Core.Option.{some}
+use native.Mathlib.Omega.{arith}
+use lib.ListN.{length, getD, take, drop, length-drop}
+use lib.Seq.{take-all, drop-at}
+use lib.Dec.{eqb}
+use Rattle.hml.specs.Formula.{Formula, top, bottom, not, and, or, fwd, back, fwdIdle, backIdle, size, nesting}
+use Rattle.hml.specs.Spell.{spell, length-spell, parse, parse-spell}
+use Rattle.formulas.specs.Formulas.{nodeOf, operandsOf}
+use Rattle.formulas.specs.Working.{Tree, measuredAs, measureOf, operandsIn}
+use Rattle.formulas.specs.declared.tree.Measure.{Measure}
+
+-- a part from k on holds what is left behind k bytes
+pub rest-of : (k : ℕ) (l : List ℕ) → take (length l - k) (drop k l) ≡ drop k l
+rest-of k l = take-all (length l - k) (drop k l) (omega (arith, length-drop k l))
+
+-- a formula's bytes stand in front of the others
+spell-append : (φ : Formula) (xs ys : List ℕ) → spell φ (xs ++ ys) ≡ spell φ xs ++ ys
+unfolding spell
+spell-append top xs ys = refl
+spell-append bottom xs ys = refl
+spell-append (not φ) xs ys = ap (λ l. 2 ∷ 0 ∷ l) (spell-append φ xs ys)
+spell-append (and φ ψ) xs ys = ap (λ l. 3 ∷ 0 ∷ l) (ap (spell φ) (spell-append ψ xs ys) ∙ spell-append φ (spell ψ xs) ys)
+spell-append (or φ ψ) xs ys = ap (λ l. 4 ∷ 0 ∷ l) (ap (spell φ) (spell-append ψ xs ys) ∙ spell-append φ (spell ψ xs) ys)
+spell-append (fwd a φ) xs ys = ap (λ l. 5 ∷ a ∷ l) (spell-append φ xs ys)
+spell-append (back a φ) xs ys = ap (λ l. 6 ∷ a ∷ l) (spell-append φ xs ys)
+spell-append (fwdIdle φ) xs ys = ap (λ l. 7 ∷ 0 ∷ l) (spell-append φ xs ys)
+spell-append (backIdle φ) xs ys = ap (λ l. 8 ∷ 0 ∷ l) (spell-append φ xs ys)
+
+-- behind a formula's bytes stand the others
+pub spell-drop : (φ : Formula) (bs : List ℕ) → drop (2 * size φ) (spell φ bs) ≡ bs
+spell-drop φ bs = rw (spell-append φ [] bs) (drop-at (spell φ []) bs (2 * size φ) (omega (arith, length-spell φ [])))
+
+pub size-some : (φ : Formula) → 1 ≤ size φ
+unfolding size
+size-some top = omega arith
+size-some bottom = omega arith
+size-some (not φ) = omega arith
+size-some (and φ ψ) = omega arith
+size-some (or φ ψ) = omega arith
+size-some (fwd a φ) = omega arith
+size-some (back a φ) = omega arith
+size-some (fwdIdle φ) = omega arith
+size-some (backIdle φ) = omega arith
+
+-- nesting is no deeper than the tree is large
+pub nesting-size : (φ : Formula) → nesting φ ≤ size φ
+unfolding size nesting
+nesting-size top = omega arith
+nesting-size bottom = omega arith
+nesting-size (not φ) = omega (arith, nesting-size φ)
+nesting-size (and φ ψ) = omega (arith, nesting-size φ, nesting-size ψ)
+nesting-size (or φ ψ) = omega (arith, nesting-size φ, nesting-size ψ)
+nesting-size (fwd a φ) = omega (arith, nesting-size φ)
+nesting-size (back a φ) = omega (arith, nesting-size φ)
+nesting-size (fwdIdle φ) = omega (arith, nesting-size φ)
+nesting-size (backIdle φ) = omega (arith, nesting-size φ)
+
+abbrev pub made : ℕ → ℕ → Measure
+made l n = record { len = l; nesting = n }
+
+pub made-path : {a b c d : ℕ} → a ≡ b → c ≡ d → made a c ≡ made b d
+made-path e f = rw (e, f)
+
+pub measure-spell : (φ : Formula) (rest : List ℕ) → measureOf (spell φ rest) ≡ made (2 * size φ) (nesting φ)
+unfolding measureOf measuredAs
+measure-spell φ rest = rw (parse-spell φ rest)
+
+-- 1 if the first node looks forward
+abbrev pub forward : List ℕ → ℕ
+forward f = cond (eqb (getD f 0 0) 5 || eqb (getD f 0 0) 7) 1 0
+
+abbrev pub behind : List ℕ → Measure
+behind f = measureOf (drop 2 f)
+
+-- a tree by the number of its operands
+data View (f : List ℕ) : ℕ → Type 0 where
+  none : made 2 0 ≡ measureOf f → View f 0
+  one : Tree (drop 2 f) → made (2 + behind f .len) (forward f + behind f .nesting) ≡ measureOf f → View f 1
+  two : Tree (drop 2 f) → Tree (drop (behind f .len) (drop 2 f))
+      → made (2 + behind f .len + measureOf (drop (behind f .len) (drop 2 f)) .len) (max (behind f .nesting) (measureOf (drop (behind f .len) (drop 2 f)) .nesting)) ≡ measureOf f → View f 2
+
+view-leaf : (φ : Formula) (rest : List ℕ) → size φ ≡ 1 → nesting φ ≡ 0 → View (spell φ rest) 0
+view-leaf φ rest s n = none (made-path (omega (arith, s)) (sym n) ∙ sym (measure-spell φ rest))
+
+view-one : (φ ψ : Formula) (rest : List ℕ) → drop 2 (spell φ rest) ≡ spell ψ rest → size φ ≡ 1 + size ψ → forward (spell φ rest) + nesting ψ ≡ nesting φ → View (spell φ rest) 1
+unfolding Tree
+view-one φ ψ rest d s n = one (ψ, rest, d) (rw (d, measure-spell ψ rest) (made-path (omega (arith, s)) n ∙ sym (measure-spell φ rest)))
+
+view-two : (φ ψ χ : Formula) (rest : List ℕ) → drop 2 (spell φ rest) ≡ spell ψ (spell χ rest) → size φ ≡ 1 + size ψ + size χ → max (nesting ψ) (nesting χ) ≡ nesting φ → View (spell φ rest) 2
+unfolding Tree
+view-two φ ψ χ rest d s n =
+    two (ψ, spell χ rest, d)
+    (rw (d, measure-spell ψ (spell χ rest)) (χ, rest, spell-drop ψ (spell χ rest)))
+    (rw (d, measure-spell ψ (spell χ rest), spell-drop ψ (spell χ rest), measure-spell χ rest) (made-path (omega (arith, s)) n ∙ sym (measure-spell φ rest)))
+
+view-spell : (φ : Formula) (rest : List ℕ) → View (spell φ rest) (operandsIn (nodeOf (getD (spell φ rest) 0 0) (getD (spell φ rest) 1 0)))
+unfolding spell nodeOf operandsOf size nesting
+view-spell top rest = view-leaf top rest refl refl
+view-spell bottom rest = view-leaf bottom rest refl refl
+view-spell (not φ) rest = view-one (not φ) φ rest refl refl (omega arith)
+view-spell (and φ ψ) rest = view-two (and φ ψ) φ ψ rest refl refl refl
+view-spell (or φ ψ) rest = view-two (or φ ψ) φ ψ rest refl refl refl
+view-spell (fwd a φ) rest = view-one (fwd a φ) φ rest refl refl refl
+view-spell (back a φ) rest = view-one (back a φ) φ rest refl refl (omega arith)
+view-spell (fwdIdle φ) rest = view-one (fwdIdle φ) φ rest refl refl refl
+view-spell (backIdle φ) rest = view-one (backIdle φ) φ rest refl refl (omega arith)
+
+-- the number of operands of the first node
+abbrev pub operands : List ℕ → ℕ
+operands f = operandsIn (nodeOf (getD f 0 0) (getD f 1 0))
+
+view : (f : List ℕ) → Tree f → View f (operands f)
+unfolding Tree
+view f (φ, rest, e) = rw e (view-spell φ rest)
+
+module _ (f : List ℕ) (tree : Tree f) where
+  -- a tree has room for its bytes
+  pub tree-room : (2 ≤ length f) × (measureOf f .len ≤ length f) × (measureOf f .nesting ≤ measureOf f .len)
+  unfolding Tree
+  tree-room = let (φ, rest, e) = tree in rw (e, measure-spell φ rest) (omega (arith, length-spell φ rest, size-some φ, nesting-size φ))
+
+  pub leaf-measure : operands f ≡ 0 → made 2 0 ≡ measureOf f
+  leaf-measure e = go (view f tree) e
+    where
+      go : {n : ℕ} → View f n → n ≡ 0 → made 2 0 ≡ measureOf f
+      go (none m) e = m
+      go (one t m) e = absurd (omega (arith, e))
+      go (two t u m) e = absurd (omega (arith, e))
+
+  pub first-operand : (operands f ≡ 0 → ⊥) → Tree (drop 2 f)
+  first-operand n = go (view f tree) n
+    where
+      go : {n : ℕ} → View f n → (n ≡ 0 → ⊥) → Tree (drop 2 f)
+      go (none m) n = absurd (n refl)
+      go (one t m) n = t
+      go (two t u m) n = t
+
+  pub one-measure : operands f ≡ 1 → made (2 + behind f .len) (forward f + behind f .nesting) ≡ measureOf f
+  one-measure e = go (view f tree) e
+    where
+      go : {n : ℕ} → View f n → n ≡ 1 → made (2 + behind f .len) (forward f + behind f .nesting) ≡ measureOf f
+      go (none m) e = absurd (omega (arith, e))
+      go (one t m) e = m
+      go (two t u m) e = absurd (omega (arith, e))
+
+  module _ (n0 : operands f ≡ 0 → ⊥) (n1 : operands f ≡ 1 → ⊥) where
+    pub second-operand : Tree (drop (behind f .len) (drop 2 f))
+    second-operand = go (view f tree) n0 n1
+      where
+        go : {n : ℕ} → View f n → (n ≡ 0 → ⊥) → (n ≡ 1 → ⊥) → Tree (drop (behind f .len) (drop 2 f))
+        go (none m) n0 n1 = absurd (n0 refl)
+        go (one t m) n0 n1 = absurd (n1 refl)
+        go (two t u m) n0 n1 = u
+
+    pub two-measure : made (2 + behind f .len + measureOf (drop (behind f .len) (drop 2 f)) .len) (max (behind f .nesting) (measureOf (drop (behind f .len) (drop 2 f)) .nesting)) ≡ measureOf f
+    two-measure = go (view f tree) n0 n1
+      where
+        go : {n : ℕ} → View f n → (n ≡ 0 → ⊥) → (n ≡ 1 → ⊥)
+            → made (2 + behind f .len + measureOf (drop (behind f .len) (drop 2 f)) .len) (max (behind f .nesting) (measureOf (drop (behind f .len) (drop 2 f)) .nesting)) ≡ measureOf f
+        go (none m) n0 n1 = absurd (n0 refl)
+        go (one t m) n0 n1 = absurd (n1 refl)
+        go (two t u m) n0 n1 = m
+
+-- the same over the parts that the code passes on: the body behind the first node, and what is behind the first operand in it
+abbrev pub body : List ℕ → List ℕ
+body f = take (length f - 2) (drop 2 f)
+
+abbrev pub later : List ℕ → ℕ → List ℕ
+later b n = take (length b - n) (drop n b)
+
+module _ (f : List ℕ) (tree : Tree f) where
+  pub body-tree : (operands f ≡ 0 → ⊥) → Tree (body f)
+  body-tree n = rw (rest-of 2 f) (first-operand f tree n)
+
+  pub one-made : (m : Measure) (d : ℕ) → m ≡ measureOf (body f) → d ≡ forward f → operands f ≡ 1 → made (2 + m .len) (d + m .nesting) ≡ measureOf f
+  one-made m d e g o = rw (e ∙ ap measureOf (rest-of 2 f), g) (one-measure f tree o)
+
+  module _ (m : Measure) (e : m ≡ measureOf (body f)) where
+    same-behind : m ≡ behind f
+    same-behind = e ∙ ap measureOf (rest-of 2 f)
+
+    pub body-room : (operands f ≡ 0 → ⊥) → (m .len ≤ length (body f)) × (m .nesting ≤ m .len)
+    body-room n = let r = tree-room (body f) (body-tree n) in rw e (r .1, r .2)
+
+    same-later : later (body f) (m .len) ≡ drop (behind f .len) (drop 2 f)
+    same-later = rest-of (m .len) (body f) ∙ ap (drop (m .len)) (rest-of 2 f) ∙ ap (λ (x : Measure). drop (x .len) (drop 2 f)) same-behind
+
+    module _ (n0 : operands f ≡ 0 → ⊥) (n1 : operands f ≡ 1 → ⊥) where
+      pub later-tree : Tree (later (body f) (m .len))
+      later-tree = rw same-later (second-operand f tree n0 n1)
+
+      module _ (w : Measure) (q : w ≡ measureOf (later (body f) (m .len))) where
+        pub later-room : 2 + m .len + w .len ≤ length f
+        later-room =
+            let whole = two-measure f tree n0 n1 in
+            let z : 2 + m .len + w .len ≡ measureOf f .len = rw (q ∙ ap measureOf same-later, same-behind) (ap (λ (x : Measure). x .len) whole) in
+            omega (arith, z, tree-room f tree .1)
+
+        pub two-made : (x : ℕ) → x ≡ max (m .nesting) (w .nesting) → made (2 + m .len + w .len) x ≡ measureOf f
+        two-made x g = rw (g, q ∙ ap measureOf same-later, same-behind) (two-measure f tree n0 n1)

@@ -1,0 +1,65 @@
+-- At each return the tests say which case of `checkFormula` holds.
+use mathlib.Core.Path.{sym, _∙_}
+use native.Mathlib.Omega.{arith}
+use borrow.Author.Tests.{not-true, not-false}
+use Rattle.formulas.proofs.Checking.{over-limit, no-formula, no-tree, more-than-tree, one-tree, tree-of, label-refused, nested-refused, formula-sound}
+use borrow.Author.Needs.{needs}
+use Rattle.formulas.proofs.check.check_formula.Statement.{statement}
+use Rattle.formulas.proofs.check.check_formula.Tie as tie
+
+returns : tie.Need-returns
+returns c = over-limit _ _ _ (c .if1 .taken)
+
+tree-end-requires : tie.Need-tree-end-requires
+tree-end-requires c κs = search needs
+
+enum-known-end : tie.Need-enum-known-end
+enum-known-end c = search needs
+
+returns-2 : tie.Need-returns-2
+returns-2 c = no-formula _ _ _ (more-than-tree _ _ (sym (c .before .before .end .given .1) ∙ c .before .before .before .before .tree-end .ensures) (c .if2 .taken))
+
+enum-told : tie.Need-enum-told
+enum-told c = search needs
+
+returns-3 : tie.Need-returns-3
+returns-3 c = no-formula _ _ _ (no-tree _ (sym (c .enum-told .given .1) ∙ c .before .before .tree-end .ensures))
+
+labels-fit-requires : tie.Need-labels-fit-requires
+labels-fit-requires c κs = search needs
+
+returns-4 : tie.Need-returns-4
+returns-4 c =
+    let t = one-tree _ _ (sym (c .before .before .before .before .end .given .1) ∙ c .before .before .before .before .before .before .tree-end .ensures) (c .before .before .if2 .left) in
+    label-refused _ _ _ (t .0) (t .1) (c .before .before .before .before .before .before .before .if1 .left) (sym (c .before .labels-fit .ensures) ∙ not-true _ (c .if3 .taken))
+
+measured-requires : tie.Need-measured-requires
+measured-requires c κs =
+    let t = one-tree _ _ (sym (c .before .before .before .before .end .given .1) ∙ c .before .before .before .before .before .before .tree-end .ensures) (c .before .before .if2 .left) in
+    tree-of _ (t .0) (t .1)
+
+returns-5 : tie.Need-returns-5
+returns-5 c =
+    let t = one-tree _ _ (sym (c .before .before .before .before .before .before .before .end .given .1) ∙ c .before .before .before .before .before .before .before .before .before .tree-end .ensures) (c .before .before .before .before .before .if2 .left) in
+    nested-refused _ _ _ (t .0) (t .1) (c .before .before .before .before .before .before .before .before .before .before .if1 .left) (sym (c .before .before .before .before .labels-fit .ensures) ∙ not-false _ (c .before .before .before .if3 .left)) _ (c .before .before .measured .ensures) (c .if4 .taken)
+
+returns-6 : tie.Need-returns-6
+returns-6 c =
+    let t = one-tree _ _ (sym (c .before .before .before .before .before .before .before .end .given .1) ∙ c .before .before .before .before .before .before .before .before .before .tree-end .ensures) (c .before .before .before .before .before .if2 .left) in
+    formula-sound _ _ _ (t .0) (t .1) (c .before .before .before .before .before .before .before .before .before .before .if1 .left) (sym (c .before .before .before .before .labels-fit .ensures) ∙ not-false _ (c .before .before .before .if3 .left)) _ (c .before .before .measured .ensures) (c .if4 .left)
+
+pub check-formula-spec : {M : Type 1} → statement M
+check-formula-spec =
+    tie.close
+    (tie.spec
+    returns
+    tree-end-requires
+    enum-known-end
+    returns-2
+    enum-told
+    returns-3
+    labels-fit-requires
+    returns-4
+    measured-requires
+    returns-5
+    returns-6)

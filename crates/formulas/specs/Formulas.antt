@@ -1,0 +1,66 @@
+-- Formulas as bytes: document 01, "Questions and verdicts", and the numbers 9 and 10.
+-- "A question is a tree in prefix order, two bytes a node: operator, then label (0 where the operator has none)."
+use Prim.Native.Nat.{ℕ, _*_, _≤_}
+use mathlib.Core.Path.{_≡_}
+use mathlib.Core.Bool.{Bool, true, not, _&&_}
+use mathlib.Core.List.{List, [], _∷_}
+use mathlib.Core.Option.{Option, none, some}
+use lib.ListN.{length}
+use lib.Dec.{leb}
+use Rattle.hml.specs.Lists.{present}
+use Rattle.hml.specs.Formula.{Formula, size, nesting, labelled}
+use Rattle.hml.specs.Spell.{Shape, leaf, unary, binary, bad, shape, spell, parse}
+use Rattle.hml.specs.Labels.{count}
+use Rattle.labels.specs.Refusals.{refusedIf, firstOf}
+use Rattle.labels.specs.declared.refusal.Check.{Check}
+use Rattle.labels.specs.declared.refusal.Refusal.the-variants.{NotATree, NestedTooDeep}
+use Rattle.formulas.specs.declared.node.Node.{Node}
+use Rattle.formulas.specs.declared.node.Node.the-variants as node
+use Rattle.formulas.specs.declared.tree.TreeEnd.{TreeEnd}
+use Rattle.formulas.specs.declared.tree.TreeEnd.the-variants as end
+
+-- how many operands a node has: the theory's table of operators (Spell) says so, and that a label byte is 0 where the operator has
+-- no label
+unfoldable pub operandsOf : Shape → Node
+operandsOf (leaf φ) = node.Operands 0
+operandsOf (unary f) = node.Operands 1
+operandsOf (binary f) = node.Operands 2
+operandsOf bad = node.Bad
+
+unfoldable pub nodeOf : ℕ → ℕ → Node
+nodeOf o a = operandsOf (shape o a)
+
+-- where the first tree of the bytes ends, if there is one: two bytes a node behind its start
+unfoldable pub endOf : Option (Formula × List ℕ) → TreeEnd
+endOf none = end.Nowhere
+endOf (some t) = end.At (2 * size (t .0))
+
+unfoldable pub treeEnd : List ℕ → TreeEnd
+treeEnd f = endOf (parse f)
+
+-- the reading: the tree that the bytes spell, if they are one whole tree
+unfoldable pub wholeOf : Option (Formula × List ℕ) → Option Formula
+wholeOf none = none
+wholeOf (some (φ, [])) = some φ
+wholeOf (some (φ, b ∷ bytes)) = none
+
+unfoldable pub formulaOf : List ℕ → Option Formula
+formulaOf f = wholeOf (parse f)
+
+-- what it is for bytes to be a formula of a call: they spell one tree, of at most `limit` nodes, whose labels are those of k pairs and
+-- whose forward modalities nest at most 4 deep
+unfoldable pub Legal : ℕ → ℕ → List ℕ → Type 0
+Legal k limit f = (φ : Formula) × (f ≡ spell φ []) × (size φ ≤ limit) × (labelled (count k) φ ≡ true) × (nesting φ ≤ 4)
+
+-- the same as two tests. 9: "formula not one whole tree, operator over 8, label over 2k, or a label byte set where none belongs", "9 also for an unfit
+-- length or over the node limit"
+unfoldable pub isFormula : ℕ → ℕ → List ℕ → Bool
+isFormula k limit f = leb (length f) (2 * limit) && present (labelled (count k)) (formulaOf f)
+
+-- 10: "forward nesting over 4"
+unfoldable pub nestsFit : List ℕ → Bool
+nestsFit f = present (λ φ. leb (nesting φ) 4) (formulaOf f)
+
+-- "10: .. after 9"
+unfoldable pub checkFormula : ℕ → ℕ → List ℕ → Check
+checkFormula k limit f = firstOf (refusedIf (not (isFormula k limit f)) NotATree ∷ refusedIf (not (nestsFit f)) NestedTooDeep ∷ [])

@@ -1,0 +1,4 @@
+// Formulas as bytes in prefix order: document 01, "Questions and verdicts".
+pub mod check;
+pub mod node;
+pub mod tree;
