@@ -29,6 +29,7 @@ use Rattle.casebook.specs.declared.read.Parts.{Parts}
 use Rattle.casebook.specs.declared.read.Reading.{Reading}
 use Rattle.casebook.specs.declared.read.Reading.the-variants as reading
 use Rattle.casebook.specs.declared.write.Writing.the-variants as writing
+use Rattle.casebook.proofs.Reading.{found-within}
 use Rattle.casebook.proofs.RecordLaws.{Bytes, placed, behind, next-record, record-next, record-length, header-fits, first-byte, single, table-fits, joint-fits, question-fits}
 
 -- parts of which each is sound by itself
@@ -222,3 +223,22 @@ accepted-exactly s b = (λ (p, e). (p .pairs, bodyOf s (p .left), bodyOf s (p .r
   where
     from : (k : ℕ) × (l : List ℕ) × (r : List ℕ) × (j : List ℕ) × (q : List ℕ) × (checkParts k l r j q ≡ Sound) × (s ≡ casebookBytes k l r j q) → (p : Parts) × (readOf s ≡ reading.Casebook p)
     from (k, l, r, j, q, e, z) = let t = read-written k l r j q e in (t .0, rw z (t .1))
+
+-- a casebook that was read is short, and its records lie in it
+pub record Placing (s : List ℕ) (p : Parts) : Type 0 where
+  pub short : length s ≤ 3825
+  pub left : p .left .start + p .left .len ≤ length s
+  pub right : p .right .start + p .right .len ≤ length s
+  pub run : p .run .start + p .run .len ≤ length s
+  pub question : p .question .start + p .question .len ≤ length s
+
+pub placing : (s : List ℕ) → Bytes s → (p : Parts) → readOf s ≡ reading.Casebook p → Placing s p
+placing s bytes p e =
+    let w = read-chain s p e in
+    record {
+      short = omega (arith, casebook-short _ _ _ _ _ (read-sound s p e), ap length (written-read s bytes p e));
+      left = found-within s (w .c1 .at) 2 (p .left) (w .c2) (sym (w .second)) .0;
+      right = found-within s (w .c2 .at) 3 (p .right) (w .c3) (sym (w .third)) .0;
+      run = found-within s (w .c3 .at) 4 (p .run) (w .c4) (sym (w .fourth)) .0;
+      question = found-within s (w .c4 .at) 5 (p .question) (w .c5) (sym (w .fifth)) .0;
+    }

@@ -1,0 +1,56 @@
+-- The answers of the C boundary: one number, the refusal's number times 2^32, plus the value (0 when refused).
+use Prim.Native.Nat.{ℕ, _+_, _*_}
+use mathlib.Core.Bool.{cond}
+use mathlib.Core.List.{List}
+use lib.ListN.{length}
+use lib.Dec.{eqb}
+use Rattle.labels.specs.Refusals.{numberOf}
+use Rattle.labels.specs.declared.refusal.Refusal.{Refusal}
+use Rattle.labels.specs.declared.refusal.Refusal.the-variants.{PointBeyond}
+use Rattle.halves.specs.Cuts.{beyond, cutOf, knownOf, knownHalf}
+use Rattle.halves.specs.declared.side.Side.{Side}
+use Rattle.halves.specs.declared.side.Side.the-variants as side
+use Rattle.casebook.specs.declared.record.Record.{Record}
+use Rattle.casebook.specs.declared.read.Parts.{Parts}
+use Rattle.casebook.specs.declared.read.Reading.{Reading}
+use Rattle.casebook.specs.declared.read.Reading.the-variants as reading
+use Rattle.casebook.specs.declared.write.Writing.{Writing}
+use Rattle.casebook.specs.declared.write.Writing.the-variants as writing
+
+unfoldable pub refusedAs : Refusal → ℕ
+refusedAs x = numberOf x * 4294967296
+
+-- a casebook that was read: value 0
+unfoldable pub readAnswer : Reading → ℕ
+readAnswer (reading.Casebook p) = 0
+readAnswer (reading.Refused x) = refusedAs x
+
+-- where the body of a record lies: start * 65536 + length
+unfoldable pub placeOf : Record → ℕ
+placeOf r = r .start * 65536 + r .len
+
+-- the record of a kind: the first has k alone, behind its header of four bytes; for a kind outside 1 to 5 the value is 0
+unfoldable pub placeIn : Parts → ℕ → ℕ
+placeIn p kind =
+    cond (eqb kind 1) (4 * 65536 + 1)
+    (cond (eqb kind 2) (placeOf (p .left))
+    (cond (eqb kind 3) (placeOf (p .right))
+    (cond (eqb kind 4) (placeOf (p .run))
+    (cond (eqb kind 5) (placeOf (p .question)) 0))))
+
+unfoldable pub partAnswer : Reading → ℕ → ℕ
+partAnswer (reading.Casebook p) kind = placeIn p kind
+partAnswer (reading.Refused x) kind = refusedAs x
+
+-- a casebook that was written: value bytes written
+unfoldable pub writeAnswer : Writing → ℕ
+writeAnswer (writing.Written n) = n
+writeAnswer (writing.Refused x) = refusedAs x
+
+-- 1 names the left side, 2 the right, anything else none
+unfoldable pub sideOf : ℕ → Side
+sideOf b = cond (eqb b 1) side.Left (cond (eqb b 2) side.Right side.Unnamed)
+
+-- a cut: value length of the part, or 12
+unfoldable pub cutAnswer : List ℕ → List ℕ → ℕ → ℕ → ℕ
+cutAnswer l r b point = cond (beyond (knownHalf l r (knownOf (sideOf b))) point) (refusedAs PointBeyond) (length (cutOf l r (sideOf b) point))

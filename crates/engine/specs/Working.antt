@@ -1,0 +1,10 @@
+-- What functions inside the crate promise each other. No public promise cites this file.
+use Prim.Native.Nat.{_+_, _≤_}
+use Rattle.casebook.specs.declared.read.Parts.{Parts}
+
+-- records that lie in a sound casebook
+pub record Placed (p : Parts) : Type 0 where
+  pub left : p .left .start + p .left .len ≤ 3825
+  pub right : p .right .start + p .right .len ≤ 3825
+  pub run : p .run .start + p .run .len ≤ 3825
+  pub question : p .question .start + p .question .len ≤ 3825

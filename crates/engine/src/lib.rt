@@ -1,0 +1,122 @@
+// The calls for C and Rust: numbers as themselves, slices as pointer and length. Each answers one number: the refusal's number
+// times 2^32, plus the value (0 when refused).
+use casebook::read::Parts;
+use casebook::read::Reading;
+use casebook::read::read;
+use casebook::record::Record;
+use casebook::write::Writing;
+use casebook::write::write;
+use halves::side::Side;
+use halves::side::cut;
+use labels::refusal::Refusal;
+ghost use mathlib.Core.Path.{_≡_};
+ghost use Prim.Native.Nat.{_+_, _≤_};
+ghost use lib.ListN.{length};
+ghost use Rattle.casebook.specs.Reading.{readOf};
+ghost use Rattle.casebook.specs.Writing.{writeOf, writtenOf};
+ghost use Rattle.engine.specs.Answers.{refusedAs, readAnswer, placeOf, placeIn, partAnswer, writeAnswer, sideOf, cutAnswer};
+ghost use Rattle.engine.specs.Working.{Placed};
+
+fn refused(refusal: Refusal) -> u64
+    ensures { λ r. ⌜ r ≡ refusedAs refusal ⌝ }
+{
+    let number = refusal.number();
+    number as u64 * 4294967296
+}
+
+// Reads a casebook: value 0.
+#[no_mangle]
+pub extern "C" fn yenuslap_casebook_read(bytes: &[u8]) -> u64
+    ensures { λ r. ⌜ r ≡ readAnswer (readOf (now (bytes .entry))) ⌝ }
+{
+    match read(bytes) {
+        Reading::Casebook(_) => 0,
+        Reading::Refused(refusal) => refused(refusal),
+    }
+}
+
+// Where the body of the record of a kind lies: value start * 65536 + length.
+#[no_mangle]
+pub extern "C" fn yenuslap_casebook_part(bytes: &[u8], kind: u8) -> u64
+    ensures { λ r. ⌜ r ≡ partAnswer (readOf (now (bytes .entry))) kind ⌝ }
+{
+    match read(bytes) {
+        Reading::Casebook(parts) => place_in(parts, kind),
+        Reading::Refused(refusal) => refused(refusal),
+    }
+}
+
+fn place_in(parts: Parts, kind: u8) -> u64
+    requires { ⌜ Placed parts ⌝ }
+    ensures { λ r. ⌜ r ≡ placeIn parts kind ⌝ }
+{
+    if kind == 1 {
+        return 262145;
+    }
+    if kind == 2 {
+        return place(parts.left);
+    }
+    if kind == 3 {
+        return place(parts.right);
+    }
+    if kind == 4 {
+        return place(parts.run);
+    }
+    if kind == 5 {
+        return place(parts.question);
+    }
+    0
+}
+
+fn place(record: Record) -> u64
+    requires { ⌜ «record» .start + «record» .len ≤ 3825 ⌝ }
+    ensures { λ r. ⌜ r ≡ placeOf «record» ⌝ }
+{
+    let start = record.start;
+    let len = record.len;
+    start as u64 * 65536 + len as u64
+}
+
+// Writes the casebook of these parts: value bytes written.
+#[no_mangle]
+pub extern "C" fn yenuslap_casebook_write(
+    k: u8,
+    left: &[u8],
+    right: &[u8],
+    run: &[u8],
+    question: &[u8],
+    out: &mut [u8],
+) -> u64
+    ensures { λ r. ⌜ r ≡ writeAnswer (writeOf k (now (left .entry)) (now (right .entry)) (now (run .entry)) (now (question .entry)) (length (now (out .entry)))) ⌝ }
+    ensures { λ r. ⌜ now (out .exit) ≡ writtenOf k (now (left .entry)) (now (right .entry)) (now (run .entry)) (now (question .entry)) (now (out .entry)) ⌝ }
+{
+    match write(k, left, right, run, question, out) {
+        Writing::Written(n) => n as u64,
+        Writing::Refused(refusal) => refused(refusal),
+    }
+}
+
+// The side that a byte names.
+fn side_of(side: u8) -> Side
+    ensures { λ r. ⌜ r ≡ sideOf side ⌝ }
+{
+    if side == 1 {
+        return Side::Left;
+    }
+    if side == 2 {
+        return Side::Right;
+    }
+    Side::Unnamed
+}
+
+// Cuts the known half at a point: value length of the part.
+#[no_mangle]
+pub extern "C" fn yenuslap_cut<'a>(left: &'a [u8], right: &'a [u8], side: u8, point: usize) -> u64
+    ensures { λ r. ⌜ r ≡ cutAnswer (now (left .entry)) (now (right .entry)) side point ⌝ }
+{
+    let part = cut(left, right, side_of(side), point);
+    if part.len() == 0 {
+        return refused(Refusal::PointBeyond);
+    }
+    part.len() as u64
+}

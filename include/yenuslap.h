@@ -1,0 +1,55 @@
+/* Calls into the proved engine (libengine.a).
+ *
+ * Each call returns one number: the refusal's number of document 01 times 2^32 (0 if not refused),
+ * plus the value, which is 0 when refused. Bytes are lent as a pointer and a length; a pointer is
+ * never null, also where the length is 0, and `out` overlaps nothing else that is lent. A table is
+ * n and its rows, a joint run two start states and its steps, a half run its state and its steps,
+ * a question its nodes: each the body of its casebook record. No call keeps a pointer.
+ */
+#ifndef YENUSLAP_H
+#define YENUSLAP_H
+
+#include <stddef.h>
+#include <stdint.h>
+
+#ifdef __cplusplus
+extern "C" {
+#endif
+
+/* The refusal's number in an answer, 0 if there is none. */
+#define YENUSLAP_REFUSAL(answer) ((uint32_t)((uint64_t)(answer) >> 32))
+/* The value in an answer. */
+#define YENUSLAP_VALUE(answer) ((uint32_t)(answer))
+
+/* The known side; every other byte names none, and the right is taken. */
+#define YENUSLAP_LEFT 1
+#define YENUSLAP_RIGHT 2
+
+/* Reads a casebook: value 0, or refused 1 to 11; the lent bytes are only read. */
+uint64_t yenuslap_casebook_read(const uint8_t *bytes, size_t bytes_len);
+
+/* Says where the body of the record of a kind lies: value start * 65536 + length (0 for a kind
+ * outside 1 to 5), or refused 1 to 11 as by yenuslap_casebook_read; the lent bytes are only read. */
+uint64_t yenuslap_casebook_part(const uint8_t *bytes, size_t bytes_len, uint8_t kind);
+
+/* Writes the casebook of these parts into out: value bytes written, or refused 4; 3, 5 to 7 (left,
+ * then right); 3, 8 (run); 9, 10 (question); 18 last; when refused no byte of out changes, after an
+ * answer the bytes of out past it keep their values, and the parts are only read. */
+uint64_t yenuslap_casebook_write(uint8_t k,
+                                 const uint8_t *left, size_t left_len,
+                                 const uint8_t *right, size_t right_len,
+                                 const uint8_t *run, size_t run_len,
+                                 const uint8_t *question, size_t question_len,
+                                 uint8_t *out, size_t out_len);
+
+/* Cuts the known half at a point: value length of the part, which is that half's beginning, or
+ * refused 12; it looks at the known half alone, and the lent bytes are only read. */
+uint64_t yenuslap_cut(const uint8_t *left_half, size_t left_half_len,
+                      const uint8_t *right_half, size_t right_half_len,
+                      uint8_t side, size_t point);
+
+#ifdef __cplusplus
+}
+#endif
+
+#endif

@@ -1,0 +1,180 @@
+//! Formulas as trees, read from two bytes a node in prefix order.
+
+use crate::label::highest;
+use crate::Refusal;
+
+/// The largest number of nodes of a question.
+pub const QUESTION_NODES: usize = 64;
+/// The largest number of nodes of a quotient, and so of a formula given to a verdict.
+pub const QUOTIENT_NODES: usize = 4096;
+/// How deep forward modalities may nest.
+pub const MOST_NESTING: usize = 4;
+
+/// A formula.
+#[derive(Clone, PartialEq, Eq, Debug)]
+pub enum Formula {
+    True,
+    False,
+    Not(Box<Formula>),
+    And(Box<Formula>, Box<Formula>),
+    Or(Box<Formula>, Box<Formula>),
+    Forward(u8, Box<Formula>),
+    Back(u8, Box<Formula>),
+    ForwardIdle(Box<Formula>),
+    BackIdle(Box<Formula>),
+}
+
+/// Whether a question's record may have this length (kind and body counted).
+pub fn fits(length: usize) -> bool {
+    (4..=130).contains(&length) && length.is_multiple_of(2)
+}
+
+/// Reads a formula of at most `most_nodes` nodes: 9 over the whole of it, then 10.
+pub fn read_formula(bytes: &[u8], k: u8, most_nodes: usize) -> Result<Formula, Refusal> {
+    // Judged before the tree is read, so that the reading recurses no deeper than the limit.
+    if !bytes.len().is_multiple_of(2) || bytes.len() / 2 > most_nodes {
+        return Err(9);
+    }
+    let (formula, rest) = first_tree(bytes, k).ok_or(9)?;
+    if !rest.is_empty() {
+        return Err(9);
+    }
+    if formula.nesting() > MOST_NESTING {
+        return Err(10);
+    }
+    Ok(formula)
+}
+
+/// The tree at the front of the bytes and what follows it, or nothing if there is no sound tree.
+fn first_tree(bytes: &[u8], k: u8) -> Option<(Formula, &[u8])> {
+    let operator = *bytes.first()?;
+    let label = *bytes.get(1)?;
+    let rest = &bytes[2..];
+    let label_fits = match operator {
+        5 | 6 => label <= highest(k),
+        _ => label == 0,
+    };
+    if !label_fits {
+        return None;
+    }
+    match operator {
+        0 => Some((Formula::True, rest)),
+        1 => Some((Formula::False, rest)),
+        2 => one_operand(rest, k, Formula::Not),
+        3 => two_operands(rest, k, Formula::And),
+        4 => two_operands(rest, k, Formula::Or),
+        5 => one_operand(rest, k, |operand| Formula::Forward(label, operand)),
+        6 => one_operand(rest, k, |operand| Formula::Back(label, operand)),
+        7 => one_operand(rest, k, Formula::ForwardIdle),
+        8 => one_operand(rest, k, Formula::BackIdle),
+        _ => None,
+    }
+}
+
+/// Reads the operand of an operator with one.
+fn one_operand(
+    bytes: &[u8],
+    k: u8,
+    build: impl Fn(Box<Formula>) -> Formula,
+) -> Option<(Formula, &[u8])> {
+    let (operand, rest) = first_tree(bytes, k)?;
+    Some((build(Box::new(operand)), rest))
+}
+
+/// Reads the operands of an operator with two; the second begins where the first one ends.
+fn two_operands(
+    bytes: &[u8],
+    k: u8,
+    build: impl Fn(Box<Formula>, Box<Formula>) -> Formula,
+) -> Option<(Formula, &[u8])> {
+    let (first, rest) = first_tree(bytes, k)?;
+    let (second, rest) = first_tree(rest, k)?;
+    Some((build(Box::new(first), Box::new(second)), rest))
+}
+
+impl Formula {
+    /// How deep forward modalities nest, along the deepest branch.
+    pub fn nesting(&self) -> usize {
+        match self {
+            Formula::True | Formula::False => 0,
+            Formula::Not(a) | Formula::Back(_, a) | Formula::BackIdle(a) => a.nesting(),
+            Formula::And(a, b) | Formula::Or(a, b) => a.nesting().max(b.nesting()),
+            Formula::Forward(_, a) | Formula::ForwardIdle(a) => 1 + a.nesting(),
+        }
+    }
+
+    /// The operator's number, its label byte and its operands.
+    fn node(&self) -> (u8, u8, Vec<&Formula>) {
+        match self {
+            Formula::True => (0, 0, vec![]),
+            Formula::False => (1, 0, vec![]),
+            Formula::Not(a) => (2, 0, vec![a]),
+            Formula::And(a, b) => (3, 0, vec![a, b]),
+            Formula::Or(a, b) => (4, 0, vec![a, b]),
+            Formula::Forward(label, a) => (5, *label, vec![a]),
+            Formula::Back(label, a) => (6, *label, vec![a]),
+            Formula::ForwardIdle(a) => (7, 0, vec![a]),
+            Formula::BackIdle(a) => (8, 0, vec![a]),
+        }
+    }
+
+    /// The formula in prefix order, two bytes a node.
+    pub fn to_bytes(&self) -> Vec<u8> {
+        let (operator, label, operands) = self.node();
+        let mut bytes = vec![operator, label];
+        for operand in operands {
+            bytes.extend(operand.to_bytes());
+        }
+        bytes
+    }
+}
+
+#[cfg(test)]
+mod tests {
+    use super::*;
+
+    /// `count` times "not", then true.
+    fn chain(count: usize) -> Vec<u8> {
+        let mut bytes = [2, 0].repeat(count);
+        bytes.extend([0, 0]);
+        bytes
+    }
+
+    /// Exactly as many nodes as the limit are fine, one more is 9, and so is none.
+    fn limit_holds(limit: usize) {
+        assert!(read_formula(&chain(limit - 1), 0, limit).is_ok());
+        assert_eq!(read_formula(&chain(limit), 0, limit), Err(9));
+        assert_eq!(read_formula(&[], 0, limit), Err(9));
+    }
+
+    /// The node limit is the caller's.
+    #[test]
+    fn node_limit_is_a_parameter() {
+        for limit in [1, 2, QUESTION_NODES] {
+            limit_holds(limit);
+        }
+        // An unoptimized build needs more stack than a test has for a chain of 4,096 nodes.
+        let roomy = std::thread::Builder::new().stack_size(64 << 20);
+        let deep = roomy.spawn(|| limit_holds(QUOTIENT_NODES)).unwrap();
+        assert!(deep.join().is_ok());
+    }
+
+    /// Nesting is counted along one branch, not across two operands.
+    #[test]
+    fn nesting_goes_by_branch() {
+        let four = [[5u8, 0].repeat(4), vec![0, 0]].concat();
+        let both = [vec![3, 0], four.clone(), four.clone()].concat();
+        assert!(read_formula(&both, 0, QUESTION_NODES).is_ok());
+        let five = [vec![7, 0], four].concat();
+        assert_eq!(read_formula(&five, 0, QUESTION_NODES), Err(10));
+    }
+
+    /// A tree that was read spells the bytes it was read from.
+    #[test]
+    fn bytes_and_tree_agree() {
+        let bytes = [3, 0, 4, 0, 0, 0, 6, 2, 1, 0, 8, 0, 2, 0, 0, 0];
+        let formula = read_formula(&bytes, 1, QUESTION_NODES).unwrap();
+        assert_eq!(formula.to_bytes(), bytes);
+        assert_eq!(read_formula(&bytes, 0, QUESTION_NODES), Err(9));
+    }
+}

@@ -1,0 +1,13 @@
+//! A plain implementation of its own, written from document 01 alone, to compare the engine with.
+
+pub mod casebook;
+pub mod cut;
+pub mod formula;
+pub mod generate;
+pub mod label;
+pub mod random;
+pub mod run;
+pub mod table;
+
+/// A refusal is its number only.
+pub type Refusal = u8;

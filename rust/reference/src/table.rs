@@ -1,0 +1,90 @@
+//! Machines as tables of rows.
+
+use crate::label::highest;
+use crate::Refusal;
+
+/// The largest number of states.
+pub const MOST_STATES: u8 = 64;
+/// The largest number of rows that leave one state.
+pub const MOST_ROWS: usize = 8;
+
+/// One row; the derived order compares from, label, to in that order.
+#[derive(Clone, Copy, PartialEq, Eq, PartialOrd, Ord, Debug)]
+pub struct Row {
+    pub from: u8,
+    pub label: u8,
+    pub to: u8,
+}
+
+/// A machine: its states are 0 to `states` - 1.
+#[derive(Clone, PartialEq, Eq, Debug)]
+pub struct Table {
+    pub states: u8,
+    pub rows: Vec<Row>,
+}
+
+/// Whether a table's record may have this length (kind and body counted).
+pub fn fits(length: usize) -> bool {
+    (3..=1539).contains(&length) && length.is_multiple_of(3)
+}
+
+/// Reads a table: 3 for its length, then n and row by row 5, 6, 7.
+pub fn read_table(bytes: &[u8], k: u8) -> Result<Table, Refusal> {
+    if !fits(bytes.len() + 2) {
+        return Err(3);
+    }
+    let states = bytes[0];
+    if states == 0 || states > MOST_STATES {
+        return Err(5);
+    }
+    let mut table = Table {
+        states,
+        rows: Vec::new(),
+    };
+    for row in bytes[1..].chunks(3) {
+        let row = Row {
+            from: row[0],
+            label: row[1],
+            to: row[2],
+        };
+        table.check_next(row, k)?;
+        table.rows.push(row);
+    }
+    Ok(table)
+}
+
+impl Table {
+    /// Judges the row that would come next: range (5), order (6), how many from its state (7).
+    fn check_next(&self, row: Row, k: u8) -> Result<(), Refusal> {
+        if row.from >= self.states || row.label > highest(k) || row.to >= self.states {
+            return Err(5);
+        }
+        if self.rows.last().is_some_and(|before| row <= *before) {
+            return Err(6);
+        }
+        if self.rows_from(row.from).len() == MOST_ROWS {
+            return Err(7);
+        }
+        Ok(())
+    }
+
+    /// The rows that leave one state, in row order.
+    pub fn rows_from(&self, state: u8) -> Vec<Row> {
+        let leaves = |row: &&Row| row.from == state;
+        self.rows.iter().filter(leaves).copied().collect()
+    }
+
+    /// Whether the table has this row.
+    pub fn has(&self, from: u8, label: u8, to: u8) -> bool {
+        self.rows.contains(&Row { from, label, to })
+    }
+
+    /// The table as a record's body: n, then the rows.
+    pub fn to_bytes(&self) -> Vec<u8> {
+        let mut bytes = vec![self.states];
+        for row in &self.rows {
+            bytes.extend([row.from, row.label, row.to]);
+        }
+        bytes
+    }
+}

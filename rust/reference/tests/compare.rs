@@ -1,0 +1,29 @@
+//! Compares the engine, through its wrapper, with the reference on seeded inputs, sound and damaged.
+//! `cargo test --release -- --nocapture` also prints how many inputs of each kind were compared.
+
+#[path = "compare/alone.rs"]
+mod alone;
+#[path = "compare/book.rs"]
+mod book;
+#[path = "compare/both.rs"]
+mod both;
+#[path = "compare/changes.rs"]
+mod changes;
+#[path = "compare/contents.rs"]
+mod contents;
+#[path = "compare/cutting.rs"]
+mod cutting;
+#[path = "compare/faults.rs"]
+mod faults;
+#[path = "compare/handmade.rs"]
+mod handmade;
+#[path = "compare/headers.rs"]
+mod headers;
+#[path = "compare/order.rs"]
+mod order;
+#[path = "compare/pairs.rs"]
+mod pairs;
+#[path = "compare/sound.rs"]
+mod sound;
+#[path = "compare/writing.rs"]
+mod writing;

@@ -1,0 +1,81 @@
+//! The engine's calls with their bare answers: the refusal's number times 2^32, plus the value.
+
+extern "C" {
+    fn yenuslap_casebook_read(bytes: *const u8, bytes_len: usize) -> u64;
+    fn yenuslap_casebook_part(bytes: *const u8, bytes_len: usize, kind: u8) -> u64;
+    fn yenuslap_casebook_write(
+        k: u8,
+        left: *const u8,
+        left_len: usize,
+        right: *const u8,
+        right_len: usize,
+        run: *const u8,
+        run_len: usize,
+        question: *const u8,
+        question_len: usize,
+        out: *mut u8,
+        out_len: usize,
+    ) -> u64;
+    fn yenuslap_cut(
+        left_half: *const u8,
+        left_half_len: usize,
+        right_half: *const u8,
+        right_half_len: usize,
+        side: u8,
+        point: usize,
+    ) -> u64;
+}
+
+/// Judges a casebook: value 0, or refusals 1 to 11.
+pub fn casebook_read(bytes: &[u8]) -> u64 {
+    // SAFETY: pointer and length are one live slice, which the engine only reads.
+    unsafe { yenuslap_casebook_read(bytes.as_ptr(), bytes.len()) }
+}
+
+/// Says where a record's body lies: value start * 65536 + length (0 for a kind outside 1 to 5), or refusals 1 to 11.
+pub fn casebook_part(bytes: &[u8], kind: u8) -> u64 {
+    // SAFETY: pointer and length are one live slice, which the engine only reads.
+    unsafe { yenuslap_casebook_part(bytes.as_ptr(), bytes.len(), kind) }
+}
+
+/// Writes a casebook from its parts into `out`: value bytes written, or refusals 3 to 10 and 18.
+pub fn casebook_write(
+    k: u8,
+    left: &[u8],
+    right: &[u8],
+    run: &[u8],
+    question: &[u8],
+    out: &mut [u8],
+) -> u64 {
+    // SAFETY: each pointer and length are one live slice; only `out`, lent to us alone, is written.
+    unsafe {
+        yenuslap_casebook_write(
+            k,
+            left.as_ptr(),
+            left.len(),
+            right.as_ptr(),
+            right.len(),
+            run.as_ptr(),
+            run.len(),
+            question.as_ptr(),
+            question.len(),
+            out.as_mut_ptr(),
+            out.len(),
+        )
+    }
+}
+
+/// Cuts the known half (side 1 left, 2 right, else unnamed) at a point: value the part's length, or refusal 12.
+pub fn cut(left_half: &[u8], right_half: &[u8], side: u8, point: usize) -> u64 {
+    // SAFETY: each pointer and length are one live slice, which the engine only reads.
+    unsafe {
+        yenuslap_cut(
+            left_half.as_ptr(),
+            left_half.len(),
+            right_half.as_ptr(),
+            right_half.len(),
+            side,
+            point,
+        )
+    }
+}

@@ -1,0 +1,10 @@
+//! Safe calls into the proved engine; nothing is computed here that the engine can answer.
+
+pub mod bare;
+mod casebook;
+mod cut;
+mod refusal;
+
+pub use casebook::{read_casebook, write_casebook, Casebook};
+pub use cut::{cut, Side};
+pub use refusal::Refusal;

@@ -1,0 +1,85 @@
+//! Refusals, by document 01's numbers and in its words.
+
+use std::error::Error;
+use std::fmt;
+
+/// A refusal of the engine, which is its number only.
+#[derive(Clone, Copy, PartialEq, Eq, PartialOrd, Ord, Hash, Debug)]
+pub struct Refusal(u32);
+
+impl Refusal {
+    /// The refusal's number in document 01.
+    pub fn number(self) -> u32 {
+        self.0
+    }
+
+    /// What document 01 says of this number.
+    pub fn meaning(self) -> &'static str {
+        match self.0 {
+            1 => "the bytes end before the question record is complete",
+            2 => "not the kind due",
+            3 => "length not in the table of records",
+            4 => "k over 15",
+            5 => "n is 0 or over 64, or a row holds a state or label out of range",
+            6 => "row not above the one before",
+            7 => "a ninth row from one state",
+            8 => "a start state out of range, or a step not real",
+            9 => "formula not one whole tree, operator over 8, label over 2k, or a label byte set where none belongs",
+            10 => "forward nesting over 4",
+            11 => "bytes after the question record",
+            12 => "point beyond the run",
+            13 => "over 65,535 splittings",
+            14 => "splitting number not below the count",
+            15 => "a half is no run of its table",
+            16 => "halves don't match",
+            17 => "the quotient's tree has over 4,096 nodes",
+            18 => "lent output shorter than the answer",
+            _ => "a number that document 01 does not have",
+        }
+    }
+}
+
+impl fmt::Display for Refusal {
+    fn fmt(&self, f: &mut fmt::Formatter<'_>) -> fmt::Result {
+        write!(f, "refusal {}: {}", self.0, self.meaning())
+    }
+}
+
+impl Error for Refusal {}
+
+/// Takes the engine's answer apart: the number in the upper half, the value in the lower.
+pub(crate) fn value_or_refusal(answer: u64) -> Result<usize, Refusal> {
+    match (answer >> 32) as u32 {
+        0 => Ok(answer as u32 as usize),
+        number => Err(Refusal(number)),
+    }
+}
+
+#[cfg(test)]
+mod tests {
+    use super::*;
+    use std::collections::HashSet;
+
+    /// Every number of document 01 has a sentence of its own, and no other number has one.
+    #[test]
+    fn each_number_has_its_sentence() {
+        let sentences: HashSet<&str> = (1..=18).map(|n| Refusal(n).meaning()).collect();
+        assert_eq!(sentences.len(), 18);
+        assert!(!sentences.contains(Refusal(0).meaning()));
+        assert_eq!(Refusal(19).meaning(), Refusal(0).meaning());
+    }
+
+    /// The sentence shows its number first.
+    #[test]
+    fn display_shows_number_and_meaning() {
+        assert_eq!(Refusal(12).to_string(), "refusal 12: point beyond the run");
+    }
+
+    /// The number is the upper half of the answer, the value the lower.
+    #[test]
+    fn answers_are_taken_apart() {
+        assert_eq!(value_or_refusal(0), Ok(0));
+        assert_eq!(value_or_refusal(0xffff_ffff), Ok(0xffff_ffff));
+        assert_eq!(value_or_refusal(18 << 32), Err(Refusal(18)));
+    }
+}
