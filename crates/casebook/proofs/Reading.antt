@@ -34,13 +34,13 @@ found-within s at kind r c e = go (ltb (length s) (at + 4)) (eqb (wordAt s (at +
   where
     go : (a b d f : Bool) → fitLength kind (wordAt s at) ≡ d → ltb (length s) (at + 2 + wordAt s at) ≡ f
         → next.Found r c ≡ cond a (next.Refused Truncated) (cond (not b) (next.Refused WrongKind) (cond (not d) (next.Refused WrongLength) (cond f (next.Refused Truncated)
-        (next.Found (record { start = at + 4; len = wordAt s at - 2 }) (record { at = at + 2 + wordAt s at }))))) → (r .start + r .len ≤ length s) × (1 ≤ r .len)
+        (next.Found (record { kind = kind; start = at + 4; len = wordAt s at - 2 }) (record { at = at + 2 + wordAt s at }))))) → (r .start + r .len ≤ length s) × (1 ≤ r .len)
     go true b d f p q e = absurd (apart cc)
     go false false d f p q e = absurd (apart cc)
     go false true false f p q e = absurd (apart cc)
     go false true true true p q e = absurd (apart cc)
     go false true true false p q e =
-        let z : r ≡ record { start = at + 4; len = wordAt s at - 2 } = cc in
+        let z : r ≡ record { kind = kind; start = at + 4; len = wordAt s at - 2 } = cc in
         let w = fit-some kind (wordAt s at) p in
         let x : r .start ≡ at + 4 = ap (λ (y : Record). y .start) z in
         let n : r .len ≡ wordAt s at - 2 = ap (λ (y : Record). y .len) z in

@@ -31,8 +31,8 @@ abbrev pub Bytes : List ℕ → Type 0
 Bytes s = (i : ℕ) → getD s i 0 < 256
 
 -- the record whose body stands behind four bytes at a position
-abbrev pub placed : ℕ → List ℕ → Record
-placed at body = record { start = at + 4; len = length body }
+abbrev pub placed : ℕ → ℕ → List ℕ → Record
+placed kind at body = record { kind = kind; start = at + 4; len = length body }
 
 -- and the position behind it
 abbrev pub behind : ℕ → List ℕ → Cursor
@@ -95,13 +95,13 @@ module _ (s : List ℕ) (at : ℕ) where
 module _ (s : List ℕ) (at kind : ℕ) where
   -- a record is found if it is there
   found-next : (n : ℕ) → wordAt s at ≡ n → wordAt s (at + 2) ≡ kind → fitLength kind n ≡ true → at + 4 ≤ length s → at + 2 + n ≤ length s
-      → nextAt s at kind ≡ next.Found (record { start = at + 4; len = n - 2 }) (record { at = at + 2 + n })
+      → nextAt s at kind ≡ next.Found (record { kind = kind; start = at + 4; len = n - 2 }) (record { at = at + 2 + n })
   unfolding nextAt
   found-next n e f g a b = rw (le-ltb (length s) (at + 4) a, eq-eqb (wordAt s (at + 2)) kind f, e, g, le-ltb (length s) (at + 2 + n) b)
 
   -- stepping over a record that was written gives it, and leaves what was written behind it
   pub next-record : (body rest : List ℕ) → fitLength kind (2 + length body) ≡ true → drop at s ≡ recordBytes kind body ++ rest
-      → (nextAt s at kind ≡ next.Found (placed at body) (behind at body)) × (bodyOf s (placed at body) ≡ body) × (drop (at + 4 + length body) s ≡ rest)
+      → (nextAt s at kind ≡ next.Found (placed kind at body) (behind at body)) × (bodyOf s (placed kind at body) ≡ body) × (drop (at + 4 + length body) s ≡ rest)
   unfolding recordBytes bodyOf
   next-record body rest g e = (found, rw body-on (take-append-seam body rest), rw (← drop-drop (length body) (at + 4) s, body-on) (drop-append-seam body rest))
     where
@@ -111,7 +111,7 @@ module _ (s : List ℕ) (at kind : ℕ) where
       body-on : drop (at + 4) s ≡ body ++ rest
       body-on = rw (← drop-drop 4 at s, e)
 
-      found : nextAt s at kind ≡ next.Found (placed at body) (behind at body)
+      found : nextAt s at kind ≡ next.Found (placed kind at body) (behind at body)
       found =
           let z : at + 0 ≡ at = omega arith in
           let m : 2 + length body - 2 ≡ length body = omega arith in
@@ -125,7 +125,7 @@ module _ (s : List ℕ) (at kind : ℕ) where
     kinds : wordAt s (at + 2) ≡ kind
     fits : fitLength kind (wordAt s at) ≡ true
     room : at + 2 + wordAt s at ≤ length s
-    found : r ≡ record { start = at + 4; len = wordAt s at - 2 }
+    found : r ≡ record { kind = kind; start = at + 4; len = wordAt s at - 2 }
     behind : c ≡ record { at = at + 2 + wordAt s at }
 
   seen : (r : Record) (c : Cursor) → nextAt s at kind ≡ next.Found r c → Seen r c
@@ -134,7 +134,7 @@ module _ (s : List ℕ) (at kind : ℕ) where
     where
       go : (a b d f : Bool) → ltb (length s) (at + 4) ≡ a → eqb (wordAt s (at + 2)) kind ≡ b → fitLength kind (wordAt s at) ≡ d → ltb (length s) (at + 2 + wordAt s at) ≡ f
           → cond a (next.Refused Truncated) (cond (not b) (next.Refused WrongKind) (cond (not d) (next.Refused WrongLength) (cond f (next.Refused Truncated)
-          (next.Found (record { start = at + 4; len = wordAt s at - 2 }) (record { at = at + 2 + wordAt s at }))))) ≡ next.Found r c
+          (next.Found (record { kind = kind; start = at + 4; len = wordAt s at - 2 }) (record { at = at + 2 + wordAt s at }))))) ≡ next.Found r c
           → Seen r c
       go true b d f ea eb ed ef e = absurd (apart cc)
       go false false d f ea eb ed ef e = absurd (apart cc)
@@ -161,7 +161,7 @@ module _ (s : List ℕ) (at kind : ℕ) where
       body = take (n - 2) (drop (at + 4) s)
 
       lies : at + 4 ≤ length s → wordAt s (at + 2) ≡ kind → fitLength kind n ≡ true → at + 2 + n ≤ length s
-          → Lies s at kind (record { start = at + 4; len = n - 2 }) (record { at = at + 2 + n })
+          → Lies s at kind (record { kind = kind; start = at + 4; len = n - 2 }) (record { at = at + 2 + n })
       lies h k f room =
           let some = fit-some kind n f in
           let m : length body ≡ n - 2 = length-take-le (n - 2) (drop (at + 4) s) (omega (arith, length-drop (at + 4) s)) in

@@ -90,7 +90,7 @@ module _ (s : List ℕ) (at kind : ℕ) where
         short-body h = rw (le-ltb (length s) (at + 4) header, eq-eqb (wordAt s (at + 2)) kind due, fit, lt-ltb (length s) (at + 2 + wordAt s at) h)
 
         pub found : (n e : ℕ) → at + 2 + wordAt s at ≤ length s → n ≡ wordAt s at - 2 → e ≡ at + 2 + wordAt s at
-            → next.Found (record { start = at + 4; len = n }) (record { at = e }) ≡ nextAt s at kind
+            → next.Found (record { kind = kind; start = at + 4; len = n }) (record { at = e }) ≡ nextAt s at kind
         unfolding nextAt
         found n e h p q = rw (p, q, le-ltb (length s) (at + 4) header, eq-eqb (wordAt s (at + 2)) kind due, fit, le-ltb (length s) (at + 2 + wordAt s at) h)
 

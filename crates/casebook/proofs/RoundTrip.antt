@@ -159,7 +159,7 @@ read-written k l r j q e =
     let c2 = behind (c1 .at) l in
     let c3 = behind (c2 .at) r in
     let c4 = behind (c3 .at) j in
-    let p : Parts = record { pairs = k; left = placed (c1 .at) l; right = placed (c2 .at) r; run = placed (c3 .at) j; question = placed (c4 .at) q } in
+    let p : Parts = record { pairs = k; left = placed 2 (c1 .at) l; right = placed 3 (c2 .at) r; run = placed 4 (c3 .at) j; question = placed 5 (c4 .at) q } in
     let (n1, b1, d1) = next-record s 0 1 (k ∷ []) _ refl refl in
     let (n2, b2, d2) = next-record s (c1 .at) 2 l _ (table-fits k l (w .left) .0) d1 in
     let (n3, b3, d3) = next-record s (c2 .at) 3 r _ (table-fits k r (w .right) .1) d2 in
@@ -167,7 +167,7 @@ read-written k l r j q e =
     let (n5, b5, d5) = next-record s (c4 .at) 5 q [] (question-fits k q (w .question) .0) (d4 ∙ sym (append-nil (recordBytes 5 q))) in (
       p,
       chain-read s p (record {
-        header = placed 0 (k ∷ []);
+        header = placed 1 0 (k ∷ []);
         c1 = c1;
         c2 = c2;
         c3 = c3;
@@ -178,7 +178,7 @@ read-written k l r j q e =
         third = n3;
         fourth = n4;
         fifth = n5;
-        byte = header-byte s (placed 0 (k ∷ [])) k b1;
+        byte = header-byte s (placed 1 0 (k ∷ [])) k b1;
         sound = rw (b2, b3, b4, b5) w;
         all = omega (arith, casebook-length k l r j q);
       }),

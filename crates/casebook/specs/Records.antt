@@ -42,7 +42,7 @@ nextAt s at kind =
     (cond (not (eqb (wordAt s (at + 2)) kind)) (next.Refused WrongKind)
     (cond (not (fitLength kind (wordAt s at))) (next.Refused WrongLength)
     (cond (ltb (length s) (at + 2 + wordAt s at)) (next.Refused Truncated)
-    (next.Found (record { start = at + 4; len = wordAt s at - 2 }) (record { at = at + 2 + wordAt s at })))))
+    (next.Found (record { kind = kind; start = at + 4; len = wordAt s at - 2 }) (record { at = at + 2 + wordAt s at })))))
 
 -- the body of a record
 unfoldable pub bodyOf : List ℕ → Record → List ℕ

@@ -10,8 +10,9 @@ pub struct Cursor {
     pub at: usize,
 }
 
-// Where the body of a record lies.
+// A record: its kind, and where its body lies.
 pub struct Record {
+    pub kind: usize,
     pub start: usize,
     pub len: usize,
 }
@@ -63,7 +64,8 @@ impl Cursor {
             return Next::Refused(Refusal::Truncated);
         }
         let start = at + 4;
-        Next::Found(Record { start, len: n - 2 }, Cursor { at: at + 2 + n })
+        let len = n - 2;
+        Next::Found(Record { kind, start, len }, Cursor { at: at + 2 + n })
     }
 }
 

@@ -47,14 +47,14 @@ returns-5 c = short-body _ _ _ (omega arith) (sym (c .before .before .before .be
 add-start : tie.Need-add-start
 add-start c = search needs
 
-sub-t7 : tie.Need-sub-t7
-sub-t7 c = omega (arith, fit-some _ _ (sym (c .before .before .fits2 .ensures) ∙ not-false _ (c .before .if4 .left)))
+sub-len : tie.Need-sub-len
+sub-len c = omega (arith, fit-some _ _ (sym (c .before .before .fits2 .ensures) ∙ not-false _ (c .before .if4 .left)))
 
-add-t10 : tie.Need-add-t10
-add-t10 c = search needs
+add-t8 : tie.Need-add-t8
+add-t8 c = search needs
 
-add-t15 : tie.Need-add-t15
-add-t15 c = search needs
+add-t11 : tie.Need-add-t11
+add-t11 c = search needs
 
 returns-6 : tie.Need-returns-6
 returns-6 c = found _ _ _ (omega arith) (sym (c .before .before .before .before .before .word .ensures .0) ∙ c .before .before .before .before .if3 .left) (ap (fitLength _) (sym (c .before .before .before .word2 .ensures .0)) ∙ sym (c .before .before .fits2 .ensures) ∙ not-false _ (c .before .if4 .left)) _ _ (omega arith) (omega arith) (omega arith)
@@ -76,7 +76,7 @@ next-spec =
     sub-if5-2
     returns-5
     add-start
-    sub-t7
-    add-t10
-    add-t15
+    sub-len
+    add-t8
+    add-t11
     returns-6)
