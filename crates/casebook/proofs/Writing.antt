@@ -4,10 +4,11 @@ use mathlib.Core.Path.{_≡_, refl, sym, _∙_, ap}
 use mathlib.Core.List.{List, [], _∷_, _++_, append-assoc, append-nil}
 use native.Mathlib.Omega.{arith}
 use lib.ListN.{length, take, drop, set, length-append, length-take, length-drop, drop-of-length-le}
-use lib.Seq.{take-all, take-length, take-append-seam, drop-append-seam, drop-drop}
+use lib.Seq.{take-length, take-append-seam, drop-append-seam, drop-drop}
 use lib.Dec.{ltb}
 use borrow.Rule.Slice.PartMut.{putMid}
 use borrow.Author.Tests.{lt-ltb, le-ltb}
+use Rattle.labels.proofs.Slices.{rest, rest-of}
 use Rattle.labels.specs.Refusals.{thenOf, firstOf}
 use Rattle.labels.specs.Labels.{checkPairs}
 use Rattle.labels.specs.declared.refusal.Refusal.{Refusal}
@@ -24,12 +25,6 @@ use Rattle.casebook.specs.Working.{over, Fitting}
 use Rattle.casebook.specs.declared.write.Writing.the-variants as writing
 use Rattle.casebook.proofs.RecordLaws.{record-length, table-fits, joint-fits, question-fits}
 use Rattle.casebook.proofs.RoundTrip.{casebook-length, SoundParts, sound-parts}
-
-abbrev pub rest : ℕ → List ℕ → List ℕ
-rest k l = take (length l - k) (drop k l)
-
-rest-of : (k : ℕ) (l : List ℕ) → rest k l ≡ drop k l
-rest-of k l = take-all (length l - k) (drop k l) (omega (arith, length-drop k l))
 
 pub length-over : (b xs : List ℕ) → length b ≤ length xs → length (over b xs) ≡ length xs
 length-over b xs h = omega (arith, length-append b (drop (length b) xs), length-drop (length b) xs)

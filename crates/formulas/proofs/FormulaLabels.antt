@@ -1,23 +1,16 @@
 -- The label bytes of a formula: no label is above n exactly if no label byte is.
-use Prim.Native.Nat.{ℕ, _+_, _-_, _≤_, _<_}
+use Prim.Native.Nat.{ℕ, _≤_, _<_}
 use mathlib.Core.Path.{_≡_, refl, sym, _∙_, ap}
 use mathlib.Core.Bool.{Bool, true, false, _&&_, and-assoc}
 use mathlib.Core.List.{List, [], _∷_}
 use native.Mathlib.Omega.{arith}
-use lib.ListN.{length, getD, take, drop, length-take, length-drop}
-use lib.Seq.{take-all}
+use lib.ListN.{length, getD, drop}
 use lib.Dec.{leb}
 use borrow.Author.Tests.{le-leb}
+use Rattle.labels.proofs.Slices.{rest, rest-of}
 use Rattle.hml.specs.Formula.{Formula, top, bottom, not, and, or, fwd, back, fwdIdle, backIdle, labelled}
 use Rattle.hml.specs.Spell.{spell}
 use Rattle.formulas.specs.Working.{labelsFit}
-
--- bytes go on behind two of them: what a slice from 2 on holds
-pub rest-2 : (bs : List ℕ) → take (length bs - 2) (drop 2 bs) ≡ drop 2 bs
-rest-2 bs = take-all (length bs - 2) (drop 2 bs) (omega (arith, length-drop 2 bs))
-
-pub fewer-2 : (bs : List ℕ) → 2 ≤ length bs → length (take (length bs - 2) (drop 2 bs)) < length bs
-fewer-2 bs h = simp (length-take, length-drop) (omega arith)
 
 module _ (n : ℕ) where
   first-label : (bs : List ℕ) → 2 ≤ length bs → labelsFit n bs ≡ (leb (getD bs 1 0) n && labelsFit n (drop 2 bs))
@@ -29,8 +22,8 @@ module _ (n : ℕ) where
   pub label-above : (x : Bool) (bs : List ℕ) → 2 ≤ length bs → x ≡ labelsFit n bs → leb (getD bs 1 0) n ≡ false → false ≡ x
   label-above x bs h e f = sym (e ∙ first-label bs h ∙ rw f)
 
-  pub label-fits : (x : Bool) (bs : List ℕ) → 2 ≤ length bs → x ≡ labelsFit n bs → leb (getD bs 1 0) n ≡ true → x ≡ labelsFit n (take (length bs - 2) (drop 2 bs))
-  label-fits x bs h e f = rw (rest-2 bs) (e ∙ first-label bs h ∙ rw f)
+  pub label-fits : (x : Bool) (bs : List ℕ) → 2 ≤ length bs → x ≡ labelsFit n bs → leb (getD bs 1 0) n ≡ true → x ≡ labelsFit n (rest 2 bs)
+  label-fits x bs h e f = rw (rest-of 2 bs) (e ∙ first-label bs h ∙ rw f)
 
   pub no-label-left : (x : Bool) (bs : List ℕ) → length bs < 2 → x ≡ labelsFit n bs → true ≡ x
   unfolding labelsFit

@@ -5,18 +5,15 @@ use mathlib.Core.Bool.{cond, _||_}
 use mathlib.Core.List.{List, [], _∷_, _++_}
 use mathlib.Core.Option.{some}
 use native.Mathlib.Omega.{arith}
-use lib.ListN.{length, getD, take, drop, length-drop}
-use lib.Seq.{take-all, drop-at}
+use lib.ListN.{length, getD, drop}
+use lib.Seq.{drop-at}
 use lib.Dec.{eqb}
+use Rattle.labels.proofs.Slices.{rest, rest-of}
 use Rattle.hml.specs.Formula.{Formula, top, bottom, not, and, or, fwd, back, fwdIdle, backIdle, size, nesting}
 use Rattle.hml.specs.Spell.{spell, length-spell, parse, parse-spell}
 use Rattle.formulas.specs.Formulas.{nodeOf, operandsOf}
 use Rattle.formulas.specs.Working.{Tree, measuredAs, measureOf, operandsIn}
 use Rattle.formulas.specs.declared.tree.Measure.{Measure}
-
--- a part from k on holds what is left behind k bytes
-pub rest-of : (k : ℕ) (l : List ℕ) → take (length l - k) (drop k l) ≡ drop k l
-rest-of k l = take-all (length l - k) (drop k l) (omega (arith, length-drop k l))
 
 -- a formula's bytes stand in front of the others
 spell-append : (φ : Formula) (xs ys : List ℕ) → spell φ (xs ++ ys) ≡ spell φ xs ++ ys
@@ -168,10 +165,10 @@ module _ (f : List ℕ) (tree : Tree f) where
 
 -- the same over the parts that the code passes on: the body behind the first node, and what is behind the first operand in it
 abbrev pub body : List ℕ → List ℕ
-body f = take (length f - 2) (drop 2 f)
+body f = rest 2 f
 
 abbrev pub later : List ℕ → ℕ → List ℕ
-later b n = take (length b - n) (drop n b)
+later b n = rest n b
 
 module _ (f : List ℕ) (tree : Tree f) where
   pub body-tree : (operands f ≡ 0 → ⊥) → Tree (body f)

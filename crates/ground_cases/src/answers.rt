@@ -24,7 +24,7 @@ use tables::row::RowRead;
 use tables::row::row_at;
 
 // Is the label silent, an idle, its partner; then among the labels of k: the highest, is it one, its partner.
-pub fn put_label(line: &mut [u8], k: u8, label: Label) -> usize {
+pub(crate) fn put_label(line: &mut [u8], k: u8, label: Label) -> usize {
     let labels = Labels { pairs: k };
     let silent = put_bool(line, 0, label.is_silent());
     let idle = put_bool(line, silent, label.is_idle());
@@ -35,7 +35,7 @@ pub fn put_label(line: &mut [u8], k: u8, label: Label) -> usize {
 }
 
 // The partner of each byte among the labels of k.
-pub fn put_partners(line: &mut [u8], k: u8) -> usize {
+pub(crate) fn put_partners(line: &mut [u8], k: u8) -> usize {
     let labels = Labels { pairs: k };
     let mut at = 0;
     let mut code: usize = 0;
@@ -72,20 +72,20 @@ fn refusal_of(n: u8) -> Check {
 }
 
 // The numbers of two checks, then of the one after the other.
-pub fn put_then(line: &mut [u8], x: u8, y: u8) -> usize {
+pub(crate) fn put_then(line: &mut [u8], x: u8, y: u8) -> usize {
     let first = put_check(line, 0, refusal_of(x));
     let second = put_check(line, first, refusal_of(y));
     put_check(line, second, refusal_of(x).then(refusal_of(y)))
 }
 
 // A check's number where k is looked at first, as in a call that takes k; then the check's own number.
-pub fn put_call(line: &mut [u8], k: u8, check: Check) -> usize {
+pub(crate) fn put_call(line: &mut [u8], k: u8, check: Check) -> usize {
     let at = put_check(line, 0, check_pairs(k).then(check));
     put_check(line, at, check)
 }
 
 // 1 and the row, or a dash where there is none.
-pub fn put_row(line: &mut [u8], table: &[u8], i: usize) -> usize {
+pub(crate) fn put_row(line: &mut [u8], table: &[u8], i: usize) -> usize {
     match row_at(table, i) {
         RowRead::Row(row) => return put_found(line, row),
         RowRead::NoRow => return put_mark(line, 0, b'-'),
@@ -102,7 +102,7 @@ fn put_found(line: &mut [u8], row: Row) -> usize {
 }
 
 // The rows that leave a state of a sound table; R and its number for a refused one.
-pub fn put_leaving(line: &mut [u8], k: u8, table: &[u8], state: u8) -> usize {
+pub(crate) fn put_leaving(line: &mut [u8], k: u8, table: &[u8], state: u8) -> usize {
     match check_table(Labels { pairs: k }, table) {
         Check::Sound => return put_bytes(line, rows_leaving(table, state)),
         Check::Refused(refusal) => return put_refused(line, refusal),
@@ -110,7 +110,7 @@ pub fn put_leaving(line: &mut [u8], k: u8, table: &[u8], state: u8) -> usize {
 }
 
 // Whether a sound table has a row; R and its number for a refused one.
-pub fn put_has(line: &mut [u8], k: u8, table: &[u8], row: Row) -> usize {
+pub(crate) fn put_has(line: &mut [u8], k: u8, table: &[u8], row: Row) -> usize {
     match check_table(Labels { pairs: k }, table) {
         Check::Sound => return put_bool(line, 0, has_row(table, row.from, row.label, row.to)),
         Check::Refused(refusal) => return put_refused(line, refusal),
@@ -124,7 +124,7 @@ fn put_refused(line: &mut [u8], refusal: Refusal) -> usize {
 }
 
 // 2, label and target of a move; 1 for an idle; 0 where there is no such step.
-pub fn put_step(line: &mut [u8], half: &[u8], i: usize) -> usize {
+pub(crate) fn put_step(line: &mut [u8], half: &[u8], i: usize) -> usize {
     match step_at(half, i) {
         StepRead::Step(step) => return put_taken(line, step),
         StepRead::NoSuchStep => return put_number(line, 0, 0),
@@ -145,7 +145,7 @@ fn put_taken(line: &mut [u8], step: Step) -> usize {
 }
 
 // The side that a number names: 1 the left, 2 the right, any other none.
-pub fn side_of(x: u8) -> Side {
+pub(crate) fn side_of(x: u8) -> Side {
     match x {
         1 => Side::Left,
         2 => Side::Right,
@@ -154,7 +154,7 @@ pub fn side_of(x: u8) -> Side {
 }
 
 // 1 where the left half is known, 2 where the right is.
-pub fn put_known(line: &mut [u8], side: Side) -> usize {
+pub(crate) fn put_known(line: &mut [u8], side: Side) -> usize {
     match side.known() {
         Known::Left => return put_number(line, 0, 1),
         Known::Right => return put_number(line, 0, 2),

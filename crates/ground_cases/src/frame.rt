@@ -26,7 +26,7 @@ pub struct Cursor {
 }
 
 // A byte as a larger number.
-pub fn wide(byte: u8) -> usize
+pub(crate) fn wide(byte: u8) -> usize
     ensures { λ r. ⌜ r < 256 ⌝ }
 {
     byte as usize
@@ -41,14 +41,14 @@ fn byte_at(input: &[u8], at: usize) -> u8 {
 }
 
 // Two bytes as a number, little-endian.
-pub fn word(low: u8, high: u8) -> usize
+pub(crate) fn word(low: u8, high: u8) -> usize
     ensures { λ r. ⌜ r < 65536 ⌝ }
 {
     wide(low) + 256 * wide(high)
 }
 
 // A point or an index: 65,535 stands for the largest number there is.
-pub fn number(low: u8, high: u8) -> usize {
+pub(crate) fn number(low: u8, high: u8) -> usize {
     let n = word(low, high);
     if n == 65535 {
         return 18446744073709551615;
@@ -58,7 +58,7 @@ pub fn number(low: u8, high: u8) -> usize {
 
 impl Cursor {
     // The trial that begins here, if all of it is there.
-    pub fn trial(self, input: &[u8]) -> Found {
+    pub(crate) fn trial(self, input: &[u8]) -> Found {
         let at = self.at;
         if input.len() < at {
             return Found::Malformed;

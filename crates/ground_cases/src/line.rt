@@ -24,13 +24,13 @@ fn put(line: &mut [u8], at: usize, wanted: bool, byte: u8) -> usize {
 }
 
 // Puts a mark, after a blank if it is not the first of its line.
-pub fn put_mark(line: &mut [u8], at: usize, mark: u8) -> usize {
+pub(crate) fn put_mark(line: &mut [u8], at: usize, mark: u8) -> usize {
     let start = put(line, at, 0 < at, b' ');
     put(line, start, true, mark)
 }
 
 // Puts a number's digits, after a blank if it is not the first of its line.
-pub fn put_number(line: &mut [u8], at: usize, n: usize) -> usize {
+pub(crate) fn put_number(line: &mut [u8], at: usize, n: usize) -> usize {
     let start = put(line, at, 0 < at, b' ');
     let second = put(line, start, 1000 <= n, digit(n / 1000));
     let third = put(line, second, 100 <= n, digit(n / 100));
@@ -39,12 +39,12 @@ pub fn put_number(line: &mut [u8], at: usize, n: usize) -> usize {
 }
 
 // Ends the line.
-pub fn put_end(line: &mut [u8], at: usize) -> usize {
+pub(crate) fn put_end(line: &mut [u8], at: usize) -> usize {
     put(line, at, true, b'\n')
 }
 
 // Puts 1 or 0.
-pub fn put_bool(line: &mut [u8], at: usize, holds: bool) -> usize {
+pub(crate) fn put_bool(line: &mut [u8], at: usize, holds: bool) -> usize {
     if holds {
         return put_number(line, at, 1);
     }
@@ -52,7 +52,7 @@ pub fn put_bool(line: &mut [u8], at: usize, holds: bool) -> usize {
 }
 
 // Puts a partner's number, or a dash for nobody.
-pub fn put_partner(line: &mut [u8], at: usize, partner: Partner) -> usize {
+pub(crate) fn put_partner(line: &mut [u8], at: usize, partner: Partner) -> usize {
     match partner {
         Partner::Label(label) => return put_number(line, at, wide(label.0)),
         Partner::Nobody => return put_mark(line, at, b'-'),
@@ -60,7 +60,7 @@ pub fn put_partner(line: &mut [u8], at: usize, partner: Partner) -> usize {
 }
 
 // Puts a refusal's number, 0 for sound.
-pub fn put_check(line: &mut [u8], at: usize, check: Check) -> usize {
+pub(crate) fn put_check(line: &mut [u8], at: usize, check: Check) -> usize {
     match check {
         Check::Sound => return put_number(line, at, 0),
         Check::Refused(refusal) => return put_number(line, at, wide(refusal.number())),
@@ -68,7 +68,7 @@ pub fn put_check(line: &mut [u8], at: usize, check: Check) -> usize {
 }
 
 // Puts how many bytes there are, then each of them.
-pub fn put_bytes(line: &mut [u8], bytes: &[u8]) -> usize {
+pub(crate) fn put_bytes(line: &mut [u8], bytes: &[u8]) -> usize {
     let mut at = put_number(line, 0, bytes.len());
     let mut i = 0;
     while i < bytes.len() {

@@ -1,13 +1,13 @@
 -- The search of the rows that leave a state, one after the other, for a move that passes a test.
-use Prim.Native.Nat.{ℕ, _-_, _≤_, _<_}
+use Prim.Native.Nat.{ℕ, _≤_, _<_}
 use mathlib.Core.Path.{_≡_, refl, sym, _∙_, ap}
 use mathlib.Core.Bool.{Bool, true, false, _||_}
 use mathlib.Core.List.{List, [], _∷_}
-use lib.ListN.{length, getD, take, drop, length-take, length-drop}
-use lib.Seq.{take-all}
+use lib.ListN.{length, getD}
 use native.Mathlib.Omega.{arith}
 use Rattle.hml.specs.Lists.{any}
 use Rattle.hml.specs.Machine.{Row}
+use Rattle.labels.proofs.Slices.{rest, rest-of}
 use Rattle.tables.specs.Tables.{threes, rowsOf, rowsFrom, bytesOf, tableOf, Rising}
 use Rattle.tables.proofs.Chunks.{threes-chunks, chunks-read}
 use Rattle.tables.proofs.Rows.{any-moves}
@@ -21,16 +21,12 @@ unfoldable pub Searching : List ℕ → ℕ → (ℕ × ℕ → Bool) → List �
 Searching t p F rows = any F (tableOf t p) ≡ any (onRow F) (threes rows)
 
 -- the first row, and those behind it as a slice has them
-first-row : (rows : List ℕ) → 3 ≤ length rows → threes rows ≡ (getD rows 0 0, getD rows 1 0, getD rows 2 0) ∷ threes (take (length rows - 3) (drop 3 rows))
+first-row : (rows : List ℕ) → 3 ≤ length rows → threes rows ≡ (getD rows 0 0, getD rows 1 0, getD rows 2 0) ∷ threes (rest 3 rows)
 unfolding threes
 first-row [] h = absurd (omega arith)
 first-row (f ∷ []) h = absurd (omega arith)
 first-row (f ∷ a ∷ []) h = absurd (omega arith)
-first-row (f ∷ a ∷ to ∷ rows) h = ap (λ l. (f, a, to) ∷ threes l) (sym (take-all (length (f ∷ a ∷ to ∷ rows) - 3) rows (omega arith)))
-
--- fewer bytes are left behind the first row
-pub fewer-rows : (rows : List ℕ) → 3 ≤ length rows → length (take (length rows - 3) (drop 3 rows)) < length rows
-fewer-rows rows h = simp (length-take, length-drop) (omega arith)
+first-row (f ∷ a ∷ to ∷ rows) h = ap (λ l. (f, a, to) ∷ threes l) (sym (rest-of 3 (f ∷ a ∷ to ∷ rows)))
 
 no-row : (rows : List ℕ) → length rows < 3 → threes rows ≡ []
 no-row rows h = threes-chunks .none rows h
@@ -50,6 +46,6 @@ module _ (t : List ℕ) (p : ℕ) (F : ℕ × ℕ → Bool) where
       unfolding Searching
       search-hit f = sym (g ∙ rw (first-row rows h, f))
 
-      pub search-miss : F (getD rows 1 0, getD rows 2 0) ≡ false → Searching t p F (take (length rows - 3) (drop 3 rows))
+      pub search-miss : F (getD rows 1 0, getD rows 2 0) ≡ false → Searching t p F (rest 3 rows)
       unfolding Searching
       search-miss f = g ∙ rw (first-row rows h, f)

@@ -5,8 +5,9 @@ use mathlib.Core.Path.{_≡_, refl, sym, _∙_}
 use lib.ListN.{length}
 use borrow.Author.Tests.{not-true, not-false}
 use Rattle.hml.specs.Labels.{count}
+use Rattle.labels.proofs.Slices.{rest-fewer}
 use Rattle.formulas.specs.Working.{labelsFit}
-use Rattle.formulas.proofs.FormulaLabels.{label-above, label-fits, no-label-left, fewer-2}
+use Rattle.formulas.proofs.FormulaLabels.{label-above, label-fits, no-label-left}
 use Rattle.formulas.proofs.check.labels_fit.Statement.{statement}
 use Rattle.formulas.proofs.check.labels_fit.Tie as tie
 
@@ -38,7 +39,7 @@ part-rest-end : tie.Need-part-rest-end Inv-loop μ-loop
 part-rest-end c = omega arith
 
 loop-less : tie.Need-loop-less Inv-loop μ-loop
-loop-less c = fewer-2 (c .before .before .before .before .before .loop .rest .now) (c .before .before .before .before .loop-test .taken)
+loop-less c = rest-fewer 2 (c .before .before .before .before .before .loop .rest .now) (omega arith) (c .before .before .before .before .loop-test .taken)
 
 loop-again : tie.Need-loop-again Inv-loop μ-loop
 loop-again c = label-fits _ _ _ (c .before .before .before .before .loop-test .taken) (c .before .before .before .before .before .loop .inv) (sym (c .before .before .has .ensures) ∙ not-false _ (c .before .if1 .left))

@@ -5,8 +5,9 @@ use mathlib.Core.Path.{sym, _∙_}
 use lib.ListN.{length}
 use borrow.Author.Tests.{not-true, not-false}
 use Rattle.labels.specs.Labels.{pairing}
+use Rattle.labels.proofs.Slices.{rest-fewer}
 use Rattle.tables.specs.Tables.{tableOf}
-use Rattle.tables.proofs.Searching.{Searching, search-start, search-end, search-hit, search-miss, fewer-rows}
+use Rattle.tables.proofs.Searching.{Searching, search-start, search-end, search-hit, search-miss}
 use Rattle.machines.specs.Joints.{shakesTo}
 use Rattle.machines.proofs.Joints.{no-handshake, search-decides}
 use Rattle.machines.proofs.joint.is_handshake.Statement.{statement}
@@ -48,7 +49,7 @@ part-rows-end : tie.Need-part-rows-end Inv-loop μ-loop
 part-rows-end c = omega arith
 
 loop-less : tie.Need-loop-less Inv-loop μ-loop
-loop-less c = fewer-rows (c .before .before .before .before .loop .rows .now) (c .before .before .before .loop-test .taken)
+loop-less c = rest-fewer 3 (c .before .before .before .before .loop .rows .now) (omega arith) (c .before .before .before .loop-test .taken)
 
 loop-again : tie.Need-loop-again Inv-loop μ-loop
 loop-again c = search-miss _ _ _ _ (c .before .before .before .before .loop .inv) (c .before .before .before .loop-test .taken) (sym (c .before .before .shakes-hands .ensures) ∙ c .before .if2 .left)

@@ -6,8 +6,9 @@ use mathlib.Core.Bool.{Bool, _&&_}
 use Prim.Native.Nat.{ℕ}
 use lib.ListN.{length}
 use Rattle.hml.specs.Tests.{same}
+use Rattle.labels.proofs.Slices.{rest-fewer}
 use Rattle.tables.specs.Tables.{rowsOf, hasMove, Rising}
-use Rattle.tables.proofs.Searching.{Searching, search-start, search-end, search-hit, search-miss, fewer-rows}
+use Rattle.tables.proofs.Searching.{Searching, search-start, search-end, search-hit, search-miss}
 use Rattle.tables.proofs.leaving.has_row.Statement.{statement}
 use Rattle.tables.proofs.leaving.has_row.Tie as tie
 
@@ -43,7 +44,7 @@ part-rows-end : tie.Need-part-rows-end Inv-loop μ-loop
 part-rows-end c = omega arith
 
 loop-less : tie.Need-loop-less Inv-loop μ-loop
-loop-less c = fewer-rows (c .before .before .before .before .loop .rows .now) (c .before .before .before .loop-test .taken)
+loop-less c = rest-fewer 3 (c .before .before .before .before .loop .rows .now) (omega arith) (c .before .before .before .loop-test .taken)
 
 loop-again : tie.Need-loop-again Inv-loop μ-loop
 loop-again c = λ s. search-miss _ _ _ _ (c .before .before .before .before .loop .inv s) (c .before .before .before .loop-test .taken) (sym (c .before .before .leads .ensures) ∙ c .before .if1 .left)
