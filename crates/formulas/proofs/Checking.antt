@@ -35,6 +35,14 @@ pub formula-spell : (φ : Formula) → formulaOf (spell φ []) ≡ some φ
 unfolding formulaOf wholeOf
 formula-spell φ = rw (parse-spell φ [])
 
+-- they spell no other
+pub one-formula : (φ ψ : Formula) → spell φ [] ≡ spell ψ [] → φ ≡ ψ
+one-formula φ ψ e = let q : some φ ≡ some ψ = sym (formula-spell φ) ∙ ap formulaOf e ∙ formula-spell ψ in cc
+
+-- and the tree has half as many nodes as they are long
+pub formula-length : (f : List ℕ) (φ : Formula) → f ≡ spell φ [] → length f ≡ 2 * size φ
+formula-length f φ e = ap length e ∙ (let l = length-spell φ [] in omega (arith, l))
+
 module _ (f : List ℕ) where
   -- bytes that read to a tree spell it
   pub formula-spelled : (φ : Formula) → formulaOf f ≡ some φ → f ≡ spell φ []
@@ -90,16 +98,13 @@ module _ (k limit : ℕ) (f : List ℕ) where
     reads : formulaOf f ≡ some φ
     reads = rw e (formula-spell φ)
 
-    sized : length f ≡ 2 * size φ
-    sized = ap length e ∙ (let l = length-spell φ [] in omega (arith, l))
-
     labels-seen : labelsFit (count k) f ≡ labelled (count k) φ
     unfolding labelsFit
     labels-seen = rw e (spelled-labels (count k) φ [] ∙ and-true (labelled (count k) φ))
 
     module _ (room : length f / 2 ≤ limit) where
       within-limit : leb (length f) (2 * limit) ≡ true
-      within-limit = le-leb (length f) (2 * limit) (omega (arith, sized))
+      within-limit = le-leb (length f) (2 * limit) (omega (arith, formula-length f φ e))
 
       pub label-refused : labelsFit (count k) f ≡ false → Refused NotATree ≡ checkFormula k limit f
       unfolding checkFormula firstOf isFormula
@@ -127,7 +132,7 @@ judged-formula k limit f = judged-iff to from (judged-then (judged-unless NotATr
       where
         go : (o : Option Formula) → ((φ : Formula) → o ≡ some φ → f ≡ spell φ []) → (leb (length f) (2 * limit) ≡ true) × (present (labelled (count k)) o ≡ true) → present (λ φ. leb (nesting φ) 4) o ≡ true → Legal k limit f
         go none s a b = absurd (false≢true b)
-        go (some φ) s a b = (φ, s φ refl, omega (arith, leb-true (length f) (2 * limit) (a .0), sized k limit f φ (s φ refl)), a .1, leb-true (nesting φ) 4 b)
+        go (some φ) s a b = (φ, s φ refl, omega (arith, leb-true (length f) (2 * limit) (a .0), formula-length f φ (s φ refl)), a .1, leb-true (nesting φ) 4 b)
 
     from : Legal k limit f → (isFormula k limit f ≡ true) × (nestsFit f ≡ true)
-    from (φ, e, s, l, n) = rw (reads k limit f φ e, le-leb (length f) (2 * limit) (omega (arith, sized k limit f φ e)), l, le-leb (nesting φ) 4 n) (refl, refl)
+    from (φ, e, s, l, n) = rw (reads k limit f φ e, le-leb (length f) (2 * limit) (omega (arith, formula-length f φ e)), l, le-leb (nesting φ) 4 n) (refl, refl)

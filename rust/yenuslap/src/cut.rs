@@ -6,7 +6,7 @@ use crate::refusal::{value_or_refusal, Refusal};
 /// Which half is the known one.
 #[derive(Clone, Copy, PartialEq, Eq, Debug)]
 pub enum Side {
-    /// The caller names no side; the engine then takes the right.
+    /// The caller names no side, and the engine takes its usual one.
     Unnamed,
     /// The left half is known.
     Left,
@@ -33,10 +33,12 @@ pub fn cut<'a>(
     point: usize,
 ) -> Result<&'a [u8], Refusal> {
     let length = value_or_refusal(bare::cut(left, right, side.byte(), point))?;
-    // The engine answers a length only, so the half that it took is picked again here.
-    let known = match side {
-        Side::Left => left,
-        Side::Right | Side::Unnamed => right,
-    };
+    let known = if takes_left(side) { left } else { right };
     Ok(&known[..length])
+}
+
+/// Does the engine take the left half for this side? It answers a cut by a length only, so it is asked for one that
+/// has a point in the left half alone: what an unnamed side means is known to the engine and not here.
+fn takes_left(side: Side) -> bool {
+    value_or_refusal(bare::cut(&[0], &[], side.byte(), 0)).is_ok()
 }
