@@ -1,4 +1,4 @@
-//! A plain implementation of its own, written from document 01 alone, to compare the engine with.
+//! A plain implementation of its own, written from document 01 and its list of open points, to compare the engine with.
 
 pub mod casebook;
 pub mod cut;
