@@ -16,6 +16,8 @@ use Rattle.casebook.specs.declared.read.Reading.{Reading}
 use Rattle.casebook.specs.declared.read.Reading.the-variants as reading
 use Rattle.casebook.specs.declared.write.Writing.{Writing}
 use Rattle.casebook.specs.declared.write.Writing.the-variants as writing
+use Rattle.verdict.specs.declared.answer.Verdict.{Verdict}
+use Rattle.verdict.specs.declared.answer.Verdict.the-variants as verdict
 
 unfoldable pub refusedAs : Refusal → ℕ
 refusedAs x = numberOf x * 4294967296
@@ -54,3 +56,9 @@ sideOf b = cond (eqb b 1) side.Left (cond (eqb b 2) side.Right side.Unnamed)
 -- a cut: value length of the part, or 12
 unfoldable pub cutAnswer : List ℕ → List ℕ → ℕ → ℕ → ℕ
 cutAnswer l r b point = cond (beyond (knownHalf l r (knownOf (sideOf b))) point) (refusedAs PointBeyond) (length (cutOf l r (sideOf b) point))
+
+-- a verdict: value 1 where it holds, 0 where it fails
+unfoldable pub verdictAnswer : Verdict → ℕ
+verdictAnswer verdict.Holds = 1
+verdictAnswer verdict.Fails = 0
+verdictAnswer (verdict.Refused x) = refusedAs x

@@ -9,12 +9,16 @@ use casebook::write::write;
 use halves::side::Side;
 use halves::side::cut;
 use labels::refusal::Refusal;
+use verdict::answer::Verdict;
+use verdict::half::half;
+use verdict::joint::joint;
 ghost use mathlib.Core.Path.{_≡_};
 ghost use Prim.Native.Nat.{_+_, _≤_};
 ghost use lib.ListN.{length};
 ghost use Rattle.casebook.specs.Reading.{readOf};
 ghost use Rattle.casebook.specs.Writing.{writeOf, writtenOf};
-ghost use Rattle.engine.specs.Answers.{refusedAs, readAnswer, placeOf, placeIn, partAnswer, writeAnswer, sideOf, cutAnswer};
+ghost use Rattle.verdict.specs.Verdicts.{jointVerdict, halfVerdict};
+ghost use Rattle.engine.specs.Answers.{refusedAs, readAnswer, placeOf, placeIn, partAnswer, writeAnswer, sideOf, cutAnswer, verdictAnswer};
 ghost use Rattle.engine.specs.Working.{Placed};
 
 fn refused(refusal: Refusal) -> u64
@@ -119,4 +123,44 @@ pub extern "C" fn yenuslap_cut<'a>(left: &'a [u8], right: &'a [u8], side: u8, po
         return refused(Refusal::PointBeyond);
     }
     part.len() as u64
+}
+
+// A verdict as a number: 1 holds, 0 fails.
+fn verdict_value(verdict: Verdict) -> u64
+    ensures { λ r. ⌜ r ≡ verdictAnswer verdict ⌝ }
+{
+    match verdict {
+        Verdict::Holds => 1,
+        Verdict::Fails => 0,
+        Verdict::Refused(refusal) => refused(refusal),
+    }
+}
+
+// Judges a formula on a joint run stopped at a point: value 1 holds, 0 fails.
+#[no_mangle]
+pub extern "C" fn yenuslap_joint_verdict(
+    k: u8,
+    left: &[u8],
+    right: &[u8],
+    run: &[u8],
+    formula: &[u8],
+    point: usize,
+) -> u64
+    ensures { λ r. ⌜ r ≡ verdictAnswer (jointVerdict k (now (left .entry)) (now (right .entry)) (now (run .entry)) (now (formula .entry)) point) ⌝ }
+{
+    verdict_value(joint(k, left, right, run, formula, point))
+}
+
+// Judges a formula on a half run stopped at a point: value 1 holds, 0 fails.
+#[no_mangle]
+pub extern "C" fn yenuslap_half_verdict(
+    k: u8,
+    table: &[u8],
+    half_run: &[u8],
+    formula: &[u8],
+    point: usize,
+) -> u64
+    ensures { λ r. ⌜ r ≡ verdictAnswer (halfVerdict k (now (table .entry)) (now («half_run» .entry)) (now (formula .entry)) point) ⌝ }
+{
+    verdict_value(half(k, table, half_run, formula, point))
 }

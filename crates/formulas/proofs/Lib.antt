@@ -2,4 +2,6 @@ pub mod Nodes
 pub mod Trees
 pub mod FormulaLabels
 pub mod Measures
+pub mod Operators
+pub mod TreeSizes
 pub mod Checking

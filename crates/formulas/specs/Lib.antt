@@ -1,2 +1,3 @@
 pub mod Formulas
+pub mod Sizes
 pub mod Working

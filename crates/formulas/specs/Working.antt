@@ -1,11 +1,12 @@
 -- What functions inside the crate promise each other. No public promise cites this file.
-use Prim.Native.Nat.{ℕ, _*_}
+use Prim.Native.Nat.{ℕ, _-_, _*_}
 use mathlib.Core.Path.{_≡_}
 use mathlib.Core.Bool.{Bool, true, false, _&&_}
 use mathlib.Core.List.{List, [], _∷_}
 use mathlib.Core.Option.{Option, none, some}
+use lib.ListN.{length, getD}
 use lib.Dec.{leb}
-use Rattle.hml.specs.Formula.{Formula, size, nesting}
+use Rattle.hml.specs.Formula.{Formula, top, size, nesting}
 use Rattle.hml.specs.Spell.{spell, parse}
 use Rattle.formulas.specs.declared.node.Node.{Node}
 use Rattle.formulas.specs.declared.node.Node.the-variants as node
@@ -14,6 +15,14 @@ use Rattle.formulas.specs.declared.tree.Measure.{Measure}
 -- bytes that begin with a tree
 unfoldable pub Tree : List ℕ → Type 0
 Tree f = (φ : Formula) × (rest : List ℕ) × (f ≡ spell φ rest)
+
+-- the first tree; `top` where there is none
+unfoldable pub treeIn : Option (Formula × List ℕ) → Formula
+treeIn none = top
+treeIn (some t) = t .0
+
+unfoldable pub treeOf : List ℕ → Formula
+treeOf f = treeIn (parse f)
 
 -- the length and the nesting of the first tree
 unfoldable pub measuredAs : Option (Formula × List ℕ) → Measure
@@ -32,3 +41,7 @@ unfoldable pub labelsFit : ℕ → List ℕ → Bool
 labelsFit n [] = true
 labelsFit n (o ∷ []) = true
 labelsFit n (o ∷ a ∷ bytes) = leb a n && labelsFit n bytes
+
+-- of sizes that stand from the last node on, that of the tree n nodes behind the first one; 0 stands for what is behind the last node
+unfoldable pub sizeBehind : List ℕ → ℕ → ℕ
+sizeBehind sizes n = getD (0 ∷ sizes) (length sizes - n) 0

@@ -17,6 +17,8 @@ pub mod Distinct
 pub mod Quotient
 pub mod Theorem
 pub mod Line
+-- a machine beside one that never moves: the verdict on its run is the joint one
+pub mod Alone
 -- document 01: formulas as bytes, labels and their partners, tables as systems, published cases
 pub mod Spell
 pub mod Labels

@@ -1,2 +1,3 @@
 pub mod Joints
 pub mod JointRuns
+pub mod Buffers

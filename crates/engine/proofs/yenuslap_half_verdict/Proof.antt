@@ -1,0 +1,21 @@
+-- The verdict's number.
+use borrow.Author.Needs.{needs}
+use Rattle.engine.proofs.yenuslap_half_verdict.Statement.{statement}
+use Rattle.engine.proofs.yenuslap_half_verdict.Tie as tie
+use Rattle.engine.proofs.yenuslap_half_verdict.Lts as lts
+use Rattle.engine.proofs.verdict_value.Reads as verdict-value-reads
+use Rattle.verdict.proofs.half.half.Reads as half-reads
+use mathlib.Core.Path.{_∙_, ap}
+use Rattle.engine.specs.Answers.{verdictAnswer}
+
+half-requires : tie.Need-half-requires
+half-requires c κs = search needs
+
+verdict-value-requires : tie.Need-verdict-value-requires
+verdict-value-requires c κs = search needs
+
+returns : tie.Need-returns
+returns c = c .verdict-value .ensures ∙ ap verdictAnswer (c .before .half .ensures)
+
+pub yenuslap-half-verdict-spec : {M : Type 1} → statement M
+yenuslap-half-verdict-spec = tie.close (tie.spec half-requires verdict-value-requires returns)

@@ -1,0 +1,21 @@
+-- The verdict's number.
+use borrow.Author.Needs.{needs}
+use Rattle.engine.proofs.yenuslap_joint_verdict.Statement.{statement}
+use Rattle.engine.proofs.yenuslap_joint_verdict.Tie as tie
+use Rattle.engine.proofs.yenuslap_joint_verdict.Lts as lts
+use Rattle.engine.proofs.verdict_value.Reads as verdict-value-reads
+use Rattle.verdict.proofs.joint.joint.Reads as joint-reads
+use mathlib.Core.Path.{_∙_, ap}
+use Rattle.engine.specs.Answers.{verdictAnswer}
+
+joint-requires : tie.Need-joint-requires
+joint-requires c κs = search needs
+
+verdict-value-requires : tie.Need-verdict-value-requires
+verdict-value-requires c κs = search needs
+
+returns : tie.Need-returns
+returns c = c .verdict-value .ensures ∙ ap verdictAnswer (c .before .joint .ensures)
+
+pub yenuslap-joint-verdict-spec : {M : Type 1} → statement M
+yenuslap-joint-verdict-spec = tie.close (tie.spec joint-requires verdict-value-requires returns)

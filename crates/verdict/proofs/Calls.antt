@@ -1,0 +1,278 @@
+-- What the checks of a call let through, and that its answer is then the verdict.
+use Prim.Native.Nat.{ℕ, _+_, _-_, _*_, _/_, _%_, _≤_, _<_}
+use mathlib.Core.Path.{_≡_, refl, sym, _∙_, ap, fun-ext}
+use mathlib.Core.Bool.{Bool, true, false, not}
+use mathlib.Core.List.{List, [], _∷_, _++_}
+use mathlib.Core.Option.{some}
+use native.Mathlib.Omega.{arith}
+use lib.ListN.{length, getD, take, drop, length-take}
+use lib.Seq.{take-take, take-at, take-length, getD-take, length-take-le}
+use lib.Dec.{eqb, ltb}
+use borrow.Author.Tests.{lt-ltb, le-ltb, ltb-false, eq-eqb, ne-eqb}
+use Rattle.hml.specs.Tests.{apart}
+use Rattle.hml.specs.Lists.{present}
+use Rattle.hml.specs.System.{Run, last, steps, stop}
+use Rattle.hml.specs.Formula.{Formula, size, nesting, holds}
+use Rattle.hml.specs.Machine.{machine}
+use Rattle.hml.specs.Labels.{pairs}
+use Rattle.hml.specs.Alone.{alone, holds-alone}
+use Rattle.labels.specs.Refusals.{thenOf, firstOf, refusedIf}
+use Rattle.labels.specs.Labels.{checkPairs, pairing}
+use Rattle.labels.specs.declared.label.Labels.{Labels}
+use Rattle.labels.specs.declared.refusal.Refusal.{Refusal}
+use Rattle.labels.specs.declared.refusal.Refusal.the-variants.{PointBeyond}
+use Rattle.labels.specs.declared.refusal.Check.{Check}
+use Rattle.labels.specs.declared.refusal.Check.the-variants.{Sound, Refused}
+use Rattle.labels.proofs.Refusals.{then-sound, both-sound, judges}
+use Rattle.tables.specs.Tables.{tableOf, checkTable, fitTable, fitStates, rowsOf, threes, checkRows}
+use Rattle.tables.proofs.SoundTables.{SoundTable, sound-table, no-idle-label}
+use Rattle.halves.specs.Halves.{halfOf, isHalfRun, checkHalf, checkTableAndHalf}
+use Rattle.halves.specs.Cuts.{beyond}
+use Rattle.halves.proofs.HalfRuns.{AcceptedHalf, accepted-half, half-stop}
+use Rattle.machines.specs.Joints.{jointOf, fitJoint, isJointRun, checkJoint, checkTablesAndJoint}
+use Rattle.machines.proofs.JointRuns.{AcceptedJoint, accepted-joint, joint-stop, joint-stopped}
+use Rattle.machines.proofs.Buffers.{Held}
+use Rattle.formulas.specs.Formulas.{formulaOf, Legal, checkFormula}
+use Rattle.formulas.specs.Sizes.{sizesOver}
+use Rattle.formulas.specs.Working.{Tree, treeOf}
+use Rattle.formulas.proofs.Checking.{judged-formula, formula-spell, formula-length}
+use Rattle.formulas.proofs.Operators.{tree-spell}
+use Rattle.formulas.proofs.TreeSizes.{sizes-over}
+use Rattle.verdict.specs.Verdicts.{nodeLimit, jointHolds, halfHolds, checkJointCall, checkHalfCall, verdictOf, answered, jointVerdict, halfVerdict}
+use Rattle.verdict.specs.Working.{Tables, Ready, judged, besideStill}
+use Rattle.verdict.specs.declared.answer.Verdict.{Verdict}
+use Rattle.verdict.specs.declared.answer.Verdict.the-variants as verdict
+use Rattle.verdict.proofs.Still.{still-read, still-length, still-take, still-ends}
+
+-- a legal formula is ready for its verdict, with the sizes of its trees
+module _ (k : ℕ) (f : List ℕ) (legal : Legal k nodeLimit f) where
+  pub legal-ready : (sizes xs : List ℕ) (n : ℕ) → length sizes ≡ 4096 → Held xs n → n + 12 ≤ length xs → Ready k (sizesOver f sizes) xs n 0 f
+  unfolding Legal Tree nodeLimit
+  legal-ready sizes xs n z h i =
+      let (φ, e, s, l, d) = legal in
+      let t : treeOf f ≡ φ = ap treeOf e ∙ tree-spell φ [] in
+      record { tree = (φ, [], e); ranged = rw t l; sized = sizes-over f sizes (omega (arith, formula-length f φ e, s, z)); held = h; room = omega (arith, ap nesting t, d, i) }
+
+  legal-tree : formulaOf f ≡ some (treeOf f)
+  unfolding Legal
+  legal-tree = let (φ, e, s, l, d) = legal in ap formulaOf e ∙ formula-spell φ ∙ ap some (sym (ap treeOf e ∙ tree-spell φ []))
+
+  module _ (F : Formula → Bool) (b : Bool) (p : b ≡ F (treeOf f)) where
+    pub legal-holds : b ≡ true → verdict.Holds ≡ verdictOf (present F (formulaOf f))
+    unfolding verdictOf
+    legal-holds e = rw (legal-tree, ← p, e)
+
+    pub legal-fails : b ≡ false → verdict.Fails ≡ verdictOf (present F (formulaOf f))
+    unfolding verdictOf
+    legal-fails e = rw (legal-tree, ← p, e)
+
+-- a test that was not refused
+passed : (b : Bool) (x : Refusal) → refusedIf (not b) x ≡ Sound → b ≡ true
+passed true x e = refl
+passed false x e = absurd (apart cc)
+
+unrefused : (b : Bool) (x : Refusal) → refusedIf b x ≡ Sound → b ≡ false
+unrefused true x e = absurd (apart cc)
+unrefused false x e = refl
+
+-- the joint call
+module _ (k : ℕ) (l r s f : List ℕ) where
+  -- the checks of the parts
+  abbrev pub jointParts : Check
+  jointParts = thenOf (thenOf (checkPairs k) (checkTablesAndJoint k l r s)) (checkFormula k 4096 f)
+
+  joint-regroup : (p : ℕ) → checkJointCall k l r s f p ≡ thenOf jointParts (refusedIf (ltb (steps (jointOf s)) p) PointBeyond)
+  unfolding checkJointCall checkTablesAndJoint firstOf nodeLimit
+  joint-regroup p = go (checkPairs k) (checkTable k l) (checkTable k r) (checkJoint k l r s) (checkFormula k 4096 f) (refusedIf (ltb (steps (jointOf s)) p) PointBeyond)
+    where
+      go : (c l r j f b : Check) → thenOf c (thenOf l (thenOf r (thenOf j (thenOf f (thenOf b Sound))))) ≡ thenOf (thenOf (thenOf c (thenOf l (thenOf r (thenOf j Sound)))) f) b
+      go (Refused x) l r j f b = refl
+      go Sound (Refused x) r j f b = refl
+      go Sound Sound (Refused x) j f b = refl
+      go Sound Sound Sound (Refused x) f b = refl
+      go Sound Sound Sound Sound (Refused x) b = refl
+      go Sound Sound Sound Sound Sound b = then-sound b
+
+  -- what they let through
+  pub record JointCall : Type 0 where
+    pub tables : Tables k l r
+    pub fit : fitJoint s ≡ true
+    pub real : isJointRun k l r s ≡ true
+    pub legal : Legal k nodeLimit f
+
+  pub joint-parts : jointParts ≡ Sound → JointCall
+  unfolding checkTablesAndJoint checkJoint firstOf nodeLimit
+  joint-parts e =
+      let (a, formula) = both-sound (thenOf (checkPairs k) (checkTablesAndJoint k l r s)) (checkFormula k 4096 f) e in
+      let (pairs, b) = both-sound (checkPairs k) (checkTablesAndJoint k l r s) a in
+      let (left, c) = both-sound (checkTable k l) _ b in
+      let (right, d) = both-sound (checkTable k r) _ c in
+      let (run, _) = both-sound (checkJoint k l r s) _ d in
+      let (fit, g) = both-sound (refusedIf (not (fitJoint s)) _) _ run in
+      let (real, _) = both-sound (refusedIf (not (isJointRun k l r s)) _) _ g in
+      record {
+        tables = record { left = sound-table k l left; right = sound-table k r right };
+        fit = passed (fitJoint s) _ fit;
+        real = passed (isJointRun k l r s) _ real;
+        legal = judges (judged-formula k 4096 f) .0 formula;
+      }
+
+  module _ (call : JointCall) where
+    joint-accepted : AcceptedJoint k l r s
+    joint-accepted = accepted-joint k l r (no-idle-label (call .tables .left)) (no-idle-label (call .tables .right)) s (call .fit) (call .real)
+
+    joint-steps : steps (jointOf s) ≡ length s / 3
+    joint-steps = joint-accepted .counted
+
+    -- a point of the run
+    module _ (p : ℕ) (within : p ≤ length s / 3) where
+      pub joint-room : (3 * p + 2 ≤ length s) × (p ≤ 200)
+      joint-room = let a = joint-accepted in omega (arith, a .whole, a .counted, a .few)
+
+      -- a buffer that begins with the run up to the point
+      module _ (xs : List ℕ) (e : take (3 * p + 2) xs ≡ take (3 * p + 2) s) where
+        front : (n : ℕ) → n ≤ 3 * p + 2 → take n xs ≡ take n s
+        front n h = sym (take-take n (3 * p + 2) xs h) ∙ ap (take n) e ∙ take-take n (3 * p + 2) s h
+
+        front-at : (i : ℕ) → i < 3 * p + 2 → getD xs i 0 ≡ getD s i 0
+        front-at i h = sym (getD-take (3 * p + 2) xs i 0 h) ∙ ap (λ zs. getD zs i 0) e ∙ getD-take (3 * p + 2) s i 0 h
+
+        pub joint-held : 3 * p + 2 ≤ length xs → Held xs (3 * p + 2)
+        joint-held h = record { whole = omega arith; within = h; kept = kept }
+          where
+            kept : (m : ℕ) → 3 * m + 2 ≤ 3 * p + 2 → last (jointOf (take (3 * m + 2) xs)) ≡ (getD xs (3 * m) 0, getD xs (3 * m + 1) 0)
+            kept m i =
+                let (fit, real) = joint-stopped k l r s m (call .fit) (call .real) in
+                let a = accepted-joint k l r (no-idle-label (call .tables .left)) (no-idle-label (call .tables .right)) (take (3 * m + 2) s) fit real in
+                let n : length (take (3 * m + 2) s) ≡ 3 * m + 2 = length-take-le (3 * m + 2) s (omega (arith, joint-room)) in
+                let u : length (take (3 * m + 2) s) - 2 ≡ 3 * m = omega (arith, n) in
+                let v : length (take (3 * m + 2) s) - 1 ≡ 3 * m + 1 = omega (arith, n) in
+                rw (front (3 * m + 2) i, a .ends, u, v, getD-take (3 * m + 2) s (3 * m) 0 (omega arith), getD-take (3 * m + 2) s (3 * m + 1) 0 (omega arith), front-at (3 * m) (omega arith), front-at (3 * m + 1) (omega arith))
+
+        pub joint-answer : checkJointCall k l r s f p ≡ Sound → (v : Verdict) → v ≡ verdictOf (present (λ φ. judged (record { pairs = k }) l r φ (jointOf (take (3 * p + 2) xs))) (formulaOf f)) → v ≡ jointVerdict k l r s f p
+        unfolding jointVerdict jointHolds answered judged pairing
+        joint-answer c v w = rw (c, ← joint-stop s p, ← e) w
+
+  -- the cases of the check
+  pub joint-refused : (p : ℕ) (x : Refusal) → jointParts ≡ Refused x → Refused x ≡ checkJointCall k l r s f p
+  joint-refused p x e = rw (joint-regroup p, e)
+
+  pub joint-beyond : (p : ℕ) → jointParts ≡ Sound → length s / 3 < p → Refused PointBeyond ≡ checkJointCall k l r s f p
+  joint-beyond p e h = rw (joint-regroup p, e, joint-steps (joint-parts e), lt-ltb (length s / 3) p h)
+
+  pub joint-sound : (p : ℕ) → jointParts ≡ Sound → p ≤ length s / 3 → Sound ≡ checkJointCall k l r s f p
+  joint-sound p e h = rw (joint-regroup p, e, joint-steps (joint-parts e), le-ltb (length s / 3) p h)
+
+  pub joint-call : (p : ℕ) → checkJointCall k l r s f p ≡ Sound → JointCall × (p ≤ length s / 3)
+  joint-call p e =
+      let (a, b) = both-sound jointParts (refusedIf (ltb (steps (jointOf s)) p) PointBeyond) (sym (joint-regroup p) ∙ e) in
+      let c = joint-parts a in
+      (c, omega (arith, joint-steps c, ltb-false (steps (jointOf s)) p (unrefused _ _ b)))
+
+-- the copy of the first n bytes
+pub copied : (s xs ys : List ℕ) (n : ℕ) → n ≤ length s → xs ≡ take (length (take n s)) (take n s) ++ ys → take n xs ≡ take n s
+copied s xs ys n h e = rw (e, take-length (take n s)) (take-at (take n s) ys n (length-take-le n s h))
+
+pub answer-refused : (c : Check) (x : Refusal) (b : Bool) → c ≡ Refused x → verdict.Refused x ≡ answered c b
+unfolding answered
+answer-refused c x b e = rw e
+
+-- the table of one state and no rows is sound, and nothing leaves its state
+abbrev pub still : List ℕ
+still = 1 ∷ []
+
+still-sound : (k : ℕ) → SoundTable k still
+unfolding checkTable fitTable fitStates rowsOf threes checkRows firstOf
+still-sound k = sound-table k still refl
+
+nothing-leaves : tableOf still 0 ≡ []
+unfolding tableOf machine rowsOf threes
+nothing-leaves = refl
+
+-- the half call
+module _ (k : ℕ) (t s f : List ℕ) where
+  -- the checks of the parts
+  abbrev pub halfParts : Check
+  halfParts = thenOf (thenOf (checkPairs k) (checkTable k t)) (checkFormula k 4096 f)
+
+  half-regroup : (p : ℕ) → checkHalfCall k t s f p ≡ thenOf halfParts (thenOf (refusedIf (beyond s p) PointBeyond) (checkHalf t s))
+  unfolding checkHalfCall firstOf nodeLimit
+  half-regroup p = go (checkPairs k) (checkTable k t) (checkFormula k 4096 f) (refusedIf (beyond s p) PointBeyond) (checkHalf t s)
+    where
+      go : (c t f b h : Check) → thenOf c (thenOf t (thenOf f (thenOf b (thenOf h Sound)))) ≡ thenOf (thenOf (thenOf c t) f) (thenOf b h)
+      go (Refused x) t f b h = refl
+      go Sound (Refused x) f b h = refl
+      go Sound Sound (Refused x) b h = refl
+      go Sound Sound Sound (Refused x) h = refl
+      go Sound Sound Sound Sound h = then-sound h
+
+  -- what they let through
+  pub record HalfCall : Type 0 where
+    pub table : SoundTable k t
+    pub run : isHalfRun t s ≡ true
+    pub legal : Legal k nodeLimit f
+
+  half-parts : halfParts ≡ Sound → (checkTable k t ≡ Sound) × (checkFormula k 4096 f ≡ Sound)
+  half-parts e =
+      let (a, formula) = both-sound (thenOf (checkPairs k) (checkTable k t)) (checkFormula k 4096 f) e in
+      (both-sound (checkPairs k) (checkTable k t) a .1, formula)
+
+  module _ (call : HalfCall) (p : ℕ) (within : beyond s p ≡ false) where
+    half-accepted : AcceptedHalf t s
+    half-accepted = accepted-half t s (call .run)
+
+    pub half-room : (2 * p + 1 ≤ length s) × (p ≤ 200)
+    unfolding beyond
+    half-room =
+        let a = half-accepted in
+        let w : ltb (length s / 2) p ≡ false = rw (ne-eqb (length s % 2) 0 (λ z. omega (arith, a .odd, z))) at within in
+        omega (arith, a .odd, a .counted, a .few, ltb-false (length s / 2) p w)
+
+    half-odd : length (take (2 * p + 1) s) % 2 ≡ 1
+    half-odd = rw (length-take-le (2 * p + 1) s (half-room .0)) (omega arith)
+
+    pub half-tables : Tables k t still
+    half-tables = record { left = call .table; right = still-sound k }
+
+    -- a buffer that begins with the run up to the point, beside the machine that stays in its state
+    module _ (xs ys : List ℕ) (e : xs ≡ besideStill (take (2 * p + 1) s) ++ ys) where
+      half-front : take (3 * p + 2) xs ≡ besideStill (take (2 * p + 1) s)
+      half-front =
+          let z = length-take-le (2 * p + 1) s (half-room .0) in
+          rw e (take-at (besideStill (take (2 * p + 1) s)) ys (3 * p + 2) (still-length (take (2 * p + 1) s) half-odd ∙ omega (arith, z)))
+
+      pub half-held : 3 * p + 2 ≤ length xs → Held xs (3 * p + 2)
+      half-held h = record { whole = omega arith; within = h; kept = kept }
+        where
+          kept : (m : ℕ) → 3 * m + 2 ≤ 3 * p + 2 → last (jointOf (take (3 * m + 2) xs)) ≡ (getD xs (3 * m) 0, getD xs (3 * m + 1) 0)
+          kept m i =
+              let g : take (3 * p + 2) xs ≡ take (3 * p + 2) (besideStill s) = half-front ∙ sym (still-take s p (half-room .0)) in
+              let n : (j : ℕ) → j < 3 * p + 2 → getD xs j 0 ≡ getD (besideStill s) j 0 = λ j h. sym (getD-take (3 * p + 2) xs j 0 h) ∙ ap (λ zs. getD zs j 0) g ∙ getD-take (3 * p + 2) (besideStill s) j 0 h in
+              let w : take (3 * m + 2) xs ≡ take (3 * m + 2) (besideStill s) = sym (take-take (3 * m + 2) (3 * p + 2) xs i) ∙ ap (take (3 * m + 2)) g ∙ take-take (3 * m + 2) (3 * p + 2) (besideStill s) i in
+              rw (w, n (3 * m) (omega arith), n (3 * m + 1) (omega arith)) (still-ends t s (call .run) m (omega (arith, half-room)))
+
+      pub half-answer : checkHalfCall k t s f p ≡ Sound → (v : Verdict) → v ≡ verdictOf (present (λ φ. judged (record { pairs = k }) t still φ (jointOf (take (3 * p + 2) xs))) (formulaOf f)) → v ≡ halfVerdict k t s f p
+      unfolding halfVerdict halfHolds answered judged pairing
+      half-answer c v w =
+          let same : (φ : Formula) → judged (record { pairs = k }) t still φ (jointOf (take (3 * p + 2) xs)) ≡ holds (tableOf t) φ (stop p (halfOf s)) = λ φ.
+          rw (half-front, still-read (take (2 * p + 1) s) half-odd, ← half-stop s p) (holds-alone (pairs k) (tableOf t) (tableOf still) 0 nothing-leaves φ (halfOf (take (2 * p + 1) s))) in
+          w ∙ ap verdictOf (ap (λ F. present F (formulaOf f)) (fun-ext same)) ∙ rw c
+
+  -- the cases of the check
+  pub half-refused : (p : ℕ) (x : Refusal) → halfParts ≡ Refused x → Refused x ≡ checkHalfCall k t s f p
+  half-refused p x e = rw (half-regroup p, e)
+
+  pub half-beyond : (p : ℕ) → halfParts ≡ Sound → beyond s p ≡ true → Refused PointBeyond ≡ checkHalfCall k t s f p
+  half-beyond p e b = rw (half-regroup p, e, b)
+
+  pub half-judged : (p : ℕ) → halfParts ≡ Sound → beyond s p ≡ false → (c : Check) → c ≡ checkTableAndHalf k t s → c ≡ checkHalfCall k t s f p
+  unfolding checkTableAndHalf firstOf
+  half-judged p e b c h = rw (half-regroup p, e, b) (h ∙ rw (half-parts e .0) (then-sound (checkHalf t s)))
+
+  pub half-call : (p : ℕ) → checkHalfCall k t s f p ≡ Sound → HalfCall × (beyond s p ≡ false)
+  unfolding checkHalf nodeLimit
+  half-call p e =
+      let (a, b) = both-sound halfParts (thenOf (refusedIf (beyond s p) PointBeyond) (checkHalf t s)) (sym (half-regroup p) ∙ e) in
+      let (x, y) = both-sound (refusedIf (beyond s p) PointBeyond) (checkHalf t s) b in
+      let (table, formula) = half-parts a in
+      (record { table = sound-table k t table; run = passed (isHalfRun t s) _ y; legal = judges (judged-formula k 4096 f) .0 formula }, unrefused _ _ x)

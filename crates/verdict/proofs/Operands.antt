@@ -1,0 +1,236 @@
+-- The verdict of a formula from those of its operands, by its operator.
+use Prim.Native.Nat.{ℕ, zero, suc, _+_, _-_, _*_, _/_, _%_, _≤_, _<_, max}
+use mathlib.Core.Path.{_≡_, refl, sym, _∙_, ap}
+use mathlib.Core.Logic.{_⊎_, inl, inr, ⊎-elim}
+use mathlib.Core.Bool.{Bool, true, false, cond, _&&_, _||_, not as negate, false≢true, Bool·beq}
+use mathlib.Core.List.{List}
+use native.Mathlib.Omega.{arith}
+use lib.ListN.{length, getD, take, drop, length-drop}
+use lib.Dec.{eqb, leb}
+use borrow.Author.Tests.{eq-eqb, ne-eqb, eqb-true, eqb-false, leb-true}
+use Rattle.hml.specs.Tests.{same, both-true}
+use Rattle.hml.specs.System.{Run, start, _▸_, move, idle, last}
+use Rattle.hml.specs.Formula.{Formula, top, bottom, not, and, or, fwd, back, fwdIdle, backIdle, size, nesting, labelled, holds}
+use Rattle.hml.specs.Labels.{count}
+use Rattle.labels.specs.declared.label.Labels.{Labels}
+use Rattle.labels.proofs.Slices.{rest, rest-of}
+use Rattle.halves.specs.Runs.{stepOf}
+use Rattle.machines.specs.Joints.{jointOf}
+use Rattle.machines.proofs.Buffers.{Held, held-last, held-empty, held-shorter, held-step}
+use Rattle.formulas.specs.Working.{Tree, treeOf}
+use Rattle.formulas.specs.Sizes.{Sized, treeSize}
+use Rattle.formulas.proofs.Operators.{At, Unary, Binary, at, tree-spell, node-room}
+use Rattle.formulas.proofs.TreeSizes.{size-spell, sized-room, sized-part, sized-first}
+use Rattle.verdict.specs.declared.step.Step.the-variants as step
+use Rattle.verdict.specs.Working.{Ready, Shown, jointStep, grants, judged, statesOf}
+
+-- the operator, from the tests that it passed and failed
+pub two-up : (o : ℕ) → (o ≡ 0 → ⊥) → (o ≡ 1 → ⊥) → 2 ≤ o
+two-up zero a b = absurd (a refl)
+two-up (suc zero) a b = absurd (b refl)
+two-up (suc (suc o)) a b = omega arith
+
+from-2-to-4 : {P : Type 0} (o : ℕ) → 2 ≤ o → o < 5 → (o ≡ 2 → P) → (o ≡ 3 → P) → (o ≡ 4 → P) → P
+from-2-to-4 zero a b p q r = absurd (omega arith)
+from-2-to-4 (suc zero) a b p q r = absurd (omega arith)
+from-2-to-4 (suc (suc zero)) a b p q r = p refl
+from-2-to-4 (suc (suc (suc zero))) a b p q r = q refl
+from-2-to-4 (suc (suc (suc (suc zero)))) a b p q r = r refl
+from-2-to-4 (suc (suc (suc (suc (suc o))))) a b p q r = absurd (omega arith)
+
+first-true : (a b : Bool) → (a && b) ≡ true → a ≡ true
+first-true a b e = both-true {a = a} {b = b} e .0
+
+second-true : (a b : Bool) → (a && b) ≡ true → b ≡ true
+second-true a b e = both-true {a = a} {b = b} e .1
+
+pub rest-length : (k : ℕ) (l : List ℕ) → length (rest k l) ≡ length l - k
+rest-length k l = ap length (rest-of k l) ∙ length-drop k l
+
+-- the size of the first tree
+tree-size : (f : List ℕ) → Tree f → treeSize f ≡ size (treeOf f)
+unfolding Tree
+tree-size f (φ, rest, e) = rw (e, size-spell φ rest, tree-spell φ rest)
+
+module _ (k : ℕ) (sizes xs : List ℕ) (n : ℕ) (f : List ℕ) (y : Ready k sizes xs n 0 f) where
+  sized-body : Sized sizes (drop 2 f)
+  sized-body = sized-part sizes f 1 (y .sized)
+
+  -- what a call for the operand of a modality or of "not" may rely on
+  operand-ready : (g : Formula → Formula) → Unary f g → (m more : ℕ) → Held xs m → (labelled (count k) (g (treeOf (drop 2 f))) ≡ true → labelled (count k) (treeOf (drop 2 f)) ≡ true)
+      → m + 3 * (more + nesting (treeOf (drop 2 f))) ≤ n + 3 * nesting (g (treeOf (drop 2 f))) → Ready k sizes xs m more (rest 2 f)
+  operand-ready g u m more h l i =
+      let z = ap nesting (u .is) in
+      let w = y .ranged in
+      rw (rest-of 2 f) (record { tree = u .operand; ranged = l (rw (u .is) at w); sized = sized-body; held = h; room = omega (arith, i, z, y .room) })
+
+  not-ready : getD f 0 0 ≡ 2 → Ready k sizes xs n 0 (rest 2 f)
+  unfolding labelled nesting
+  not-ready e = operand-ready not (at f (y .tree) 2 e) n 0 (y .held) (λ l. l) (omega arith)
+
+  pub forward-ready : getD f 0 0 ≡ 5 → Ready k sizes xs n 1 (rest 2 f) × Shown (getD f 1 0)
+  unfolding labelled nesting count
+  forward-ready e =
+      let u = at f (y .tree) 5 e in
+      let w = y .ranged in
+      (operand-ready (fwd (getD f 1 0)) u n 1 (y .held) (second-true (leb (getD f 1 0) (count k)) _) (omega arith), λ z. omega (arith, leb-true (getD f 1 0) (count k) (first-true _ (labelled (count k) (treeOf (drop 2 f))) (rw (u .is) at w))))
+
+  pub idle-ready : getD f 0 0 ≡ 7 → Ready k sizes xs n 1 (rest 2 f)
+  unfolding labelled nesting
+  idle-ready e = operand-ready fwdIdle (at f (y .tree) 7 e) n 1 (y .held) (λ l. l) (omega arith)
+
+  pub back-ready : (getD f 0 0 ≡ 6) ⊎ (getD f 0 0 ≡ 8) → 5 ≤ n → Ready k sizes xs (n - 3) 0 (rest 2 f)
+  unfolding labelled nesting
+  back-ready (inl e) l = operand-ready (back (getD f 1 0)) (at f (y .tree) 6 e) (n - 3) 0 (held-shorter xs n (y .held) l) (second-true (leb (getD f 1 0) (count k)) _) (omega arith)
+  back-ready (inr e) l = operand-ready backIdle (at f (y .tree) 8 e) (n - 3) 0 (held-shorter xs n (y .held) l) (λ l. l) (omega arith)
+
+  -- the same for the operands of "and" and "or"
+  module _ (g : Formula → Formula → Formula) (u : Binary f g) (l : (φ ψ : Formula) → labelled (count k) (g φ ψ) ≡ (labelled (count k) φ && labelled (count k) ψ)) (d : (φ ψ : Formula) → nesting (g φ ψ) ≡ max (nesting φ) (nesting ψ)) where
+    both-ranged : (labelled (count k) (treeOf (drop 2 f)) ≡ true) × (labelled (count k) (treeOf (drop (2 * size (treeOf (drop 2 f))) (drop 2 f))) ≡ true)
+    both-ranged = both-true (sym (ap (labelled (count k)) (u .is) ∙ l _ _) ∙ y .ranged)
+
+    both-room : n + 3 * max (nesting (treeOf (drop 2 f))) (nesting (treeOf (drop (2 * size (treeOf (drop 2 f))) (drop 2 f)))) ≤ length xs
+    both-room = omega (arith, y .room, ap nesting (u .is) ∙ d _ _)
+
+    first-of : Ready k sizes xs n 0 (rest 2 f)
+    first-of = rw (rest-of 2 f) (record { tree = u .first; ranged = both-ranged .0; sized = sized-body; held = y .held; room = omega (arith, both-room) })
+
+    second-of : Ready k sizes xs n 0 (drop (2 * size (treeOf (drop 2 f))) (drop 2 f))
+    second-of = record {
+      tree = u .second;
+      ranged = both-ranged .1;
+      sized = sized-part sizes (drop 2 f) (size (treeOf (drop 2 f))) sized-body;
+      held = y .held;
+      room = omega (arith, both-room);
+    }
+
+  pub first-ready : 2 ≤ getD f 0 0 → getD f 0 0 < 5 → Ready k sizes xs n 0 (rest 2 f)
+  unfolding labelled nesting
+  first-ready a b = from-2-to-4 (getD f 0 0) a b not-ready
+      (λ e. first-of and (at f (y .tree) 3 e) (λ φ ψ. refl) (λ φ ψ. refl))
+      (λ e. first-of or (at f (y .tree) 4 e) (λ φ ψ. refl) (λ φ ψ. refl))
+
+  -- the second operand begins where the first one ends, which the sizes tell
+  module _ (a : 2 ≤ getD f 0 0) (b : getD f 0 0 < 5) (c : getD f 0 0 ≡ 2 → ⊥) where
+    body-node : (2 ≤ length (rest 2 f)) × (length (rest 2 f) / 2 ≤ length sizes)
+    body-node = let r = first-ready a b in (node-room (rest 2 f) (r .tree), sized-room sizes (rest 2 f) (r .sized))
+
+    pub size-read : (1 ≤ length (rest 2 f) / 2) × (length (rest 2 f) / 2 - 1 < length sizes)
+    size-read = omega (arith, body-node)
+
+    module _ (m : ℕ) (e : m ≡ getD sizes (length (rest 2 f) / 2 - 1) 0) where
+      first-size : m ≡ size (treeOf (drop 2 f))
+      first-size =
+          let r = first-ready a b in
+          e ∙ sized-first sizes (rest 2 f) (r .sized) (body-node .0) ∙ tree-size (rest 2 f) (r .tree) ∙ ap (λ (l : List ℕ). size (treeOf l)) (rest-of 2 f)
+
+      pub second-part : rest (2 * m) (rest 2 f) ≡ drop (2 * size (treeOf (drop 2 f))) (drop 2 f)
+      second-part = rest-of (2 * m) (rest 2 f) ∙ ap (drop (2 * m)) (rest-of 2 f) ∙ ap (λ (i : ℕ). drop (2 * i) (drop 2 f)) first-size
+
+      pub second-room : 2 * m ≤ length (rest 2 f)
+      second-room = from-2-to-4 (getD f 0 0) a b (λ h. absurd (c h))
+          (λ h. omega (arith, at f (y .tree) 3 h .room, first-size, ap length (rest-of 2 f), length-drop 2 f))
+          (λ h. omega (arith, at f (y .tree) 4 h .room, first-size, ap length (rest-of 2 f), length-drop 2 f))
+
+      pub second-ready : Ready k sizes xs n 0 (rest (2 * m) (rest 2 f))
+      unfolding labelled nesting
+      second-ready = rw second-part (from-2-to-4 (getD f 0 0) a b (λ h. absurd (c h))
+          (λ e. second-of and (at f (y .tree) 3 e) (λ φ ψ. refl) (λ φ ψ. refl))
+          (λ e. second-of or (at f (y .tree) 4 e) (λ φ ψ. refl) (λ φ ψ. refl)))
+
+-- the verdict from those of the operands
+module _ (labels : Labels) (l r f : List ℕ) (j : Run (ℕ × ℕ)) (t : Tree f) where
+  pub judged-top : getD f 0 0 ≡ 0 → true ≡ judged labels l r (treeOf f) j
+  unfolding judged holds
+  judged-top e = rw (at f t 0 e)
+
+  pub judged-bottom : getD f 0 0 ≡ 1 → false ≡ judged labels l r (treeOf f) j
+  unfolding judged holds
+  judged-bottom e = rw (at f t 1 e)
+
+  pub judged-not : (b : Bool) → getD f 0 0 ≡ 2 → b ≡ judged labels l r (treeOf (rest 2 f)) j → negate b ≡ judged labels l r (treeOf f) j
+  unfolding judged holds
+  judged-not b e p = rw (at f t 2 e .is) (ap negate (rw (rest-of 2 f) at p))
+
+  pub judged-forward : (b : Bool) → getD f 0 0 ≡ 5 → b ≡ judged labels l r (fwd (getD f 1 0) (treeOf (rest 2 f))) j → b ≡ judged labels l r (treeOf f) j
+  judged-forward b e p = rw (at f t 5 e .is) (rw (rest-of 2 f) at p)
+
+  pub judged-idle : (b : Bool) (u : ℕ × ℕ) → getD f 0 0 ≡ 7 → b ≡ judged labels l r (treeOf (rest 2 f)) (j ▸ stepOf 255 u) → b ≡ judged labels l r (treeOf f) j
+  unfolding judged holds stepOf
+  judged-idle b u e p = rw (at f t 7 e .is) (rw (rest-of 2 f) at p)
+
+  -- "and" and "or", with o for the operator: the first operand settles it, or the second does
+  module _ (a b : Bool) (p : a ≡ judged labels l r (treeOf (rest 2 f)) j) (x : 2 ≤ getD f 0 0) (y : getD f 0 0 < 5) (z : getD f 0 0 ≡ 2 → ⊥) where
+    operand₁ : a ≡ judged labels l r (treeOf (drop 2 f)) j
+    operand₁ = rw (rest-of 2 f) at p
+
+    pub judged-settled : Bool·beq a (eqb (getD f 0 0) 4) ≡ true → a ≡ judged labels l r (treeOf f) j
+    unfolding judged holds
+    judged-settled s = from-2-to-4 (getD f 0 0) x y (λ e. absurd (z e))
+        (λ e. rw (at f t 3 e .is, ← operand₁) (settled a _ (rw e at s)))
+        (λ e. rw (at f t 4 e .is, ← operand₁) (settled-or a _ (rw e at s)))
+      where
+        settled : (a c : Bool) → Bool·beq a false ≡ true → a ≡ (a && c)
+        settled true c s = absurd (false≢true s)
+        settled false c s = refl
+
+        settled-or : (a c : Bool) → Bool·beq a true ≡ true → a ≡ (a || c)
+        settled-or true c s = refl
+        settled-or false c s = absurd (false≢true s)
+
+    pub judged-second : Bool·beq a (eqb (getD f 0 0) 4) ≡ false → b ≡ judged labels l r (treeOf (drop (2 * size (treeOf (drop 2 f))) (drop 2 f))) j → b ≡ judged labels l r (treeOf f) j
+    unfolding judged holds
+    judged-second s q = from-2-to-4 (getD f 0 0) x y (λ e. absurd (z e))
+        (λ e. rw (at f t 3 e .is, ← operand₁, open-and a (rw e at s)) q)
+        (λ e. rw (at f t 4 e .is, ← operand₁, open-or a (rw e at s)) q)
+      where
+        open-and : (a : Bool) → Bool·beq a false ≡ false → a ≡ true
+        open-and true s = refl
+        open-and false s = absurd (false≢true (sym s))
+
+        open-or : (a : Bool) → Bool·beq a true ≡ false → a ≡ false
+        open-or true s = absurd (false≢true (sym s))
+        open-or false s = refl
+
+-- a back modality, on the run in the first n bytes of xs
+pub back-operator : (f : List ℕ) → Tree f → 5 ≤ getD f 0 0 → (getD f 0 0 ≡ 5 → ⊥) → (getD f 0 0 ≡ 7 → ⊥) → (getD f 0 0 ≡ 6) ⊎ (getD f 0 0 ≡ 8)
+back-operator f t a b c = go (getD f 0 0) a b c (λ o e. at f t o e)
+  where
+    go : (o : ℕ) → 5 ≤ o → (o ≡ 5 → ⊥) → (o ≡ 7 → ⊥) → ((x : ℕ) → o ≡ x → At x f) → (o ≡ 6) ⊎ (o ≡ 8)
+    go zero a b c w = absurd (omega arith)
+    go (suc zero) a b c w = absurd (omega arith)
+    go (suc (suc zero)) a b c w = absurd (omega arith)
+    go (suc (suc (suc zero))) a b c w = absurd (omega arith)
+    go (suc (suc (suc (suc zero)))) a b c w = absurd (omega arith)
+    go (suc (suc (suc (suc (suc zero))))) a b c w = absurd (b refl)
+    go (suc (suc (suc (suc (suc (suc zero)))))) a b c w = inl refl
+    go (suc (suc (suc (suc (suc (suc (suc zero))))))) a b c w = absurd (c refl)
+    go (suc (suc (suc (suc (suc (suc (suc (suc zero)))))))) a b c w = inr refl
+    go (suc (suc (suc (suc (suc (suc (suc (suc (suc o))))))))) a b c w = absurd (w (suc (suc (suc (suc (suc (suc (suc (suc (suc o))))))))) refl)
+
+module _ (labels : Labels) (l r f xs : List ℕ) (n : ℕ) (t : Tree f) (h : Held xs n) (o : (getD f 0 0 ≡ 6) ⊎ (getD f 0 0 ≡ 8)) where
+  -- on the empty run it fails
+  pub back-empty : n < 5 → false ≡ judged labels l r (treeOf f) (jointOf (take n xs))
+  unfolding judged holds
+  back-empty s = ⊎-elim (λ e. rw (at f t 6 e .is, held-empty xs n h s)) (λ e. rw (at f t 8 e .is, held-empty xs n h s)) o
+
+  module _ (s : 5 ≤ n) where
+    -- the verdict by the last step
+    back-step : (a : ℕ) (u : ℕ × ℕ) (j : Run (ℕ × ℕ)) → judged labels l r (treeOf f) (j ▸ stepOf a u)
+        ≡ (grants (getD f 0 0) (getD f 1 0) (jointStep a (u .0) (u .1)) && judged labels l r (treeOf (drop 2 f)) j)
+    unfolding judged holds grants jointStep stepOf
+    back-step a u j = go (eqb a 255) o
+      where
+        go : (b : Bool) → (getD f 0 0 ≡ 6) ⊎ (getD f 0 0 ≡ 8) → judged labels l r (treeOf f) (j ▸ cond b idle (move a u))
+            ≡ (grants (getD f 0 0) (getD f 1 0) (cond b step.Idle (step.Move (record { label = record { 0 = a }; to = statesOf (u .0) (u .1) }))) && judged labels l r (treeOf (drop 2 f)) j)
+        go true (inl e) = rw (at f t 6 e .is, e)
+        go true (inr e) = rw (at f t 8 e .is, e)
+        go false (inl e) = rw (at f t 6 e .is, e)
+        go false (inr e) = rw (at f t 8 e .is, e)
+
+    module _ (b : Bool) (g : b ≡ grants (getD f 0 0) (getD f 1 0) (jointStep (getD xs (n - 3) 0) (getD xs (n - 2) 0) (getD xs (n - 1) 0))) where
+      pub back-other : b ≡ false → false ≡ judged labels l r (treeOf f) (jointOf (take n xs))
+      back-other e = rw (held-step xs n h s, back-step (getD xs (n - 3) 0) (getD xs (n - 2) 0, getD xs (n - 1) 0) (jointOf (take (n - 3) xs)), ← g, e)
+
+      pub back-same : (v : Bool) → b ≡ true → v ≡ judged labels l r (treeOf (rest 2 f)) (jointOf (take (n - 3) xs)) → v ≡ judged labels l r (treeOf f) (jointOf (take n xs))
+      back-same v e p = rw (held-step xs n h s, back-step (getD xs (n - 3) 0) (getD xs (n - 2) 0, getD xs (n - 1) 0) (jointOf (take (n - 3) xs)), ← g, e) (rw (rest-of 2 f) at p)

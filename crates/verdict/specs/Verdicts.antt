@@ -1,0 +1,73 @@
+-- Verdicts: document 01, "Questions and verdicts", and the order of "Who can cause a refusal" in a call that takes parts.
+-- When a formula holds on a run is the theory's to say: `Sat` in hml's Formula has definitions 3 and 4 of source document 000
+-- clause by clause, and `holds` is the test that decides it (`decided` there).
+use Prim.Native.Nat.{ℕ}
+use mathlib.Core.Bool.{Bool, true, false}
+use mathlib.Core.List.{List, [], _∷_}
+use lib.Dec.{ltb}
+use Rattle.hml.specs.Lists.{present}
+use Rattle.hml.specs.System.{steps, stop}
+use Rattle.hml.specs.Formula.{holds}
+use Rattle.hml.specs.Compose.{beside}
+use Rattle.hml.specs.Labels.{pairs}
+use Rattle.labels.specs.Refusals.{refusedIf, firstOf}
+use Rattle.labels.specs.Labels.{checkPairs}
+use Rattle.labels.specs.declared.refusal.Check.{Check}
+use Rattle.labels.specs.declared.refusal.Check.the-variants as check
+use Rattle.labels.specs.declared.refusal.Refusal.the-variants.{PointBeyond}
+use Rattle.tables.specs.Tables.{tableOf, checkTable}
+use Rattle.halves.specs.Halves.{halfOf, checkHalf}
+use Rattle.halves.specs.Cuts.{beyond}
+use Rattle.machines.specs.Joints.{jointOf, checkJoint}
+use Rattle.formulas.specs.Formulas.{formulaOf, checkFormula}
+use Rattle.verdict.specs.declared.answer.Verdict.{Verdict}
+use Rattle.verdict.specs.declared.answer.Verdict.the-variants as verdict
+
+-- "A question has 1 to 64 nodes, a quotient 1 to 4,096; verdicts take either."
+unfoldable pub nodeLimit : ℕ
+nodeLimit = 4096
+
+-- the verdict on two tables and a joint run of them, stopped at a point: the tables beside each other, the formula that the bytes
+-- spell, the run that the bytes spell
+unfoldable pub jointHolds : ℕ → List ℕ → List ℕ → List ℕ → List ℕ → ℕ → Bool
+jointHolds k l r s f point = present (λ φ. holds (beside (pairs k) (tableOf l) (tableOf r)) φ (stop point (jointOf s))) (formulaOf f)
+
+-- the verdict on one table and a half run of it, stopped at a point
+unfoldable pub halfHolds : List ℕ → List ℕ → List ℕ → ℕ → Bool
+halfHolds t s f point = present (λ φ. holds (tableOf t) φ (stop point (halfOf s))) (formulaOf f)
+
+-- what a joint call judges, in order: the parts' numbers, then 12
+unfoldable pub checkJointCall : ℕ → List ℕ → List ℕ → List ℕ → List ℕ → ℕ → Check
+checkJointCall k l r s f point = firstOf
+    (checkPairs k
+    ∷ checkTable k l
+    ∷ checkTable k r
+    ∷ checkJoint k l r s
+    ∷ checkFormula k nodeLimit f
+    ∷ refusedIf (ltb (steps (jointOf s)) point) PointBeyond
+    ∷ [])
+
+-- what a half call judges, in order: the parts' numbers, then 12, "a half of even length has no points", then 15
+unfoldable pub checkHalfCall : ℕ → List ℕ → List ℕ → List ℕ → ℕ → Check
+checkHalfCall k t s f point = firstOf
+    (checkPairs k
+    ∷ checkTable k t
+    ∷ checkFormula k nodeLimit f
+    ∷ refusedIf (beyond s point) PointBeyond
+    ∷ checkHalf t s
+    ∷ [])
+
+-- the answer: the refusal, or the verdict
+unfoldable pub verdictOf : Bool → Verdict
+verdictOf true = verdict.Holds
+verdictOf false = verdict.Fails
+
+unfoldable pub answered : Check → Bool → Verdict
+answered check.Sound b = verdictOf b
+answered (check.Refused x) b = verdict.Refused x
+
+unfoldable pub jointVerdict : ℕ → List ℕ → List ℕ → List ℕ → List ℕ → ℕ → Verdict
+jointVerdict k l r s f point = answered (checkJointCall k l r s f point) (jointHolds k l r s f point)
+
+unfoldable pub halfVerdict : ℕ → List ℕ → List ℕ → List ℕ → ℕ → Verdict
+halfVerdict k t s f point = answered (checkHalfCall k t s f point) (halfHolds t s f point)

@@ -1,0 +1,90 @@
+-- What functions inside the crate promise each other. No public promise cites this file.
+use Prim.Native.Nat.{ℕ, _+_, _*_, _%_, _≤_}
+use mathlib.Core.Path.{_≡_}
+use mathlib.Core.Bool.{Bool, true, false, cond, _&&_}
+use mathlib.Core.List.{List, [], _∷_}
+use mathlib.Core.Option.{Option}
+use lib.ListN.{length, getD, take}
+use lib.Dec.{eqb}
+use Rattle.hml.specs.Tests.{same}
+use Rattle.hml.specs.Lists.{any, present}
+use Rattle.hml.specs.System.{System, Run, last, Pairing}
+use Rattle.hml.specs.Formula.{Formula, holds, nesting, labelled}
+use Rattle.hml.specs.Compose.{beside}
+use Rattle.hml.specs.Machine.{Row}
+use Rattle.hml.specs.Labels.{count}
+use Rattle.labels.specs.Labels.{pairing}
+use Rattle.labels.specs.declared.label.Labels.{Labels}
+use Rattle.tables.specs.Tables.{tableOf}
+use Rattle.tables.proofs.SoundTables.{SoundTable}
+use Rattle.machines.specs.Joints.{jointOf}
+use Rattle.machines.proofs.Buffers.{Held}
+use Rattle.formulas.specs.Working.{Tree, treeOf}
+use Rattle.formulas.specs.Sizes.{Sized}
+use Rattle.verdict.specs.declared.step.States.{States}
+use Rattle.verdict.specs.declared.step.Step.{Step}
+use Rattle.verdict.specs.declared.step.Step.the-variants as step
+use Rattle.verdict.specs.declared.step.Mover.{Mover}
+use Rattle.verdict.specs.declared.step.Mover.the-variants as mover
+
+-- two states, as the program holds them and as the theory does
+abbrev pub statesOf : ℕ → ℕ → States
+statesOf p q = record { left = p; right = q }
+
+abbrev pub pairOf : States → ℕ × ℕ
+pairOf u = (u .left, u .right)
+
+-- a step of a joint run by its three bytes
+unfoldable pub jointStep : ℕ → ℕ → ℕ → Step
+jointStep a p q = cond (eqb a 255) step.Idle (step.Move (record { label = record { 0 = a }; to = statesOf p q }))
+
+-- the states after a move of one side
+unfoldable pub targetsOf : Mover → ℕ → ℕ → States
+targetsOf mover.Left to other = statesOf to other
+targetsOf mover.Right to other = statesOf other to
+
+-- does a back modality fit the last step: 6 a move of its label, 8 the joint idle?
+unfoldable pub grants : ℕ → ℕ → Step → Bool
+grants o a (step.Move m) = eqb o 6 && eqb (m .label .0) a
+grants o a step.Idle = eqb o 8
+
+-- a label that a move can show
+abbrev pub Shown : ℕ → Type 0
+Shown a = a ≡ 255 → ⊥
+
+-- the tables of a call, which no check refuses
+pub record Tables (k : ℕ) (l r : List ℕ) : Type 0 where
+  pub left : SoundTable k l
+  pub right : SoundTable k r
+
+-- the first n bytes of xs are a run, with room behind it for `more` steps and those that the first tree of f looks ahead;
+-- sizes has the sizes of f's trees
+pub record Ready (k : ℕ) (sizes xs : List ℕ) (n more : ℕ) (f : List ℕ) : Type 0 where
+  pub tree : Tree f
+  pub ranged : labelled (count k) (treeOf f) ≡ true
+  pub sized : Sized sizes f
+  pub held : Held xs n
+  pub room : n + 3 * (more + nesting (treeOf f)) ≤ length xs
+
+-- the verdict of the two tables beside each other
+unfoldable pub judged : Labels → List ℕ → List ℕ → Formula → Run (ℕ × ℕ) → Bool
+judged labels l r φ j = holds (beside (pairing labels) (tableOf l) (tableOf r)) φ j
+
+-- does the test pass for the target of one of the rows that have this label?
+unfoldable pub tried : (ℕ → Bool) → ℕ → List Row → Bool
+tried F b rows = any (λ (w : Row). same (w .1) b && F (w .2)) rows
+
+-- does the test pass for the targets of one of the handshakes of these rows?
+unfoldable pub shaken : Pairing → (ℕ → ℕ → Bool) → List Row → List Row → Bool
+shaken P F lefts rights = any (λ (w : Row). present (λ b. tried (F (w .2)) b rights) (P .partner (w .1))) lefts
+
+-- a half run's bytes as those of a joint run beside a machine that stays in state 0. First its steps: a byte that fills no step is none
+unfoldable pub widened : List ℕ → List ℕ
+widened [] = []
+widened (a ∷ []) = []
+widened (a ∷ q ∷ bytes) = a ∷ q ∷ 0 ∷ widened bytes
+
+-- then the run, from its start state on
+unfoldable pub besideStill : List ℕ → List ℕ
+besideStill [] = []
+besideStill (p ∷ bytes) = p ∷ 0 ∷ widened bytes
