@@ -4,7 +4,8 @@
  * plus the value, which is 0 when refused. Bytes are lent as a pointer and a length; a pointer is
  * never null, also where the length is 0, and `out` overlaps nothing else that is lent. A table is
  * n and its rows, a joint run two start states and its steps, a half run its state and its steps,
- * a question its nodes: each the body of its casebook record. No call keeps a pointer.
+ * a question or other formula its nodes: each as in the body of its casebook record. No call keeps a
+ * pointer.
  */
 #ifndef YENUSLAP_H
 #define YENUSLAP_H
@@ -41,6 +42,25 @@ uint64_t yenuslap_casebook_write(uint8_t k,
                                  const uint8_t *run, size_t run_len,
                                  const uint8_t *question, size_t question_len,
                                  uint8_t *out, size_t out_len);
+
+/* Judges a formula of 1 to 4,096 nodes on the joint run stopped at a point: value 1 if it holds, 0 if
+ * it fails, or refused 4; 3, 5 to 7 (left, then right); 3, 8 (run); 9, 10 (formula); 12; the lent
+ * bytes are only read. */
+uint64_t yenuslap_joint_verdict(uint8_t k,
+                                const uint8_t *left, size_t left_len,
+                                const uint8_t *right, size_t right_len,
+                                const uint8_t *run, size_t run_len,
+                                const uint8_t *formula, size_t formula_len,
+                                size_t point);
+
+/* Judges a formula of 1 to 4,096 nodes on the half run stopped at a point: value 1 if it holds, 0 if
+ * it fails, or refused 4; 3, 5 to 7 (table); 9, 10 (formula); 12 (at every point if the half has an
+ * even length); 15; the lent bytes are only read. */
+uint64_t yenuslap_half_verdict(uint8_t k,
+                               const uint8_t *table, size_t table_len,
+                               const uint8_t *half, size_t half_len,
+                               const uint8_t *formula, size_t formula_len,
+                               size_t point);
 
 /* Cuts the known half at a point: value length of the part, which is that half's beginning, or
  * refused 12; it looks at the known half alone, and the lent bytes are only read. */

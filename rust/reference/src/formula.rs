@@ -35,7 +35,8 @@ pub fn read_formula(bytes: &[u8], k: u8, most_nodes: usize) -> Result<Formula, R
     if !bytes.len().is_multiple_of(2) || bytes.len() / 2 > most_nodes {
         return Err(9);
     }
-    let (formula, rest) = first_tree(bytes, k).ok_or(9)?;
+    let mut rest = bytes;
+    let formula = *tree(&mut rest, k).ok_or(9)?;
     if !rest.is_empty() {
         return Err(9);
     }
@@ -45,51 +46,33 @@ pub fn read_formula(bytes: &[u8], k: u8, most_nodes: usize) -> Result<Formula, R
     Ok(formula)
 }
 
-/// The tree at the front of the bytes and what follows it, or nothing if there is no sound tree.
-fn first_tree(bytes: &[u8], k: u8) -> Option<(Formula, &[u8])> {
-    let operator = *bytes.first()?;
-    let label = *bytes.get(1)?;
-    let rest = &bytes[2..];
+/// Takes the tree at the front of the bytes away from them, or gives nothing if there is no sound tree. The second
+/// of two operands begins where the first one ends.
+fn tree(rest: &mut &[u8], k: u8) -> Option<Box<Formula>> {
+    let [operator, label, after @ ..] = *rest else {
+        return None;
+    };
+    *rest = after;
     let label_fits = match operator {
-        5 | 6 => label <= highest(k),
-        _ => label == 0,
+        5 | 6 => *label <= highest(k),
+        _ => *label == 0,
     };
     if !label_fits {
         return None;
     }
-    match operator {
-        0 => Some((Formula::True, rest)),
-        1 => Some((Formula::False, rest)),
-        2 => one_operand(rest, k, Formula::Not),
-        3 => two_operands(rest, k, Formula::And),
-        4 => two_operands(rest, k, Formula::Or),
-        5 => one_operand(rest, k, |operand| Formula::Forward(label, operand)),
-        6 => one_operand(rest, k, |operand| Formula::Back(label, operand)),
-        7 => one_operand(rest, k, Formula::ForwardIdle),
-        8 => one_operand(rest, k, Formula::BackIdle),
-        _ => None,
-    }
-}
-
-/// Reads the operand of an operator with one.
-fn one_operand(
-    bytes: &[u8],
-    k: u8,
-    build: impl Fn(Box<Formula>) -> Formula,
-) -> Option<(Formula, &[u8])> {
-    let (operand, rest) = first_tree(bytes, k)?;
-    Some((build(Box::new(operand)), rest))
-}
-
-/// Reads the operands of an operator with two; the second begins where the first one ends.
-fn two_operands(
-    bytes: &[u8],
-    k: u8,
-    build: impl Fn(Box<Formula>, Box<Formula>) -> Formula,
-) -> Option<(Formula, &[u8])> {
-    let (first, rest) = first_tree(bytes, k)?;
-    let (second, rest) = first_tree(rest, k)?;
-    Some((build(Box::new(first), Box::new(second)), rest))
+    let formula = match operator {
+        0 => Formula::True,
+        1 => Formula::False,
+        2 => Formula::Not(tree(rest, k)?),
+        3 => Formula::And(tree(rest, k)?, tree(rest, k)?),
+        4 => Formula::Or(tree(rest, k)?, tree(rest, k)?),
+        5 => Formula::Forward(*label, tree(rest, k)?),
+        6 => Formula::Back(*label, tree(rest, k)?),
+        7 => Formula::ForwardIdle(tree(rest, k)?),
+        8 => Formula::BackIdle(tree(rest, k)?),
+        _ => return None,
+    };
+    Some(Box::new(formula))
 }
 
 impl Formula {

@@ -2,6 +2,7 @@
 
 use crate::casebook::Parts;
 use crate::formula::{Formula, MOST_NESTING, QUESTION_NODES};
+use crate::half::{HalfRun, HalfStep};
 use crate::label::{highest, partner, IDLE, MOST_PAIRS, SILENT};
 use crate::random::Random;
 use crate::run::{JointRun, JointStep, MOST_STEPS};
@@ -89,7 +90,7 @@ pub fn random_table(random: &mut Random, shape: Shape, states: u8) -> Table {
         };
         rows.extend(random_rows(random, shape.k, states, from, count));
     }
-    Table { states, rows }
+    Table::new(states, rows)
 }
 
 /// `count` different rows from one state, rising, loops among them (`count` must be possible).
@@ -126,14 +127,14 @@ pub fn walk(random: &mut Random, left: &Table, right: &Table, steps: usize) -> J
 }
 
 /// The real steps from (p, q), kind by kind: left alone, right alone, handshakes, joint idle.
-fn open_steps(left: &Table, right: &Table, p: u8, q: u8) -> Vec<Vec<JointStep>> {
+pub fn open_steps(left: &Table, right: &Table, p: u8, q: u8) -> Vec<Vec<JointStep>> {
     let step = |label, left, right| JointStep { label, left, right };
     let (from_p, from_q) = (left.rows_from(p), right.rows_from(q));
     let left_alone = from_p.iter().map(|row| step(row.label, row.to, q));
     let right_alone = from_q.iter().map(|row| step(row.label, p, row.to));
     let mut handshakes = Vec::new();
-    for a in &from_p {
-        for b in &from_q {
+    for a in from_p {
+        for b in from_q {
             if a.label != SILENT && partner(a.label) == Some(b.label) {
                 handshakes.push(step(SILENT, a.to, b.to));
             }
@@ -145,6 +146,26 @@ fn open_steps(left: &Table, right: &Table, p: u8, q: u8) -> Vec<Vec<JointStep>> 
         handshakes,
         vec![step(IDLE, p, q)],
     ]
+}
+
+/// A half run made by walking: each step is an idle or takes one of the rows that are open.
+pub fn walk_half(random: &mut Random, table: &Table, steps: usize) -> HalfRun {
+    let mut half = HalfRun {
+        start: random.byte(0, table.states - 1),
+        steps: Vec::new(),
+    };
+    for _ in 0..steps {
+        let from = half.last();
+        let rows = table.rows_from(from);
+        let (label, to) = if rows.is_empty() || random.once_in(3) {
+            (IDLE, from)
+        } else {
+            let row = random.pick(rows);
+            (row.label, row.to)
+        };
+        half.steps.push(HalfStep { label, to });
+    }
+    half
 }
 
 /// A formula with exactly `nodes` nodes and forward modalities nested at most `nesting` deep.

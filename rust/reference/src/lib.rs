@@ -2,12 +2,15 @@
 
 pub mod casebook;
 pub mod cut;
+pub mod fitted;
 pub mod formula;
 pub mod generate;
+pub mod half;
 pub mod label;
 pub mod random;
 pub mod run;
 pub mod table;
+pub mod verdict;
 
 /// A refusal is its number only.
 pub type Refusal = u8;

@@ -21,6 +21,8 @@ pub struct Row {
 pub struct Table {
     pub states: u8,
     pub rows: Vec<Row>,
+    /// Where the rows of each state begin, and behind the last state where all rows end.
+    starts: Vec<usize>,
 }
 
 /// Whether a table's record may have this length (kind and body counted).
@@ -37,46 +39,56 @@ pub fn read_table(bytes: &[u8], k: u8) -> Result<Table, Refusal> {
     if states == 0 || states > MOST_STATES {
         return Err(5);
     }
-    let mut table = Table {
-        states,
-        rows: Vec::new(),
-    };
+    let mut rows = Vec::new();
     for row in bytes[1..].chunks(3) {
         let row = Row {
             from: row[0],
             label: row[1],
             to: row[2],
         };
-        table.check_next(row, k)?;
-        table.rows.push(row);
+        check_next(states, &rows, row, k)?;
+        rows.push(row);
     }
-    Ok(table)
+    Ok(Table::new(states, rows))
+}
+
+/// Judges the row that would come next: range (5), order (6), how many from its state (7).
+fn check_next(states: u8, rows: &[Row], row: Row, k: u8) -> Result<(), Refusal> {
+    if row.from >= states || row.label > highest(k) || row.to >= states {
+        return Err(5);
+    }
+    if rows.last().is_some_and(|before| row <= *before) {
+        return Err(6);
+    }
+    // Rows rise, so those that leave the same state are the last ones.
+    let same_state = rows.iter().rev().take_while(|r| r.from == row.from);
+    if same_state.count() == MOST_ROWS {
+        return Err(7);
+    }
+    Ok(())
 }
 
 impl Table {
-    /// Judges the row that would come next: range (5), order (6), how many from its state (7).
-    fn check_next(&self, row: Row, k: u8) -> Result<(), Refusal> {
-        if row.from >= self.states || row.label > highest(k) || row.to >= self.states {
-            return Err(5);
+    /// The table of these rows, which must rise and name only its states.
+    pub fn new(states: u8, rows: Vec<Row>) -> Table {
+        let start = |state: u8| rows.partition_point(|row| row.from < state);
+        let starts = (0..=states).map(start).collect();
+        Table {
+            states,
+            rows,
+            starts,
         }
-        if self.rows.last().is_some_and(|before| row <= *before) {
-            return Err(6);
-        }
-        if self.rows_from(row.from).len() == MOST_ROWS {
-            return Err(7);
-        }
-        Ok(())
     }
 
-    /// The rows that leave one state, in row order.
-    pub fn rows_from(&self, state: u8) -> Vec<Row> {
-        let leaves = |row: &&Row| row.from == state;
-        self.rows.iter().filter(leaves).copied().collect()
+    /// The rows that leave one state of the table, in row order.
+    pub fn rows_from(&self, state: u8) -> &[Row] {
+        let state = state as usize;
+        &self.rows[self.starts[state]..self.starts[state + 1]]
     }
 
-    /// Whether the table has this row.
+    /// Whether the table has this row from one of its states.
     pub fn has(&self, from: u8, label: u8, to: u8) -> bool {
-        self.rows.contains(&Row { from, label, to })
+        self.rows_from(from).contains(&Row { from, label, to })
     }
 
     /// The table as a record's body: n, then the rows.

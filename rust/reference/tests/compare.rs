@@ -25,5 +25,19 @@ mod order;
 mod pairs;
 #[path = "compare/sound.rs"]
 mod sound;
+#[path = "compare/verdict_both.rs"]
+mod verdict_both;
+#[path = "compare/verdict_damaged.rs"]
+mod verdict_damaged;
+#[path = "compare/verdict_document.rs"]
+mod verdict_document;
+#[path = "compare/verdict_large.rs"]
+mod verdict_large;
+#[path = "compare/verdict_refused.rs"]
+mod verdict_refused;
+#[path = "compare/verdict_small.rs"]
+mod verdict_small;
+#[path = "compare/verdict_sound.rs"]
+mod verdict_sound;
 #[path = "compare/writing.rs"]
 mod writing;

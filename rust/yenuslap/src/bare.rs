@@ -16,6 +16,28 @@ extern "C" {
         out: *mut u8,
         out_len: usize,
     ) -> u64;
+    fn yenuslap_joint_verdict(
+        k: u8,
+        left: *const u8,
+        left_len: usize,
+        right: *const u8,
+        right_len: usize,
+        run: *const u8,
+        run_len: usize,
+        formula: *const u8,
+        formula_len: usize,
+        point: usize,
+    ) -> u64;
+    fn yenuslap_half_verdict(
+        k: u8,
+        table: *const u8,
+        table_len: usize,
+        half: *const u8,
+        half_len: usize,
+        formula: *const u8,
+        formula_len: usize,
+        point: usize,
+    ) -> u64;
     fn yenuslap_cut(
         left_half: *const u8,
         left_half_len: usize,
@@ -61,6 +83,49 @@ pub fn casebook_write(
             question.len(),
             out.as_mut_ptr(),
             out.len(),
+        )
+    }
+}
+
+/// Judges a formula on a joint run stopped at a point: value 1 holds, 0 fails, or refusals 3 to 10 and 12.
+pub fn joint_verdict(
+    k: u8,
+    left: &[u8],
+    right: &[u8],
+    run: &[u8],
+    formula: &[u8],
+    point: usize,
+) -> u64 {
+    // SAFETY: each pointer and length are one live slice, which the engine only reads.
+    unsafe {
+        yenuslap_joint_verdict(
+            k,
+            left.as_ptr(),
+            left.len(),
+            right.as_ptr(),
+            right.len(),
+            run.as_ptr(),
+            run.len(),
+            formula.as_ptr(),
+            formula.len(),
+            point,
+        )
+    }
+}
+
+/// Judges a formula on a half run stopped at a point: value 1 holds, 0 fails, or refusals 3 to 7, 9, 10, 12 and 15.
+pub fn half_verdict(k: u8, table: &[u8], half: &[u8], formula: &[u8], point: usize) -> u64 {
+    // SAFETY: each pointer and length are one live slice, which the engine only reads.
+    unsafe {
+        yenuslap_half_verdict(
+            k,
+            table.as_ptr(),
+            table.len(),
+            half.as_ptr(),
+            half.len(),
+            formula.as_ptr(),
+            formula.len(),
+            point,
         )
     }
 }

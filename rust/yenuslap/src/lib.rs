@@ -4,7 +4,9 @@ pub mod bare;
 mod casebook;
 mod cut;
 mod refusal;
+mod verdict;
 
 pub use casebook::{read_casebook, write_casebook, Casebook};
 pub use cut::{cut, Side};
 pub use refusal::Refusal;
+pub use verdict::{half_verdict, joint_verdict};

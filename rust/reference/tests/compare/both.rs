@@ -79,12 +79,12 @@ pub fn number_of<T>(answer: &Result<T, u8>) -> u8 {
 }
 
 /// The number of the wrapper's answer, 0 if it is none.
-fn wrapped_number<T: Debug>(answer: &Result<T, Refusal>) -> u8 {
+pub fn wrapped_number<T: Debug>(answer: &Result<T, Refusal>) -> u8 {
     answer.as_ref().err().map_or(0, |r| r.number() as u8)
 }
 
 /// What the engine must answer: the number in the upper half, the value in the lower.
-fn bare_answer(answer: &Result<usize, u8>) -> u64 {
+pub fn bare_answer(answer: &Result<usize, u8>) -> u64 {
     match answer {
         Ok(value) => *value as u64,
         Err(number) => (*number as u64) << 32,

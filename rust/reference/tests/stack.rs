@@ -1,0 +1,108 @@
+//! The deepest formulas are judged by the engine on a stack of 8 MiB. They stand in a program of their own: a stack
+//! that does not suffice ends the whole program. What is expected is known from how the formulas are made.
+
+use std::thread;
+
+/// The most nodes of a formula.
+const NODES: usize = 4096;
+
+/// Judges a formula on 200 idles stopped at a point, as a joint run and as a half run, on a stack of 8 MiB.
+fn judged(formula: Vec<u8>, point: usize) -> (Option<bool>, Option<bool>) {
+    let verdicts = move || {
+        let run = [vec![0, 0], [255, 0, 0].repeat(200)].concat();
+        let half = [vec![0], [255, 0].repeat(200)].concat();
+        // Loops of label 0, so that looking ahead finds something to try on either side.
+        let table = [1, 0, 0, 0];
+        let joint = yenuslap::joint_verdict(1, &table, &table, &run, &formula, point);
+        let single = yenuslap::half_verdict(1, &table, &half, &formula, point);
+        (joint.ok(), single.ok())
+    };
+    let thread = thread::Builder::new().stack_size(8 << 20);
+    thread.spawn(verdicts).unwrap().join().unwrap()
+}
+
+/// Demands this verdict of a formula of so many nodes, at a point, of both calls.
+fn demand(formula: &[u8], nodes: usize, point: usize, verdict: bool) {
+    assert_eq!(formula.len(), 2 * nodes);
+    let both = judged(formula.to_vec(), point);
+    assert_eq!(both, (Some(verdict), Some(verdict)), "{:?}", &formula[..16]);
+}
+
+/// 4,095 times "not" over a constant: an odd number of negations.
+#[test]
+fn a_chain_of_not() {
+    for (leaf, verdict) in [(0, false), (1, true)] {
+        let formula = [[2, 0].repeat(NODES - 1), vec![leaf, 0]].concat();
+        demand(&formula, NODES, 200, verdict);
+    }
+}
+
+/// "Back by idle" up to 4,095 times: the run of 200 idles goes back 200 times.
+#[test]
+fn a_chain_of_back_by_idle() {
+    for (backs, verdict) in [(199, true), (200, true), (201, false), (NODES - 1, false)] {
+        let formula = [[8, 0].repeat(backs), vec![0, 0]].concat();
+        demand(&formula, backs + 1, 200, verdict);
+    }
+    // The same depth with all of it judged: each step back is followed by "not not" many times.
+    let step = [vec![8, 0], [2, 0].repeat(18)].concat();
+    let nots = NODES - 1 - 200 * 19;
+    let formula = [step.repeat(200), [2, 0].repeat(nots), vec![0, 0]].concat();
+    demand(&formula, NODES, 200, nots.is_multiple_of(2));
+}
+
+/// Four forward modalities, then "not" to the limit, so that the deep part is judged once for each longer run.
+#[test]
+fn four_forwards_over_a_chain_of_not() {
+    for forward in [[5, 0], [7, 0]] {
+        let nots = NODES - 5;
+        for leaf in [0, 1] {
+            let formula = [forward.repeat(4), [2, 0].repeat(nots), vec![leaf, 0]].concat();
+            let verdict = (leaf == 0) == nots.is_multiple_of(2);
+            demand(&formula, NODES, 200, verdict);
+        }
+    }
+}
+
+/// "Not" to the limit, then four forward modalities at the bottom.
+#[test]
+fn four_forwards_under_a_chain_of_not() {
+    let nots = NODES - 5;
+    for (leaf, holds) in [(0, true), (1, false)] {
+        let formula = [[2, 0].repeat(nots), [5, 0].repeat(4), vec![leaf, 0]].concat();
+        demand(&formula, NODES, 100, holds == nots.is_multiple_of(2));
+    }
+}
+
+/// "And" and "or" nested 2,047 deep in the left operand, and in the right one.
+#[test]
+fn and_or_nested_to_the_left_and_to_the_right() {
+    let inner = NODES / 2 - 1;
+    for (operator, leaf) in [(3, 0), (4, 1)] {
+        // All leaves have to be judged: true under "and", false under "or".
+        let left = [[operator, 0].repeat(inner), [leaf, 0].repeat(inner + 1)].concat();
+        demand(&left, NODES - 1, 200, operator == 3);
+        let right = [[operator, 0, leaf, 0].repeat(inner), vec![leaf, 0]].concat();
+        demand(&right, NODES - 1, 200, operator == 3);
+        // The last leaf, which is the deepest on the right and the last one judged on the left, turns the verdict.
+        for mut formula in [left, right] {
+            let last = formula.len() - 2;
+            formula[last] = 1 - leaf;
+            demand(&formula, NODES - 1, 200, operator == 4);
+        }
+    }
+}
+
+/// "Not" between "and" and "or" to the left: the deepest mix of operators with one and two operands.
+#[test]
+fn not_and_or_nested_to_the_left() {
+    // Not or (not or (.. false) false) false: three nodes a level, and each level turns the verdict.
+    let levels = (NODES - 1) / 3;
+    let formula = [
+        [2, 0, 4, 0].repeat(levels),
+        vec![1, 0],
+        [1, 0].repeat(levels),
+    ]
+    .concat();
+    demand(&formula, 3 * levels + 1, 200, levels % 2 == 1);
+}
