@@ -1,82 +1,182 @@
 -- A forward modality by a label: the rows of the left, the rows of the right, and for label 0 each handshake.
-use Prim.Native.Nat.{ℕ, _+_, _-_, _*_, _%_, _≤_, _<_}
+use Prim.Native.Nat.{ℕ, zero, suc, _+_, _-_, _*_, _≤_, _<_}
 use mathlib.Core.Path.{_≡_, refl, sym, _∙_, ap, ap₂}
 use mathlib.Core.Bool.{Bool, true, false, cond, _&&_, _||_, and-false}
-use mathlib.Core.List.{List, [], _∷_, map}
+use mathlib.Core.List.{List, [], _∷_}
 use mathlib.Core.Option.{Option, none, some}
 use native.Mathlib.Omega.{arith}
-use lib.ListN.{length, getD, drop, length-map}
+use native.Mathlib.Nat.{add-zero}
+use lib.ListN.{length, getD, drop}
+use lib.Seq.{getD-drop, drop-drop}
 use lib.Dec.{eqb}
 use borrow.Author.Tests.{eq-eqb, ne-eqb, eqb-true, eqb-false}
 use Rattle.hml.specs.Tests.{same, apart, decides, denied, decided-same, decided-alike, and-cong}
-use Rattle.hml.specs.Lists.{any, present, any-cong, any-false, each, length-each}
+use Rattle.hml.specs.Lists.{any, present, any-cong, any-false}
 use Rattle.hml.specs.System.{System, Run, _▸_, move, last, Pairing}
 use Rattle.hml.specs.Formula.{Formula, fwd, holds}
 use Rattle.hml.specs.Compose.{shakes, decided-shakes, beside, beside-composed, Composed}
-use Rattle.hml.specs.Machine.{Row}
 use Rattle.labels.specs.Labels.{pairing, partnerFound}
 use Rattle.labels.specs.declared.label.Label.{Label}
 use Rattle.labels.specs.declared.label.Labels.{Labels}
 use Rattle.labels.specs.declared.label.Partner.the-variants as partner
-use Rattle.labels.proofs.Slices.{rest, rest-of}
-use Rattle.tables.specs.Tables.{rowsOf, tableOf, threes, bytesOf, rowsFrom}
-use Rattle.tables.proofs.Chunks.{threes-chunks, chunks-read}
-use Rattle.tables.proofs.Rows.{any-moves, moves-from}
-use Rattle.tables.proofs.SoundTables.{SoundTable, moves-few}
 use Rattle.halves.specs.Runs.{stepOf}
-use Rattle.verdict.specs.Working.{Shown, judged, tried, shaken}
+use Rattle.verdict.specs.Working.{Shown, Within, pairsIn, gridOf, skippedIn, judged, tried, shaken}
 
--- the rows, one by one
-module _ (F : ℕ → Bool) (b : ℕ) where
-  tried-first : (rows : List ℕ) → 3 ≤ length rows → tried F b (threes rows) ≡ ((same (getD rows 1 0) b && F (getD rows 2 0)) || tried F b (threes (drop 3 rows)))
-  unfolding tried threes
-  tried-first [] h = absurd (omega arith)
-  tried-first (x ∷ []) h = absurd (omega arith)
-  tried-first (x ∷ y ∷ []) h = absurd (omega arith)
-  tried-first (x ∷ y ∷ z ∷ rows) h = refl
+-- the moves, from one with the wanted label to the next
+module _ (b : ℕ) where
+  pub skipped-few : (moves : List (ℕ × ℕ)) → skippedIn b moves ≤ length moves
+  unfolding skippedIn
+  skipped-few [] = omega arith
+  skipped-few (m ∷ moves) = go (same (m .0) b) (skipped-few moves)
+    where
+      go : (t : Bool) → skippedIn b moves ≤ length moves → cond t 0 (suc (skippedIn b moves)) ≤ suc (length moves)
+      go true h = omega arith
+      go false h = omega arith
 
-  pub tried-none : (rows : List ℕ) → length rows < 3 → false ≡ tried F b (threes rows)
-  unfolding tried threes
-  tried-none [] h = refl
-  tried-none (x ∷ []) h = refl
-  tried-none (x ∷ y ∷ []) h = refl
-  tried-none (x ∷ y ∷ z ∷ rows) h = absurd (omega arith)
+  module _ (F : ℕ → Bool) where
+    -- none has it
+    tried-none : (moves : List (ℕ × ℕ)) → skippedIn b moves ≡ length moves → false ≡ tried F b moves
+    unfolding skippedIn tried
+    tried-none [] e = refl
+    tried-none (m ∷ moves) e = go (same (m .0) b) e (tried-none moves)
+      where
+        go : (t : Bool) → cond t 0 (suc (skippedIn b moves)) ≡ suc (length moves) → (skippedIn b moves ≡ length moves → false ≡ tried F b moves) → false ≡ ((t && F (m .1)) || tried F b moves)
+        go true e h = absurd (omega (arith, e))
+        go false e h = h (omega (arith, e))
 
-  module _ (rows : List ℕ) (h : 3 ≤ length rows) where
-    pub tried-other : (v : Bool) → (getD rows 1 0 ≡ b → ⊥) → v ≡ tried F b (threes (rest 3 rows)) → v ≡ tried F b (threes rows)
-    tried-other v n p = rw (tried-first rows h, ne-eqb _ _ n) (rw (rest-of 3 rows) at p)
+    -- one has it: its target decides, or those behind it do
+    tried-next : (moves : List (ℕ × ℕ)) → skippedIn b moves < length moves → tried F b moves ≡ (F (getD moves (skippedIn b moves) (0, 0) .1) || tried F b (drop (suc (skippedIn b moves)) moves))
+    unfolding skippedIn tried
+    tried-next [] h = absurd (omega arith)
+    tried-next (m ∷ moves) h = go (same (m .0) b) h (tried-next moves)
+      where
+        go : (t : Bool) → cond t 0 (suc (skippedIn b moves)) < suc (length moves)
+            → (skippedIn b moves < length moves → tried F b moves ≡ (F (getD moves (skippedIn b moves) (0, 0) .1) || tried F b (drop (suc (skippedIn b moves)) moves)))
+            → ((t && F (m .1)) || tried F b moves) ≡ (F (getD (m ∷ moves) (cond t 0 (suc (skippedIn b moves))) (0, 0) .1) || tried F b (drop (suc (cond t 0 (suc (skippedIn b moves)))) (m ∷ moves)))
+        go true h r = refl
+        go false h r = r (omega arith)
 
-    pub tried-hit : getD rows 1 0 ≡ b → true ≡ F (getD rows 2 0) → true ≡ tried F b (threes rows)
-    tried-hit e p = rw (tried-first rows h, eq-eqb _ _ e, ← p)
+-- pairs of bytes
+pub length-pairs : (n : ℕ) (bs : List ℕ) → length (pairsIn n bs) ≡ n
+unfolding pairsIn
+length-pairs zero bs = refl
+length-pairs (suc n) bs = ap suc (length-pairs n (drop 2 bs))
 
-    pub tried-miss : (v : Bool) → getD rows 1 0 ≡ b → false ≡ F (getD rows 2 0) → v ≡ tried F b (threes (rest 3 rows)) → v ≡ tried F b (threes rows)
-    tried-miss v e q p = rw (tried-first rows h, eq-eqb _ _ e, ← q) (rw (rest-of 3 rows) at p)
+two-more : (i : ℕ) → 2 * suc i ≡ 2 + 2 * i
+two-more i = omega arith
+
+-- those from the i-th on
+pub pairs-drop : (i n : ℕ) (bs : List ℕ) → i ≤ n → drop i (pairsIn n bs) ≡ pairsIn (n - i) (drop (2 * i) bs)
+unfolding pairsIn
+pairs-drop zero n bs h = let z : n ≡ n - 0 = omega arith in ap (λ m. pairsIn m bs) z
+pairs-drop (suc i) zero bs h = absurd (omega arith)
+pairs-drop (suc i) (suc n) bs h =
+    pairs-drop i n (drop 2 bs) (omega arith)
+    ∙ ap₂ (λ m cs. pairsIn m cs) (less n i) (drop-drop (2 * i) 2 bs ∙ ap (λ j. drop j bs) (sym (two-more i)))
+  where
+    less : (n i : ℕ) → n - i ≡ suc n - suc i
+    less n i = omega arith
+
+pub pairs-at : (i n : ℕ) (bs : List ℕ) → i < n → getD (pairsIn n bs) i (0, 0) ≡ (getD bs (2 * i) 0, getD bs (2 * i + 1) 0)
+unfolding pairsIn
+pairs-at zero zero bs h = absurd (omega arith)
+pairs-at zero (suc n) bs h = refl
+pairs-at (suc i) zero bs h = absurd (omega arith)
+pairs-at (suc i) (suc n) bs h =
+    let j : 2 + (2 * i + 1) ≡ 2 * suc i + 1 = omega arith in
+    pairs-at i n (drop 2 bs) (omega arith)
+    ∙ ap₂ (λ x y. (x, y)) (getD-drop 2 bs (2 * i) 0 ∙ ap (λ j. getD bs j 0) (sym (two-more i))) (getD-drop 2 bs (2 * i + 1) 0 ∙ ap (λ j. getD bs j 0) j)
+
+-- the rows of a grid from `at` on, of which `before` stand before the first with the wanted label
+module _ (F : ℕ → Bool) (b : ℕ) (g : List ℕ) (at rows before : ℕ) (e : before ≡ skippedIn b (pairsIn rows (drop at g))) where
+  few : skippedIn b (pairsIn rows (drop at g)) ≤ rows
+  few = omega (arith, skipped-few b (pairsIn rows (drop at g)), length-pairs rows (drop at g))
+
+  pub before-few : before ≤ rows
+  before-few = omega (arith, e, few)
+
+  pub rows-none : before ≡ rows → false ≡ tried F b (pairsIn rows (drop at g))
+  rows-none h = tried-none b F (pairsIn rows (drop at g)) (sym e ∙ h ∙ sym (length-pairs rows (drop at g)))
+
+  module _ (n : before ≡ rows → ⊥) where
+    pub before-less : before < rows
+    before-less = go before rows before-few n
+      where
+        go : (x y : ℕ) → x ≤ y → (x ≡ y → ⊥) → x < y
+        go zero zero h n = absurd (n refl)
+        go zero (suc y) h n = omega arith
+        go (suc x) zero h n = absurd (omega arith)
+        go (suc x) (suc y) h n = let r = go x y (omega arith) (λ z. n (ap suc z)) in omega arith
+
+    next-row : tried F b (pairsIn rows (drop at g)) ≡ (F (getD g (at + 2 * before + 1) 0) || tried F b (pairsIn (rows - before - 1) (drop (at + 2 * before + 2) g)))
+    next-row =
+        let less = before-less in
+        let i : at + (2 * before + 1) ≡ at + 2 * before + 1 = omega arith in
+        let j : at + 2 * suc before ≡ at + 2 * before + 2 = omega arith in
+        let k : rows - suc before ≡ rows - before - 1 = omega arith in
+        let here = pairs-at before rows (drop at g) less in
+        let behind = pairs-drop (suc before) rows (drop at g) (omega arith) in
+        let lt : skippedIn b (pairsIn rows (drop at g)) < length (pairsIn rows (drop at g)) = omega (arith, e, length-pairs rows (drop at g)) in
+        tried-next b F (pairsIn rows (drop at g)) lt
+        ∙ ap (λ (x : ℕ). F (getD (pairsIn rows (drop at g)) x (0, 0) .1) || tried F b (drop (suc x) (pairsIn rows (drop at g)))) (sym e)
+        ∙ ap₂ (λ x y. F x || tried F b y)
+        (ap (λ m. m .1) here ∙ getD-drop at g (2 * before + 1) 0 ∙ ap (λ x. getD g x 0) i)
+        (behind ∙ ap₂ (λ m bs. pairsIn m bs) k (drop-drop (2 * suc before) at g ∙ ap (λ x. drop x g) j))
+
+    pub rows-hit : true ≡ F (getD g (at + 2 * before + 1) 0) → true ≡ tried F b (pairsIn rows (drop at g))
+    rows-hit p = rw (next-row, ← p)
+
+    pub rows-miss : (v : Bool) → false ≡ F (getD g (at + 2 * before + 1) 0) → v ≡ tried F b (pairsIn (rows - before - 1) (drop (at + 2 * before + 2) g)) → v ≡ tried F b (pairsIn rows (drop at g))
+    rows-miss v q p = rw (next-row, ← q) p
+
+-- going from row to row with the wanted label: what is left decides, of which `before` stand before the next one
+pub record Trying (F : ℕ → Bool) (b : ℕ) (g : List ℕ) (at rows at′ rows′ before : ℕ) : Type 0 where
+  pub within : Within at′ rows′
+  pub here : before ≡ skippedIn b (pairsIn rows′ (drop at′ g))
+  pub same : tried F b (pairsIn rows′ (drop at′ g)) ≡ tried F b (pairsIn rows (drop at g))
+
+pub trying-start : (F : ℕ → Bool) (b : ℕ) (g : List ℕ) (at rows before : ℕ) → Within at rows → before ≡ skippedIn b (pairsIn rows (drop at g)) → Trying F b g at rows at rows before
+trying-start F b g at rows before w e = record { within = w; here = e; same = refl }
+
+module _ (F : ℕ → Bool) (b : ℕ) (g : List ℕ) (at rows at′ rows′ before : ℕ) (t : Trying F b g at rows at′ rows′ before) where
+  pub trying-end : rows′ ≤ before → false ≡ tried F b (pairsIn rows (drop at g))
+  trying-end h = rows-none F b g at′ rows′ before (t .here) (omega (arith, before-few F b g at′ rows′ before (t .here))) ∙ t .same
+
+  module _ (h : before < rows′) where
+    pub trying-hit : true ≡ F (getD g (at′ + 2 * before + 1) 0) → true ≡ tried F b (pairsIn rows (drop at g))
+    trying-hit p = rows-hit F b g at′ rows′ before (t .here) (λ e. omega arith) p ∙ t .same
+
+    pub trying-on : false ≡ F (getD g (at′ + 2 * before + 1) 0) → (next : ℕ) → next ≡ skippedIn b (pairsIn (rows′ - before - 1) (drop (at′ + 2 * before + 2) g))
+        → Trying F b g at rows (at′ + 2 * before + 2) (rows′ - before - 1) next
+    trying-on p next e = record {
+      within = omega (arith, t .within);
+      here = e;
+      same = rows-miss F b g at′ rows′ before (t .here) (λ e. omega arith) _ p refl ∙ t .same;
+    }
 
 -- the handshakes, by the rows of the left
-module _ (P : Pairing) (F : ℕ → ℕ → Bool) (rights : List Row) where
-  abbrev shakesIn : List ℕ → Bool
-  shakesIn lefts = present (λ b. tried (F (getD lefts 2 0)) b rights) (P .partner (getD lefts 1 0))
+module _ (P : Pairing) (F : ℕ → ℕ → Bool) (rights : List (ℕ × ℕ)) (g : List ℕ) (at rows : ℕ) where
+  abbrev shakesAt : Bool
+  shakesAt = present (λ b. tried (F (getD g (at + 1) 0)) b rights) (P .partner (getD g at 0))
 
-  shaken-first : (lefts : List ℕ) → 3 ≤ length lefts → shaken P F (threes lefts) rights ≡ (shakesIn lefts || shaken P F (threes (drop 3 lefts)) rights)
-  unfolding shaken threes
-  shaken-first [] h = absurd (omega arith)
-  shaken-first (x ∷ []) h = absurd (omega arith)
-  shaken-first (x ∷ y ∷ []) h = absurd (omega arith)
-  shaken-first (x ∷ y ∷ z ∷ lefts) h = refl
+  pub shaken-none : rows ≡ 0 → false ≡ shaken P F (pairsIn rows (drop at g)) rights
+  unfolding shaken pairsIn
+  shaken-none e = rw e
 
-  pub shaken-none : (lefts : List ℕ) → length lefts < 3 → false ≡ shaken P F (threes lefts) rights
-  unfolding shaken threes
-  shaken-none [] h = refl
-  shaken-none (x ∷ []) h = refl
-  shaken-none (x ∷ y ∷ []) h = refl
-  shaken-none (x ∷ y ∷ z ∷ lefts) h = absurd (omega arith)
+  module _ (n : rows ≡ 0 → ⊥) where
+    shaken-first : shaken P F (pairsIn rows (drop at g)) rights ≡ (shakesAt || shaken P F (pairsIn (rows - 1) (drop (at + 2) g)) rights)
+    unfolding shaken pairsIn
+    shaken-first = go rows n
+      where
+        go : (rows : ℕ) → (rows ≡ 0 → ⊥) → shaken P F (pairsIn rows (drop at g)) rights ≡ (shakesAt || shaken P F (pairsIn (rows - 1) (drop (at + 2) g)) rights)
+        go zero n = absurd (n refl)
+        go (suc m) n = let z : suc m - 1 ≡ m = omega arith in rw (z, getD-drop at g 0 0, getD-drop at g 1 0, drop-drop 2 at g, add-zero at)
 
-  module _ (lefts : List ℕ) (h : 3 ≤ length lefts) where
-    pub shaken-hit : true ≡ shakesIn lefts → true ≡ shaken P F (threes lefts) rights
-    shaken-hit p = rw (shaken-first lefts h, ← p)
+    pub shaken-hit : true ≡ shakesAt → true ≡ shaken P F (pairsIn rows (drop at g)) rights
+    shaken-hit p = rw (shaken-first, ← p)
 
-    pub shaken-miss : (v : Bool) → false ≡ shakesIn lefts → v ≡ shaken P F (threes (rest 3 lefts)) rights → v ≡ shaken P F (threes lefts) rights
-    shaken-miss v q p = rw (shaken-first lefts h, ← q) (rw (rest-of 3 lefts) at p)
+    pub shaken-miss : (v : Bool) → false ≡ shakesAt → v ≡ shaken P F (pairsIn (rows - 1) (drop (at + 2) g)) rights → v ≡ shaken P F (pairsIn rows (drop at g)) rights
+    shaken-miss v q p = rw (shaken-first, ← q) p
 
 -- what the lookup of a partner found
 found-some : (o : Option ℕ) (b : ℕ) → partner.Label (record { 0 = b }) ≡ partnerFound o → o ≡ some b
@@ -95,19 +195,14 @@ partner-tried F o b v e p = rw (found-some o b e) p
 pub nobody-tried : (F : ℕ → Bool) (o : Option ℕ) → partner.Nobody ≡ partnerFound o → false ≡ present F o
 nobody-tried F o e = rw (found-none o e)
 
--- the rows that leave a state, read from their bytes
-rows-read : (rows : List Row) → threes (bytesOf rows) ≡ rows
-unfolding bytesOf
-rows-read rows = chunks-read threes-chunks rows
-
--- a row whose label is the other's partner shakes hands
-shakes-tried : (P : Pairing) (F : ℕ → Bool) (a : ℕ) (rows : List Row) → any (λ (v : Row). shakes P a (v .1) && F (v .2)) rows ≡ present (λ b. tried F b rows) (P .partner a)
+-- a move whose label is the other's partner shakes hands
+shakes-tried : (P : Pairing) (F : ℕ → Bool) (a : ℕ) (moves : List (ℕ × ℕ)) → any (λ n. shakes P a (n .0) && F (n .1)) moves ≡ present (λ b. tried F b moves) (P .partner a)
 unfolding tried
-shakes-tried P F a rows = go (P .partner a) refl
+shakes-tried P F a moves = go (P .partner a) refl
   where
-    go : (o : Option ℕ) → P .partner a ≡ o → any (λ (v : Row). shakes P a (v .1) && F (v .2)) rows ≡ present (λ b. any (λ (w : Row). same (w .1) b && F (w .2)) rows) o
-    go none e = any-cong (λ v. ap (_&& F (v .2)) (denied (decided-shakes P a (v .1)) (λ w. let z = sym e ∙ w in apart cc))) rows ∙ any-false rows
-    go (some b) e = any-cong (λ v. ap (_&& F (v .2)) (decided-alike (λ w. let z = sym w ∙ e in cc) (λ w. e ∙ ap some (sym w)) (decided-shakes P a (v .1)) (decided-same (v .1) b))) rows
+    go : (o : Option ℕ) → P .partner a ≡ o → any (λ n. shakes P a (n .0) && F (n .1)) moves ≡ present (λ b. any (λ n. same (n .0) b && F (n .1)) moves) o
+    go none e = any-cong (λ v. ap (_&& F (v .1)) (denied (decided-shakes P a (v .0)) (λ w. let z = sym e ∙ w in apart cc))) moves ∙ any-false moves
+    go (some b) e = any-cong (λ v. ap (_&& F (v .1)) (decided-alike (λ w. let z = sym w ∙ e in cc) (λ w. e ∙ ap some (sym w)) (decided-shakes P a (v .0)) (decided-same (v .0) b))) moves
 
 -- the label that a move shows is read back as a move
 shown-step : (a : ℕ) (u : ℕ × ℕ) → Shown a → stepOf a u ≡ move a u
@@ -119,56 +214,40 @@ module _ (labels : Labels) (l r : List ℕ) (φ : Formula) (j : Run (ℕ × ℕ)
   abbrev after : ℕ → ℕ → ℕ → Bool
   after c x y = judged labels l r φ (j ▸ stepOf c (x, y))
 
-  abbrev rowsLeft : List Row
-  rowsLeft = rowsFrom p (rowsOf l)
-
-  abbrev rowsRight : List Row
-  rowsRight = rowsFrom q (rowsOf r)
-
   -- one side alone, by the targets that it leads to
-  alone-tried : (f : ℕ → ℕ × ℕ) (rows : List Row) → any (λ (w : Row). same (w .1) a && judged labels l r φ (j ▸ move (w .1) (f (w .2)))) rows ≡ tried (λ x. judged labels l r φ (j ▸ stepOf a (f x))) a rows
+  alone-tried : (f : ℕ → ℕ × ℕ) (moves : List (ℕ × ℕ)) → any (λ m. same (m .0) a && judged labels l r φ (j ▸ move (m .0) (f (m .1)))) moves ≡ tried (λ x. judged labels l r φ (j ▸ stepOf a (f x))) a moves
   unfolding tried
-  alone-tried f rows = any-cong (λ w. and-cong (same (w .1) a) (λ e. ap (λ s. judged labels l r φ (j ▸ s)) (ap (λ c. move c (f (w .2))) (eqb-true (w .1) a e) ∙ sym (shown-step a (f (w .2)) shown)))) rows
+  alone-tried f moves = any-cong (λ m. and-cong (same (m .0) a) (λ e. ap (λ s. judged labels l r φ (j ▸ s)) (ap (λ c. move c (f (m .1))) (eqb-true (m .0) a e) ∙ sym (shown-step a (f (m .1)) shown)))) moves
 
-  handshakes-shaken : any (λ m. any (λ n. shakes (pairing labels) (m .0) (n .0) && (same 0 a && judged labels l r φ (j ▸ move 0 (m .1, n .1)))) (tableOf r q)) (tableOf l p)
-      ≡ (same 0 a && shaken (pairing labels) (after 0) rowsLeft rowsRight)
-  unfolding tableOf shaken stepOf
+  handshakes-shaken : any (λ m. any (λ n. shakes (pairing labels) (m .0) (n .0) && (same 0 a && judged labels l r φ (j ▸ move 0 (m .1, n .1)))) (gridOf r q)) (gridOf l p)
+      ≡ (same 0 a && shaken (pairing labels) (after 0) (gridOf l p) (gridOf r q))
+  unfolding shaken stepOf
   handshakes-shaken = go (same 0 a)
     where
-      go : (b : Bool) → any (λ m. any (λ n. shakes (pairing labels) (m .0) (n .0) && (b && judged labels l r φ (j ▸ move 0 (m .1, n .1)))) (tableOf r q)) (tableOf l p)
-          ≡ (b && shaken (pairing labels) (after 0) rowsLeft rowsRight)
-      go true =
-          any-moves (λ m. any (λ n. shakes (pairing labels) (m .0) (n .0) && judged labels l r φ (j ▸ move 0 (m .1, n .1))) (tableOf r q)) p (rowsOf l)
-          ∙ any-cong (λ w. any-moves (λ n. shakes (pairing labels) (w .1) (n .0) && judged labels l r φ (j ▸ move 0 (w .2, n .1))) q (rowsOf r) ∙ shakes-tried (pairing labels) (after 0 (w .2)) (w .1) rowsRight) rowsLeft
-      go false = any-cong (λ m. any-cong (λ n. and-false (shakes (pairing labels) (m .0) (n .0))) (tableOf r q) ∙ any-false (tableOf r q)) (tableOf l p) ∙ any-false (tableOf l p)
-
-  left-tried : any (λ m. same (m .0) a && judged labels l r φ (j ▸ move (m .0) (m .1, q))) (tableOf l p) ≡ tried (λ x. after a x q) a rowsLeft
-  unfolding tableOf
-  left-tried = any-moves (λ m. same (m .0) a && judged labels l r φ (j ▸ move (m .0) (m .1, q))) p (rowsOf l) ∙ alone-tried (λ x. (x, q)) rowsLeft
-
-  right-tried : any (λ n. same (n .0) a && judged labels l r φ (j ▸ move (n .0) (p, n .1))) (tableOf r q) ≡ tried (λ y. after a p y) a rowsRight
-  unfolding tableOf
-  right-tried = any-moves (λ n. same (n .0) a && judged labels l r φ (j ▸ move (n .0) (p, n .1))) q (rowsOf r) ∙ alone-tried (λ y. (p, y)) rowsRight
+      go : (b : Bool) → any (λ m. any (λ n. shakes (pairing labels) (m .0) (n .0) && (b && judged labels l r φ (j ▸ move 0 (m .1, n .1)))) (gridOf r q)) (gridOf l p)
+          ≡ (b && shaken (pairing labels) (after 0) (gridOf l p) (gridOf r q))
+      go true = any-cong (λ m. shakes-tried (pairing labels) (after 0 (m .1)) (m .0) (gridOf r q)) (gridOf l p)
+      go false = any-cong (λ m. any-cong (λ n. and-false (shakes (pairing labels) (m .0) (n .0))) (gridOf r q) ∙ any-false (gridOf r q)) (gridOf l p) ∙ any-false (gridOf l p)
 
   forward-tried : judged labels l r (fwd a φ) j
-      ≡ (tried (λ x. after a x q) a rowsLeft || (tried (λ y. after a p y) a rowsRight || (same 0 a && shaken (pairing labels) (after 0) rowsLeft rowsRight)))
+      ≡ (tried (λ x. after a x q) a (gridOf l p) || (tried (λ y. after a p y) a (gridOf r q) || (same 0 a && shaken (pairing labels) (after 0) (gridOf l p) (gridOf r q))))
   unfolding judged holds Composed
   forward-tried =
-      ap (λ u. any (λ m. same (m .0) a && judged labels l r φ (j ▸ move (m .0) (m .1))) (beside (pairing labels) (tableOf l) (tableOf r) u)) ends
-      ∙ beside-composed (pairing labels) (tableOf l) (tableOf r) (λ m. same (m .0) a && judged labels l r φ (j ▸ move (m .0) (m .1))) p q
-      ∙ ap₂ (λ x y. x || y) left-tried (ap₂ (λ x y. x || y) right-tried handshakes-shaken)
+      ap (λ u. any (λ m. same (m .0) a && judged labels l r φ (j ▸ move (m .0) (m .1))) (beside (pairing labels) (gridOf l) (gridOf r) u)) ends
+      ∙ beside-composed (pairing labels) (gridOf l) (gridOf r) (λ m. same (m .0) a && judged labels l r φ (j ▸ move (m .0) (m .1))) p q
+      ∙ ap₂ (λ x y. x || y) (alone-tried (λ x. (x, q)) (gridOf l p)) (ap₂ (λ x y. x || y) (alone-tried (λ y. (p, y)) (gridOf r q)) handshakes-shaken)
 
-  -- the same over the bytes of the rows that leave the last states
-  module _ (lefts : List ℕ) (el : lefts ≡ bytesOf rowsLeft) (x : Bool) (px : x ≡ tried (λ s. after a s q) a (threes lefts)) where
-    by-left : x ≡ tried (λ s. after a s q) a rowsLeft
-    by-left = px ∙ ap (λ bs. tried (λ s. after a s q) a (threes bs)) el ∙ ap (tried (λ s. after a s q) a) (rows-read rowsLeft)
+  -- the same over the moves that were found
+  module _ (lefts : List (ℕ × ℕ)) (el : lefts ≡ gridOf l p) (x : Bool) (px : x ≡ tried (λ s. after a s q) a lefts) where
+    by-left : x ≡ tried (λ s. after a s q) a (gridOf l p)
+    by-left = px ∙ ap (tried (λ s. after a s q) a) el
 
     pub forward-left : x ≡ true → true ≡ judged labels l r (fwd a φ) j
     forward-left e = rw (forward-tried, ← by-left, e)
 
-    module _ (rights : List ℕ) (er : rights ≡ bytesOf rowsRight) (y : Bool) (py : y ≡ tried (λ s. after a p s) a (threes rights)) (ex : x ≡ false) where
-      by-right : y ≡ tried (λ s. after a p s) a rowsRight
-      by-right = py ∙ ap (λ bs. tried (λ s. after a p s) a (threes bs)) er ∙ ap (tried (λ s. after a p s) a) (rows-read rowsRight)
+    module _ (rights : List (ℕ × ℕ)) (er : rights ≡ gridOf r q) (y : Bool) (py : y ≡ tried (λ s. after a p s) a rights) (ex : x ≡ false) where
+      by-right : y ≡ tried (λ s. after a p s) a (gridOf r q)
+      by-right = py ∙ ap (tried (λ s. after a p s) a) er
 
       pub forward-right : y ≡ true → true ≡ judged labels l r (fwd a φ) j
       forward-right e = rw (forward-tried, ← by-left, ex, ← by-right, e)
@@ -177,14 +256,9 @@ module _ (labels : Labels) (l r : List ℕ) (φ : Formula) (j : Run (ℕ × ℕ)
       pub forward-loud : y ≡ false → (a ≡ 0 → ⊥) → false ≡ judged labels l r (fwd a φ) j
       forward-loud e n = rw (forward-tried, ← by-left, ex, ← by-right, e, ne-eqb 0 a (λ z. n (sym z)))
 
-      pub forward-shaken : y ≡ false → a ≡ 0 → (v : Bool) → v ≡ shaken (pairing labels) (after 0) (threes lefts) (threes rights) → v ≡ judged labels l r (fwd a φ) j
-      forward-shaken e z v pv =
-          rw (forward-tried, ← by-left, ex, ← by-right, e, eq-eqb 0 a (sym z))
-          (pv ∙ ap₂ (λ bs cs. shaken (pairing labels) (after 0) (threes bs) (threes cs)) el er ∙ ap₂ (shaken (pairing labels) (after 0)) (rows-read rowsLeft) (rows-read rowsRight))
+      pub forward-shaken : y ≡ false → a ≡ 0 → (v : Bool) → v ≡ shaken (pairing labels) (after 0) lefts rights → v ≡ judged labels l r (fwd a φ) j
+      forward-shaken e z v pv = rw (forward-tried, ← by-left, ex, ← by-right, e, eq-eqb 0 a (sym z)) (pv ∙ ap₂ (shaken (pairing labels) (after 0)) el er)
 
--- at most eight rows leave a state, in three bytes each
-pub rows-short : {k : ℕ} {t : List ℕ} → SoundTable k t → (p : ℕ) (rows : List ℕ) → rows ≡ bytesOf (rowsFrom p (rowsOf t)) → length rows ≤ 24
-unfolding bytesOf tableOf
-rows-short {k} {t} s p rows e =
-    let z = length-each (λ (r : Row). r .0 ∷ r .1 ∷ r .2 ∷ []) 3 (λ r. refl) (rowsFrom p (rowsOf t)) in
-    omega (arith, ap length e, z, moves-few s p, ap length (moves-from p (rowsOf t)), length-map {B = ℕ × ℕ} (rowsFrom p (rowsOf t)) (λ r. (r .1, r .2)))
+pub positive : (n : ℕ) → (n ≡ 0 → ⊥) → 1 ≤ n
+positive zero h = absurd (h refl)
+positive (suc n) h = omega arith

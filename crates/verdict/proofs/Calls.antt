@@ -1,6 +1,6 @@
 -- What the checks of a call let through, and that its answer is then the verdict.
 use Prim.Native.Nat.{ℕ, _+_, _-_, _*_, _/_, _%_, _≤_, _<_}
-use mathlib.Core.Path.{_≡_, refl, sym, _∙_, ap, fun-ext}
+use mathlib.Core.Path.{_≡_, refl, sym, _∙_, ap, ap₂, fun-ext}
 use mathlib.Core.Bool.{Bool, true, false, not}
 use mathlib.Core.List.{List, [], _∷_, _++_}
 use mathlib.Core.Option.{some}
@@ -15,6 +15,7 @@ use Rattle.hml.specs.System.{Run, last, steps, stop}
 use Rattle.hml.specs.Formula.{Formula, size, nesting, holds}
 use Rattle.hml.specs.Machine.{machine}
 use Rattle.hml.specs.Labels.{pairs}
+use Rattle.hml.specs.Compose.{beside}
 use Rattle.hml.specs.Alone.{alone, holds-alone}
 use Rattle.labels.specs.Refusals.{thenOf, firstOf, refusedIf}
 use Rattle.labels.specs.Labels.{checkPairs, pairing}
@@ -37,34 +38,48 @@ use Rattle.formulas.specs.Sizes.{sizesOver}
 use Rattle.formulas.specs.Working.{Tree, treeOf}
 use Rattle.formulas.proofs.Checking.{judged-formula, formula-spell, formula-length}
 use Rattle.formulas.proofs.Operators.{tree-spell}
-use Rattle.formulas.proofs.TreeSizes.{sizes-over}
+use Rattle.formulas.proofs.TreeSizes.{sizes-over, length-over}
 use Rattle.verdict.specs.Verdicts.{nodeLimit, jointHolds, halfHolds, checkJointCall, checkHalfCall, verdictOf, answered, jointVerdict, halfVerdict}
-use Rattle.verdict.specs.Working.{Tables, Ready, judged, besideStill}
+use Rattle.verdict.specs.Working.{Tables, Ready, gridOf, judged, tablesHold, besideStill}
 use Rattle.verdict.specs.declared.answer.Verdict.{Verdict}
 use Rattle.verdict.specs.declared.answer.Verdict.the-variants as verdict
 use Rattle.verdict.proofs.Still.{still-read, still-length, still-take, still-ends}
 
 -- a legal formula is ready for its verdict, with the sizes of its trees
 module _ (k : ℕ) (f : List ℕ) (legal : Legal k nodeLimit f) where
-  pub legal-ready : (sizes xs : List ℕ) (n : ℕ) → length sizes ≡ 4096 → Held xs n → n + 12 ≤ length xs → Ready k (sizesOver f sizes) xs n 0 f
+  pub legal-ready : (sizes xs : List ℕ) (n : ℕ) → length sizes ≡ 4096 → length xs ≡ 614 → Held xs n → n ≤ 602 → Ready k (sizesOver f sizes) xs n 0 f
   unfolding Legal Tree nodeLimit
-  legal-ready sizes xs n z h i =
+  legal-ready sizes xs n z w h i =
       let (φ, e, s, l, d) = legal in
       let t : treeOf f ≡ φ = ap treeOf e ∙ tree-spell φ [] in
-      record { tree = (φ, [], e); ranged = rw t l; sized = sizes-over f sizes (omega (arith, formula-length f φ e, s, z)); held = h; room = omega (arith, ap nesting t, d, i) }
+      record {
+        tree = (φ, [], e);
+        ranged = rw t l;
+        sized = sizes-over f sizes (omega (arith, formula-length f φ e, s, z));
+        held = h;
+        room = omega (arith, ap nesting t, d, i, w);
+        size = w;
+        slots = length-over f sizes ∙ z;
+      }
 
   legal-tree : formulaOf f ≡ some (treeOf f)
   unfolding Legal
   legal-tree = let (φ, e, s, l, d) = legal in ap formulaOf e ∙ formula-spell φ ∙ ap some (sym (ap treeOf e ∙ tree-spell φ []))
 
-  module _ (F : Formula → Bool) (b : Bool) (p : b ≡ F (treeOf f)) where
-    pub legal-holds : b ≡ true → verdict.Holds ≡ verdictOf (present F (formulaOf f))
-    unfolding verdictOf
-    legal-holds e = rw (legal-tree, ← p, e)
+  -- the verdict on grids that have the tables' rows is the tables' verdict
+  module _ (labels : Labels) (l r gl gr : List ℕ) (el : (p : ℕ) → gridOf gl p ≡ tableOf l p) (er : (p : ℕ) → gridOf gr p ≡ tableOf r p) (j : Run (ℕ × ℕ)) (b : Bool)
+      (p : b ≡ judged labels gl gr (treeOf f) j) where
+    tables-judged : b ≡ present (λ φ. tablesHold labels l r φ j) (formulaOf f)
+    unfolding judged tablesHold
+    tables-judged = rw legal-tree (p ∙ ap₂ (λ L R. holds (beside (pairing labels) L R) (treeOf f) j) (fun-ext el) (fun-ext er))
 
-    pub legal-fails : b ≡ false → verdict.Fails ≡ verdictOf (present F (formulaOf f))
+    pub legal-holds : b ≡ true → verdict.Holds ≡ verdictOf (present (λ φ. tablesHold labels l r φ j) (formulaOf f))
     unfolding verdictOf
-    legal-fails e = rw (legal-tree, ← p, e)
+    legal-holds e = rw (← tables-judged, e)
+
+    pub legal-fails : b ≡ false → verdict.Fails ≡ verdictOf (present (λ φ. tablesHold labels l r φ j) (formulaOf f))
+    unfolding verdictOf
+    legal-fails e = rw (← tables-judged, e)
 
 -- a test that was not refused
 passed : (b : Bool) (x : Refusal) → refusedIf (not b) x ≡ Sound → b ≡ true
@@ -149,8 +164,8 @@ module _ (k : ℕ) (l r s f : List ℕ) where
                 let v : length (take (3 * m + 2) s) - 1 ≡ 3 * m + 1 = omega (arith, n) in
                 rw (front (3 * m + 2) i, a .ends, u, v, getD-take (3 * m + 2) s (3 * m) 0 (omega arith), getD-take (3 * m + 2) s (3 * m + 1) 0 (omega arith), front-at (3 * m) (omega arith), front-at (3 * m + 1) (omega arith))
 
-        pub joint-answer : checkJointCall k l r s f p ≡ Sound → (v : Verdict) → v ≡ verdictOf (present (λ φ. judged (record { pairs = k }) l r φ (jointOf (take (3 * p + 2) xs))) (formulaOf f)) → v ≡ jointVerdict k l r s f p
-        unfolding jointVerdict jointHolds answered judged pairing
+        pub joint-answer : checkJointCall k l r s f p ≡ Sound → (v : Verdict) → v ≡ verdictOf (present (λ φ. tablesHold (record { pairs = k }) l r φ (jointOf (take (3 * p + 2) xs))) (formulaOf f)) → v ≡ jointVerdict k l r s f p
+        unfolding jointVerdict jointHolds answered tablesHold pairing
         joint-answer c v w = rw (c, ← joint-stop s p, ← e) w
 
   -- the cases of the check
@@ -251,10 +266,10 @@ module _ (k : ℕ) (t s f : List ℕ) where
               let w : take (3 * m + 2) xs ≡ take (3 * m + 2) (besideStill s) = sym (take-take (3 * m + 2) (3 * p + 2) xs i) ∙ ap (take (3 * m + 2)) g ∙ take-take (3 * m + 2) (3 * p + 2) (besideStill s) i in
               rw (w, n (3 * m) (omega arith), n (3 * m + 1) (omega arith)) (still-ends t s (call .run) m (omega (arith, half-room)))
 
-      pub half-answer : checkHalfCall k t s f p ≡ Sound → (v : Verdict) → v ≡ verdictOf (present (λ φ. judged (record { pairs = k }) t still φ (jointOf (take (3 * p + 2) xs))) (formulaOf f)) → v ≡ halfVerdict k t s f p
-      unfolding halfVerdict halfHolds answered judged pairing
+      pub half-answer : checkHalfCall k t s f p ≡ Sound → (v : Verdict) → v ≡ verdictOf (present (λ φ. tablesHold (record { pairs = k }) t still φ (jointOf (take (3 * p + 2) xs))) (formulaOf f)) → v ≡ halfVerdict k t s f p
+      unfolding halfVerdict halfHolds answered tablesHold pairing
       half-answer c v w =
-          let same : (φ : Formula) → judged (record { pairs = k }) t still φ (jointOf (take (3 * p + 2) xs)) ≡ holds (tableOf t) φ (stop p (halfOf s)) = λ φ.
+          let same : (φ : Formula) → tablesHold (record { pairs = k }) t still φ (jointOf (take (3 * p + 2) xs)) ≡ holds (tableOf t) φ (stop p (halfOf s)) = λ φ.
           rw (half-front, still-read (take (2 * p + 1) s) half-odd, ← half-stop s p) (holds-alone (pairs k) (tableOf t) (tableOf still) 0 nothing-leaves φ (halfOf (take (2 * p + 1) s))) in
           w ∙ ap verdictOf (ap (λ F. present F (formulaOf f)) (fun-ext same)) ∙ rw c
 

@@ -6,9 +6,10 @@ use mathlib.Core.Bool.{Bool, true, false, cond, _&&_, _||_, not as negate, false
 use mathlib.Core.List.{List}
 use native.Mathlib.Omega.{arith}
 use lib.ListN.{length, getD, take, drop, length-drop}
+use lib.Seq.{drop-drop}
 use lib.Dec.{eqb, leb}
 use borrow.Author.Tests.{eq-eqb, ne-eqb, eqb-true, eqb-false, leb-true}
-use Rattle.hml.specs.Tests.{same, both-true}
+use Rattle.hml.specs.Tests.{same, both-true, Decides, decides, decided-or, decided-same}
 use Rattle.hml.specs.System.{Run, start, _▸_, move, idle, last}
 use Rattle.hml.specs.Formula.{Formula, top, bottom, not, and, or, fwd, back, fwdIdle, backIdle, size, nesting, labelled, holds}
 use Rattle.hml.specs.Labels.{count}
@@ -19,24 +20,33 @@ use Rattle.machines.specs.Joints.{jointOf}
 use Rattle.machines.proofs.Buffers.{Held, held-last, held-empty, held-shorter, held-step}
 use Rattle.formulas.specs.Working.{Tree, treeOf}
 use Rattle.formulas.specs.Sizes.{Sized, treeSize}
+use Rattle.formulas.proofs.Measures.{size-some}
 use Rattle.formulas.proofs.Operators.{At, Unary, Binary, at, tree-spell, node-room}
 use Rattle.formulas.proofs.TreeSizes.{size-spell, sized-room, sized-part, sized-first}
 use Rattle.verdict.specs.declared.step.Step.the-variants as step
 use Rattle.verdict.specs.Working.{Ready, Shown, jointStep, grants, judged, statesOf}
 
 -- the operator, from the tests that it passed and failed
-pub two-up : (o : ℕ) → (o ≡ 0 → ⊥) → (o ≡ 1 → ⊥) → 2 ≤ o
-two-up zero a b = absurd (a refl)
-two-up (suc zero) a b = absurd (b refl)
-two-up (suc (suc o)) a b = omega arith
+pub five-up : (o : ℕ) → (o ≡ 0 → ⊥) → (o ≡ 1 → ⊥) → (o ≡ 2 → ⊥) → (o ≡ 3 → ⊥) × (o ≡ 4 → ⊥) → 5 ≤ o
+five-up zero a b c d = absurd (a refl)
+five-up (suc zero) a b c d = absurd (b refl)
+five-up (suc (suc zero)) a b c d = absurd (c refl)
+five-up (suc (suc (suc zero))) a b c d = absurd (d .0 refl)
+five-up (suc (suc (suc (suc zero)))) a b c d = absurd (d .1 refl)
+five-up (suc (suc (suc (suc (suc o))))) a b c d = omega arith
 
-from-2-to-4 : {P : Type 0} (o : ℕ) → 2 ≤ o → o < 5 → (o ≡ 2 → P) → (o ≡ 3 → P) → (o ≡ 4 → P) → P
-from-2-to-4 zero a b p q r = absurd (omega arith)
-from-2-to-4 (suc zero) a b p q r = absurd (omega arith)
-from-2-to-4 (suc (suc zero)) a b p q r = p refl
-from-2-to-4 (suc (suc (suc zero))) a b p q r = q refl
-from-2-to-4 (suc (suc (suc (suc zero)))) a b p q r = r refl
-from-2-to-4 (suc (suc (suc (suc (suc o))))) a b p q r = absurd (omega arith)
+-- an operator with two operands is "and" or "or"
+abbrev pub Connective : ℕ → Type 0
+Connective o = (o ≡ 3) ⊎ (o ≡ 4)
+
+binary-decides : (o : ℕ) → Decides (Connective o) (eqb o 3 || eqb o 4)
+binary-decides o = decided-or (decided-same o 3) (decided-same o 4)
+
+pub connective : (o : ℕ) (b : Bool) → b ≡ (eqb o 3 || eqb o 4) → b ≡ true → Connective o
+connective o b p e = decides (binary-decides o) .0 (sym p ∙ e)
+
+pub no-connective : (o : ℕ) (b : Bool) → b ≡ (eqb o 3 || eqb o 4) → b ≡ false → (o ≡ 3 → ⊥) × (o ≡ 4 → ⊥)
+no-connective o b p e = (λ h. false≢true (sym (sym p ∙ e) ∙ decides (binary-decides o) .1 (inl h)), λ h. false≢true (sym (sym p ∙ e) ∙ decides (binary-decides o) .1 (inr h)))
 
 first-true : (a b : Bool) → (a && b) ≡ true → a ≡ true
 first-true a b e = both-true {a = a} {b = b} e .0
@@ -62,9 +72,9 @@ module _ (k : ℕ) (sizes xs : List ℕ) (n : ℕ) (f : List ℕ) (y : Ready k s
   operand-ready g u m more h l i =
       let z = ap nesting (u .is) in
       let w = y .ranged in
-      rw (rest-of 2 f) (record { tree = u .operand; ranged = l (rw (u .is) at w); sized = sized-body; held = h; room = omega (arith, i, z, y .room) })
+      rw (rest-of 2 f) (record { tree = u .operand; ranged = l (rw (u .is) at w); sized = sized-body; held = h; room = omega (arith, i, z, y .room); size = y .size; slots = y .slots })
 
-  not-ready : getD f 0 0 ≡ 2 → Ready k sizes xs n 0 (rest 2 f)
+  pub not-ready : getD f 0 0 ≡ 2 → Ready k sizes xs n 0 (rest 2 f)
   unfolding labelled nesting
   not-ready e = operand-ready not (at f (y .tree) 2 e) n 0 (y .held) (λ l. l) (omega arith)
 
@@ -93,7 +103,7 @@ module _ (k : ℕ) (sizes xs : List ℕ) (n : ℕ) (f : List ℕ) (y : Ready k s
     both-room = omega (arith, y .room, ap nesting (u .is) ∙ d _ _)
 
     first-of : Ready k sizes xs n 0 (rest 2 f)
-    first-of = rw (rest-of 2 f) (record { tree = u .first; ranged = both-ranged .0; sized = sized-body; held = y .held; room = omega (arith, both-room) })
+    first-of = rw (rest-of 2 f) (record { tree = u .first; ranged = both-ranged .0; sized = sized-body; held = y .held; room = omega (arith, both-room); size = y .size; slots = y .slots })
 
     second-of : Ready k sizes xs n 0 (drop (2 * size (treeOf (drop 2 f))) (drop 2 f))
     second-of = record {
@@ -102,41 +112,44 @@ module _ (k : ℕ) (sizes xs : List ℕ) (n : ℕ) (f : List ℕ) (y : Ready k s
       sized = sized-part sizes (drop 2 f) (size (treeOf (drop 2 f))) sized-body;
       held = y .held;
       room = omega (arith, both-room);
+      size = y .size;
+      slots = y .slots;
     }
 
-  pub first-ready : 2 ≤ getD f 0 0 → getD f 0 0 < 5 → Ready k sizes xs n 0 (rest 2 f)
-  unfolding labelled nesting
-  first-ready a b = from-2-to-4 (getD f 0 0) a b not-ready
-      (λ e. first-of and (at f (y .tree) 3 e) (λ φ ψ. refl) (λ φ ψ. refl))
-      (λ e. first-of or (at f (y .tree) 4 e) (λ φ ψ. refl) (λ φ ψ. refl))
-
   -- the second operand begins where the first one ends, which the sizes tell
-  module _ (a : 2 ≤ getD f 0 0) (b : getD f 0 0 < 5) (c : getD f 0 0 ≡ 2 → ⊥) where
-    body-node : (2 ≤ length (rest 2 f)) × (length (rest 2 f) / 2 ≤ length sizes)
-    body-node = let r = first-ready a b in (node-room (rest 2 f) (r .tree), sized-room sizes (rest 2 f) (r .sized))
+  module _ (o : Connective (getD f 0 0)) where
+    pub first-ready : Ready k sizes xs n 0 (rest 2 f)
+    unfolding labelled nesting
+    first-ready = ⊎-elim
+        (λ e. first-of and (at f (y .tree) 3 e) (λ φ ψ. refl) (λ φ ψ. refl))
+        (λ e. first-of or (at f (y .tree) 4 e) (λ φ ψ. refl) (λ φ ψ. refl)) o
 
-    pub size-read : (1 ≤ length (rest 2 f) / 2) × (length (rest 2 f) / 2 - 1 < length sizes)
-    size-read = omega (arith, body-node)
+    first-room : 2 + 2 * size (treeOf (drop 2 f)) + 2 ≤ length f
+    first-room = ⊎-elim (λ e. at f (y .tree) 3 e .room) (λ e. at f (y .tree) 4 e .room) o
 
-    module _ (m : ℕ) (e : m ≡ getD sizes (length (rest 2 f) / 2 - 1) 0) where
+    pub size-read : (4 ≤ length f) × (length f / 2 - 2 < length sizes)
+    size-read = omega (arith, first-room, size-some (treeOf (drop 2 f)), sized-room sizes f (y .sized))
+
+    module _ (m : ℕ) (e : m ≡ getD sizes (length f / 2 - 2) 0) where
       first-size : m ≡ size (treeOf (drop 2 f))
       first-size =
-          let r = first-ready a b in
-          e ∙ sized-first sizes (rest 2 f) (r .sized) (body-node .0) ∙ tree-size (rest 2 f) (r .tree) ∙ ap (λ (l : List ℕ). size (treeOf l)) (rest-of 2 f)
+          let l = length-drop 2 f in
+          let i : length f / 2 - 2 ≡ length (drop 2 f) / 2 - 1 = omega (arith, l, size-read) in
+          e ∙ ap (λ i. getD sizes i 0) i ∙ sized-first sizes (drop 2 f) sized-body (omega (arith, l, size-read)) ∙ tree-size (drop 2 f) (rw (rest-of 2 f) at (first-ready .tree))
 
-      pub second-part : rest (2 * m) (rest 2 f) ≡ drop (2 * size (treeOf (drop 2 f))) (drop 2 f)
-      second-part = rest-of (2 * m) (rest 2 f) ∙ ap (drop (2 * m)) (rest-of 2 f) ∙ ap (λ (i : ℕ). drop (2 * i) (drop 2 f)) first-size
+      second-part : rest (2 * m + 2) f ≡ drop (2 * size (treeOf (drop 2 f))) (drop 2 f)
+      second-part =
+          let i : 2 * m + 2 ≡ 2 + 2 * size (treeOf (drop 2 f)) = omega (arith, first-size) in
+          rest-of (2 * m + 2) f ∙ ap (λ i. drop i f) i ∙ sym (drop-drop (2 * size (treeOf (drop 2 f))) 2 f)
 
-      pub second-room : 2 * m ≤ length (rest 2 f)
-      second-room = from-2-to-4 (getD f 0 0) a b (λ h. absurd (c h))
-          (λ h. omega (arith, at f (y .tree) 3 h .room, first-size, ap length (rest-of 2 f), length-drop 2 f))
-          (λ h. omega (arith, at f (y .tree) 4 h .room, first-size, ap length (rest-of 2 f), length-drop 2 f))
+      pub second-room : 2 * m + 2 ≤ length f
+      second-room = omega (arith, first-room, first-size)
 
-      pub second-ready : Ready k sizes xs n 0 (rest (2 * m) (rest 2 f))
+      pub second-ready : Ready k sizes xs n 0 (rest (2 * m + 2) f)
       unfolding labelled nesting
-      second-ready = rw second-part (from-2-to-4 (getD f 0 0) a b (λ h. absurd (c h))
+      second-ready = rw second-part (⊎-elim
           (λ e. second-of and (at f (y .tree) 3 e) (λ φ ψ. refl) (λ φ ψ. refl))
-          (λ e. second-of or (at f (y .tree) 4 e) (λ φ ψ. refl) (λ φ ψ. refl)))
+          (λ e. second-of or (at f (y .tree) 4 e) (λ φ ψ. refl) (λ φ ψ. refl)) o)
 
 -- the verdict from those of the operands
 module _ (labels : Labels) (l r f : List ℕ) (j : Run (ℕ × ℕ)) (t : Tree f) where
@@ -159,16 +172,16 @@ module _ (labels : Labels) (l r f : List ℕ) (j : Run (ℕ × ℕ)) (t : Tree f
   unfolding judged holds stepOf
   judged-idle b u e p = rw (at f t 7 e .is) (rw (rest-of 2 f) at p)
 
-  -- "and" and "or", with o for the operator: the first operand settles it, or the second does
-  module _ (a b : Bool) (p : a ≡ judged labels l r (treeOf (rest 2 f)) j) (x : 2 ≤ getD f 0 0) (y : getD f 0 0 < 5) (z : getD f 0 0 ≡ 2 → ⊥) where
-    operand₁ : a ≡ judged labels l r (treeOf (drop 2 f)) j
-    operand₁ = rw (rest-of 2 f) at p
+  -- "and" and "or": the first operand settles it, or the second does
+  module _ (o : Connective (getD f 0 0)) (a : Bool) (p : a ≡ judged labels l r (treeOf (rest 2 f)) j) where
+    first-judged : a ≡ judged labels l r (treeOf (drop 2 f)) j
+    first-judged = rw (rest-of 2 f) at p
 
     pub judged-settled : Bool·beq a (eqb (getD f 0 0) 4) ≡ true → a ≡ judged labels l r (treeOf f) j
     unfolding judged holds
-    judged-settled s = from-2-to-4 (getD f 0 0) x y (λ e. absurd (z e))
-        (λ e. rw (at f t 3 e .is, ← operand₁) (settled a _ (rw e at s)))
-        (λ e. rw (at f t 4 e .is, ← operand₁) (settled-or a _ (rw e at s)))
+    judged-settled s = ⊎-elim
+        (λ e. rw (at f t 3 e .is, ← first-judged) (settled a _ (rw e at s)))
+        (λ e. rw (at f t 4 e .is, ← first-judged) (settled-or a _ (rw e at s))) o
       where
         settled : (a c : Bool) → Bool·beq a false ≡ true → a ≡ (a && c)
         settled true c s = absurd (false≢true s)
@@ -178,11 +191,11 @@ module _ (labels : Labels) (l r f : List ℕ) (j : Run (ℕ × ℕ)) (t : Tree f
         settled-or true c s = refl
         settled-or false c s = absurd (false≢true s)
 
-    pub judged-second : Bool·beq a (eqb (getD f 0 0) 4) ≡ false → b ≡ judged labels l r (treeOf (drop (2 * size (treeOf (drop 2 f))) (drop 2 f))) j → b ≡ judged labels l r (treeOf f) j
+    judged-second : Bool·beq a (eqb (getD f 0 0) 4) ≡ false → judged labels l r (treeOf (drop (2 * size (treeOf (drop 2 f))) (drop 2 f))) j ≡ judged labels l r (treeOf f) j
     unfolding judged holds
-    judged-second s q = from-2-to-4 (getD f 0 0) x y (λ e. absurd (z e))
-        (λ e. rw (at f t 3 e .is, ← operand₁, open-and a (rw e at s)) q)
-        (λ e. rw (at f t 4 e .is, ← operand₁, open-or a (rw e at s)) q)
+    judged-second s = ⊎-elim
+        (λ e. rw (at f t 3 e .is, ← first-judged, open-and a (rw e at s)))
+        (λ e. rw (at f t 4 e .is, ← first-judged, open-or a (rw e at s))) o
       where
         open-and : (a : Bool) → Bool·beq a false ≡ false → a ≡ true
         open-and true s = refl
@@ -191,6 +204,27 @@ module _ (labels : Labels) (l r f : List ℕ) (j : Run (ℕ × ℕ)) (t : Tree f
         open-or : (a : Bool) → Bool·beq a true ≡ false → a ≡ false
         open-or true s = absurd (false≢true (sym s))
         open-or false s = refl
+
+-- going from second operand to second operand: what is left has the verdict of the whole
+pub record Going (labels : Labels) (l r sizes xs : List ℕ) (n : ℕ) (f left : List ℕ) : Type 0 where
+  pub ready : Ready (labels .pairs) sizes xs n 0 left
+  pub shorter : length left ≤ length f
+  pub same : judged labels l r (treeOf left) (jointOf (take n xs)) ≡ judged labels l r (treeOf f) (jointOf (take n xs))
+
+pub going-start : (labels : Labels) (l r sizes xs : List ℕ) (n : ℕ) (f : List ℕ) → Ready (labels .pairs) sizes xs n 0 f → Going labels l r sizes xs n f f
+going-start labels l r sizes xs n f y = record { ready = y; shorter = omega arith; same = refl }
+
+module _ (labels : Labels) (l r sizes xs : List ℕ) (n : ℕ) (f left : List ℕ) (g : Going labels l r sizes xs n f left) (o : Connective (getD left 0 0)) (a : Bool)
+    (p : a ≡ judged labels l r (treeOf (rest 2 left)) (jointOf (take n xs))) where
+  pub going-settled : Bool·beq a (eqb (getD left 0 0) 4) ≡ true → a ≡ judged labels l r (treeOf f) (jointOf (take n xs))
+  going-settled s = judged-settled labels l r left (jointOf (take n xs)) (g .ready .tree) o a p s ∙ g .same
+
+  pub going-on : Bool·beq a (eqb (getD left 0 0) 4) ≡ false → (m : ℕ) → m ≡ getD sizes (length left / 2 - 2) 0 → Going labels l r sizes xs n f (rest (2 * m + 2) left)
+  going-on s m e = record {
+    ready = second-ready (labels .pairs) sizes xs n left (g .ready) o m e;
+    shorter = omega (arith, g .shorter, rest-length (2 * m + 2) left);
+    same = ap (λ (b : List ℕ). judged labels l r (treeOf b) (jointOf (take n xs))) (second-part (labels .pairs) sizes xs n left (g .ready) o m e) ∙ judged-second labels l r left (jointOf (take n xs)) (g .ready .tree) o a p s ∙ g .same;
+  }
 
 -- a back modality, on the run in the first n bytes of xs
 pub back-operator : (f : List ℕ) → Tree f → 5 ≤ getD f 0 0 → (getD f 0 0 ≡ 5 → ⊥) → (getD f 0 0 ≡ 7 → ⊥) → (getD f 0 0 ≡ 6) ⊎ (getD f 0 0 ≡ 8)

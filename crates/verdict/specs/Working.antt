@@ -1,17 +1,16 @@
 -- What functions inside the crate promise each other. No public promise cites this file.
-use Prim.Native.Nat.{ℕ, _+_, _*_, _%_, _≤_}
+use Prim.Native.Nat.{ℕ, zero, suc, _+_, _*_, _≤_, _<_}
 use mathlib.Core.Path.{_≡_}
 use mathlib.Core.Bool.{Bool, true, false, cond, _&&_}
 use mathlib.Core.List.{List, [], _∷_}
 use mathlib.Core.Option.{Option}
-use lib.ListN.{length, getD, take}
+use lib.ListN.{length, getD, drop}
 use lib.Dec.{eqb}
 use Rattle.hml.specs.Tests.{same}
 use Rattle.hml.specs.Lists.{any, present}
 use Rattle.hml.specs.System.{System, Run, last, Pairing}
 use Rattle.hml.specs.Formula.{Formula, holds, nesting, labelled}
 use Rattle.hml.specs.Compose.{beside}
-use Rattle.hml.specs.Machine.{Row}
 use Rattle.hml.specs.Labels.{count}
 use Rattle.labels.specs.Labels.{pairing}
 use Rattle.labels.specs.declared.label.Labels.{Labels}
@@ -52,10 +51,33 @@ grants o a step.Idle = eqb o 8
 abbrev pub Shown : ℕ → Type 0
 Shown a = a ≡ 255 → ⊥
 
--- the tables of a call, which no check refuses
-pub record Tables (k : ℕ) (l r : List ℕ) : Type 0 where
-  pub left : SoundTable k l
-  pub right : SoundTable k r
+-- the first n pairs of bytes
+unfoldable pub pairsIn : ℕ → List ℕ → List (ℕ × ℕ)
+pairsIn zero bs = []
+pairsIn (suc n) bs = (getD bs 0 0, getD bs 1 0) ∷ pairsIn n (drop 2 bs)
+
+-- a grid has 17 bytes a state: how many rows leave it, then label and target of each. Its reading is a system
+unfoldable pub gridOf : List ℕ → System ℕ
+gridOf g p = pairsIn (getD g (17 * p) 0) (drop (17 * p + 1) g)
+
+-- a grid: 64 states, at most 8 rows from each
+pub record Grid (g : List ℕ) : Type 0 where
+  pub whole : length g ≡ 1088
+  pub few : (p : ℕ) → p < 64 → getD g (17 * p) 0 ≤ 8
+
+-- so many rows from a place on lie within a grid
+abbrev pub Within : ℕ → ℕ → Type 0
+Within at rows = at + 2 * rows ≤ 1088
+
+-- how many moves stand before the first with this label
+unfoldable pub skippedIn : ℕ → List (ℕ × ℕ) → ℕ
+skippedIn b [] = 0
+skippedIn b (m ∷ moves) = cond (same (m .0) b) 0 (suc (skippedIn b moves))
+
+-- the tables of a call
+pub record Grids (l r : List ℕ) : Type 0 where
+  pub left : Grid l
+  pub right : Grid r
 
 -- the first n bytes of xs are a run, with room behind it for `more` steps and those that the first tree of f looks ahead;
 -- sizes has the sizes of f's trees
@@ -65,18 +87,28 @@ pub record Ready (k : ℕ) (sizes xs : List ℕ) (n more : ℕ) (f : List ℕ) :
   pub sized : Sized sizes f
   pub held : Held xs n
   pub room : n + 3 * (more + nesting (treeOf f)) ≤ length xs
+  pub size : length xs ≡ 614
+  pub slots : length sizes ≡ 4096
 
 -- the verdict of the two tables beside each other
 unfoldable pub judged : Labels → List ℕ → List ℕ → Formula → Run (ℕ × ℕ) → Bool
-judged labels l r φ j = holds (beside (pairing labels) (tableOf l) (tableOf r)) φ j
+judged labels l r φ j = holds (beside (pairing labels) (gridOf l) (gridOf r)) φ j
 
--- does the test pass for the target of one of the rows that have this label?
-unfoldable pub tried : (ℕ → Bool) → ℕ → List Row → Bool
-tried F b rows = any (λ (w : Row). same (w .1) b && F (w .2)) rows
+-- the tables of a call, which no check refuses, and their verdict
+pub record Tables (k : ℕ) (l r : List ℕ) : Type 0 where
+  pub left : SoundTable k l
+  pub right : SoundTable k r
 
--- does the test pass for the targets of one of the handshakes of these rows?
-unfoldable pub shaken : Pairing → (ℕ → ℕ → Bool) → List Row → List Row → Bool
-shaken P F lefts rights = any (λ (w : Row). present (λ b. tried (F (w .2)) b rights) (P .partner (w .1))) lefts
+unfoldable pub tablesHold : Labels → List ℕ → List ℕ → Formula → Run (ℕ × ℕ) → Bool
+tablesHold labels l r φ j = holds (beside (pairing labels) (tableOf l) (tableOf r)) φ j
+
+-- does the test pass for the target of one of the moves that have this label?
+unfoldable pub tried : (ℕ → Bool) → ℕ → List (ℕ × ℕ) → Bool
+tried F b moves = any (λ m. same (m .0) b && F (m .1)) moves
+
+-- does the test pass for the targets of one of the handshakes of these moves?
+unfoldable pub shaken : Pairing → (ℕ → ℕ → Bool) → List (ℕ × ℕ) → List (ℕ × ℕ) → Bool
+shaken P F lefts rights = any (λ m. present (λ b. tried (F (m .1)) b rights) (P .partner (m .0))) lefts
 
 -- a half run's bytes as those of a joint run beside a machine that stays in state 0. First its steps: a byte that fills no step is none
 unfoldable pub widened : List ℕ → List ℕ

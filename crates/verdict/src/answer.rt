@@ -1,17 +1,18 @@
 // The answer of a verdict, and how both calls come to it.
+use crate::grid::rows_by_state;
 use crate::search::holds;
 use formulas::sizes::tree_sizes;
 use labels::label::Labels;
 use labels::refusal::Refusal;
 ghost use mathlib.Core.Path.{_≡_};
-ghost use Prim.Native.Nat.{_+_, _≤_};
+ghost use Prim.Native.Nat.{_≤_};
 ghost use lib.ListN.{length, take};
 ghost use Rattle.hml.specs.Lists.{present};
 ghost use Rattle.machines.specs.Joints.{jointOf};
 ghost use Rattle.machines.proofs.Buffers.{Held};
 ghost use Rattle.formulas.specs.Formulas.{formulaOf, Legal};
 ghost use Rattle.verdict.specs.Verdicts.{nodeLimit, verdictOf};
-ghost use Rattle.verdict.specs.Working.{Tables, judged};
+ghost use Rattle.verdict.specs.Working.{Tables, tablesHold};
 
 pub enum Verdict {
     Holds,
@@ -19,24 +20,28 @@ pub enum Verdict {
     Refused(Refusal),
 }
 
-// The verdict on the run in the first len bytes of a buffer that has room for four steps more. The sizes of the formula's trees
-// are found once, so that a second operand is found without reading the first.
+// The verdict on the run in the first len bytes of a buffer that has room for four steps more. The rows of each state and the sizes
+// of the formula's trees are found once, so that no rows are searched for and no operand is read to find the one behind it.
 pub(crate) fn verdict_on(
     labels: Labels,
     left: &[u8],
     right: &[u8],
-    run: &mut [u8],
+    run: &mut [u8; 614],
     len: usize,
     formula: &[u8],
 ) -> Verdict
     requires { ⌜ Tables (labels .pairs) (now left) (now right) ⌝ }
-    requires { ⌜ Held (now run) len × (len + 12 ≤ length (now run)) ⌝ }
+    requires { ⌜ Held (now run) len × (len ≤ 602) × (length (now run) ≡ 614) ⌝ }
     requires { ⌜ Legal (labels .pairs) nodeLimit (now formula) ⌝ }
-    ensures { λ r. ⌜ r ≡ verdictOf (present (λ φ. judged labels (now (left .entry)) (now (right .entry)) φ (jointOf (take len (now (run .entry))))) (formulaOf (now (formula .entry)))) ⌝ }
+    ensures { λ r. ⌜ r ≡ verdictOf (present (λ φ. tablesHold labels (now (left .entry)) (now (right .entry)) φ (jointOf (take len (now (run .entry))))) (formulaOf (now (formula .entry)))) ⌝ }
 {
+    let mut left_grid = [0u8; 1088];
+    rows_by_state(labels, left, &mut left_grid);
+    let mut right_grid = [0u8; 1088];
+    rows_by_state(labels, right, &mut right_grid);
     let mut sizes = [0usize; 4096];
     tree_sizes(formula, &mut sizes);
-    if holds(labels, left, right, &sizes, run, len, formula) {
+    if holds(labels, &left_grid, &right_grid, &sizes, run, len, formula) {
         return Verdict::Holds;
     }
     Verdict::Fails

@@ -1,5 +1,7 @@
 // The verdict of a formula on a joint run that stands in a buffer. A look ahead writes one step behind the run, judges the
 // longer run, and puts back what stood there: after a back modality these are steps of the log.
+use crate::grid::rows_before;
+use crate::grid::rows_from;
 use crate::step::Mover;
 use crate::step::back_fits;
 use crate::step::step_of;
@@ -7,32 +9,72 @@ use crate::step::targets;
 use labels::label::Label;
 use labels::label::Labels;
 use labels::label::Partner;
-use tables::leaving::rows_leaving;
 ghost use mathlib.Core.Path.{_≡_};
-ghost use Prim.Native.Nat.{ℕ, _-_, _≤_};
-ghost use lib.ListN.{length, getD, take};
+ghost use Prim.Native.Nat.{ℕ, _+_, _-_, _*_, _≤_};
+ghost use mathlib.Core.Bool.{_||_};
+ghost use lib.ListN.{getD, take, drop};
+ghost use lib.Dec.{eqb};
 ghost use Rattle.hml.specs.Lists.{present};
 ghost use Rattle.hml.specs.System.{_▸_};
 ghost use Rattle.hml.specs.Formula.{fwd};
 ghost use Rattle.labels.specs.Labels.{pairing};
-ghost use Rattle.tables.specs.Tables.{threes};
 ghost use Rattle.halves.specs.Runs.{stepOf};
 ghost use Rattle.machines.specs.Joints.{jointOf};
 ghost use Rattle.formulas.specs.Working.{treeOf};
-ghost use Rattle.verdict.specs.Working.{Tables, Ready, Shown, judged, tried, shaken, pairOf, targetsOf};
+ghost use Rattle.verdict.specs.Working.{Grids, Ready, Shown, Within, judged, pairsIn, tried, shaken, pairOf, targetsOf};
 
-// Does the first tree of f hold on the run in the first len bytes?
+// Does the first tree of f hold on the run in the first len bytes? "And" and "or" stop as soon as they can.
 pub(crate) fn holds(
     labels: Labels,
-    left: &[u8],
-    right: &[u8],
-    sizes: &[usize],
-    run: &mut [u8],
+    left: &[u8; 1088],
+    right: &[u8; 1088],
+    sizes: &[usize; 4096],
+    run: &mut [u8; 614],
     len: usize,
     f: &[u8],
 ) -> bool
-    requires { ⌜ Tables (labels .pairs) (now left) (now right) ⌝ }
+    requires { ⌜ Grids (now left) (now right) ⌝ }
     requires { ⌜ Ready (labels .pairs) (now sizes) (now run) len 0 (now f) ⌝ }
+    ensures { λ r. ⌜ r ≡ judged labels (now (left .entry)) (now (right .entry)) (treeOf (now (f .entry))) (jointOf (take len (now (run .entry)))) ⌝ }
+    ensures { λ r. ⌜ now (run .exit) ≡ now (run .entry) ⌝ }
+{
+    let mut rest = f;
+    while is_binary(rest[0]) {
+        let operator = rest[0];
+        let first = holds(labels, left, right, sizes, run, len, &rest[2..]);
+        if first == (operator == 4) {
+            return first;
+        }
+        // The second operand begins where the first one ends.
+        let n = sizes[rest.len() / 2 - 2];
+        rest = &rest[2 * n + 2..];
+    }
+    judge(labels, left, right, sizes, run, len, rest)
+}
+
+// Has the operator two operands?
+fn is_binary(operator: u8) -> bool
+    ensures { λ r. ⌜ r ≡ (eqb operator 3 || eqb operator 4) ⌝ }
+{
+    if operator == 3 {
+        return true;
+    }
+    operator == 4
+}
+
+// The same for a tree of no operand or one.
+fn judge(
+    labels: Labels,
+    left: &[u8; 1088],
+    right: &[u8; 1088],
+    sizes: &[usize; 4096],
+    run: &mut [u8; 614],
+    len: usize,
+    f: &[u8],
+) -> bool
+    requires { ⌜ Grids (now left) (now right) ⌝ }
+    requires { ⌜ Ready (labels .pairs) (now sizes) (now run) len 0 (now f) ⌝ }
+    requires { ⌜ ((getD (now f) 0 0 ≡ 3 → ⊥) × (getD (now f) 0 0 ≡ 4 → ⊥)) ⌝ }
     ensures { λ r. ⌜ r ≡ judged labels (now (left .entry)) (now (right .entry)) (treeOf (now (f .entry))) (jointOf (take len (now (run .entry)))) ⌝ }
     ensures { λ r. ⌜ now (run .exit) ≡ now (run .entry) ⌝ }
 {
@@ -43,33 +85,23 @@ pub(crate) fn holds(
     if operator == 1 {
         return false;
     }
-    if 5 <= operator {
-        return modal(labels, left, right, sizes, run, len, f);
-    }
-    let body = &f[2..];
-    let first = holds(labels, left, right, sizes, run, len, body);
     if operator == 2 {
-        return !first;
+        return !holds(labels, left, right, sizes, run, len, &f[2..]);
     }
-    if first == (operator == 4) {
-        return first;
-    }
-    // The second operand begins where the first one ends.
-    let n = sizes[body.len() / 2 - 1];
-    holds(labels, left, right, sizes, run, len, &body[2 * n..])
+    modal(labels, left, right, sizes, run, len, f)
 }
 
 // The same for a modality: operators 5 to 8.
 fn modal(
     labels: Labels,
-    left: &[u8],
-    right: &[u8],
-    sizes: &[usize],
-    run: &mut [u8],
+    left: &[u8; 1088],
+    right: &[u8; 1088],
+    sizes: &[usize; 4096],
+    run: &mut [u8; 614],
     len: usize,
     f: &[u8],
 ) -> bool
-    requires { ⌜ Tables (labels .pairs) (now left) (now right) ⌝ }
+    requires { ⌜ Grids (now left) (now right) ⌝ }
     requires { ⌜ Ready (labels .pairs) (now sizes) (now run) len 0 (now f) ⌝ }
     requires { ⌜ 5 ≤ getD (now f) 0 0 ⌝ }
     ensures { λ r. ⌜ r ≡ judged labels (now (left .entry)) (now (right .entry)) (treeOf (now (f .entry))) (jointOf (take len (now (run .entry)))) ⌝ }
@@ -109,15 +141,15 @@ fn modal(
 // Does f hold after one of the real steps of this label: the left alone, the right alone, or a handshake?
 fn forward(
     labels: Labels,
-    left: &[u8],
-    right: &[u8],
-    sizes: &[usize],
-    run: &mut [u8],
+    left: &[u8; 1088],
+    right: &[u8; 1088],
+    sizes: &[usize; 4096],
+    run: &mut [u8; 614],
     len: usize,
     label: Label,
     f: &[u8],
 ) -> bool
-    requires { ⌜ Tables (labels .pairs) (now left) (now right) ⌝ }
+    requires { ⌜ Grids (now left) (now right) ⌝ }
     requires { ⌜ Ready (labels .pairs) (now sizes) (now run) len 1 (now f) ⌝ }
     requires { ⌜ Shown (label .0) ⌝ }
     ensures { λ r. ⌜ r ≡ judged labels (now (left .entry)) (now (right .entry)) (fwd (label .0) (treeOf (now (f .entry)))) (jointOf (take len (now (run .entry)))) ⌝ }
@@ -125,7 +157,7 @@ fn forward(
 {
     let p = run[len - 2];
     let q = run[len - 1];
-    let lefts = rows_leaving(left, p);
+    let lefts = rows_from(left, p);
     if try_rows(
         labels,
         left,
@@ -133,7 +165,9 @@ fn forward(
         sizes,
         run,
         len,
-        lefts,
+        left,
+        lefts.at,
+        lefts.count,
         label,
         label,
         Mover::Left,
@@ -142,7 +176,7 @@ fn forward(
     ) {
         return true;
     }
-    let rights = rows_leaving(right, q);
+    let rights = rows_from(right, q);
     if try_rows(
         labels,
         left,
@@ -150,7 +184,9 @@ fn forward(
         sizes,
         run,
         len,
-        rights,
+        right,
+        rights.at,
+        rights.count,
         label,
         label,
         Mover::Right,
@@ -162,28 +198,43 @@ fn forward(
     if !label.is_silent() {
         return false;
     }
-    try_handshakes(labels, left, right, sizes, run, len, lefts, rights, f)
+    try_handshakes(
+        labels,
+        left,
+        right,
+        sizes,
+        run,
+        len,
+        lefts.at,
+        lefts.count,
+        rights.at,
+        rights.count,
+        f,
+    )
 }
 
-// Does f hold after one of the handshakes of these rows of the left with these of the right?
+// Does f hold after one of the handshakes of the left's rows from `at` on with the right's from `others` on?
 fn try_handshakes(
     labels: Labels,
-    left: &[u8],
-    right: &[u8],
-    sizes: &[usize],
-    run: &mut [u8],
+    left: &[u8; 1088],
+    right: &[u8; 1088],
+    sizes: &[usize; 4096],
+    run: &mut [u8; 614],
     len: usize,
-    lefts: &[u8],
-    rights: &[u8],
+    at: usize,
+    rows: usize,
+    others: usize,
+    count: usize,
     f: &[u8],
 ) -> bool
-    requires { ⌜ Tables (labels .pairs) (now left) (now right) ⌝ }
+    requires { ⌜ Grids (now left) (now right) ⌝ }
     requires { ⌜ Ready (labels .pairs) (now sizes) (now run) len 1 (now f) ⌝ }
+    requires { ⌜ Within at rows × Within others count ⌝ }
     ensures { λ r. ⌜ r ≡ shaken (pairing labels) (λ (p q : ℕ). judged labels (now (left .entry)) (now (right .entry)) (treeOf (now (f .entry))) (jointOf (take len (now (run .entry))) ▸ stepOf 0 (p, q)))
-        (threes (now (lefts .entry))) (threes (now (rights .entry))) ⌝ }
+        (pairsIn rows (drop at (now (left .entry)))) (pairsIn count (drop others (now (right .entry)))) ⌝ }
     ensures { λ r. ⌜ now (run .exit) ≡ now (run .entry) ⌝ }
 {
-    if lefts.len() < 3 {
+    if rows == 0 {
         return false;
     }
     if try_partner(
@@ -193,33 +244,48 @@ fn try_handshakes(
         sizes,
         run,
         len,
-        Label(lefts[1]),
-        lefts[2],
-        rights,
+        Label(left[at]),
+        left[at + 1],
+        others,
+        count,
         f,
     ) {
         return true;
     }
-    try_handshakes(labels, left, right, sizes, run, len, &lefts[3..], rights, f)
+    try_handshakes(
+        labels,
+        left,
+        right,
+        sizes,
+        run,
+        len,
+        at + 2,
+        rows - 1,
+        others,
+        count,
+        f,
+    )
 }
 
-// Does f hold after a handshake of a move of the left, by its label and target, with one of these rows of the right?
+// Does f hold after a handshake of a move of the left, by its label and target, with one of the right's rows from `at` on?
 fn try_partner(
     labels: Labels,
-    left: &[u8],
-    right: &[u8],
-    sizes: &[usize],
-    run: &mut [u8],
+    left: &[u8; 1088],
+    right: &[u8; 1088],
+    sizes: &[usize; 4096],
+    run: &mut [u8; 614],
     len: usize,
     label: Label,
     target: u8,
-    rights: &[u8],
+    at: usize,
+    rows: usize,
     f: &[u8],
 ) -> bool
-    requires { ⌜ Tables (labels .pairs) (now left) (now right) ⌝ }
+    requires { ⌜ Grids (now left) (now right) ⌝ }
     requires { ⌜ Ready (labels .pairs) (now sizes) (now run) len 1 (now f) ⌝ }
+    requires { ⌜ Within at rows ⌝ }
     ensures { λ r. ⌜ r ≡ present (λ (b : ℕ). tried (λ (q : ℕ). judged labels (now (left .entry)) (now (right .entry)) (treeOf (now (f .entry))) (jointOf (take len (now (run .entry))) ▸ stepOf 0 (target, q)))
-        b (threes (now (rights .entry)))) (pairing labels .partner (label .0)) ⌝ }
+        b (pairsIn rows (drop at (now (right .entry))))) (pairing labels .partner (label .0)) ⌝ }
     ensures { λ r. ⌜ now (run .exit) ≡ now (run .entry) ⌝ }
 {
     match labels.partner(label) {
@@ -230,7 +296,9 @@ fn try_partner(
             sizes,
             run,
             len,
-            rights,
+            right,
+            at,
+            rows,
             partner,
             Label::SILENT,
             Mover::Right,
@@ -241,98 +309,84 @@ fn try_partner(
     }
 }
 
-// Does f hold after one of these rows of the mover, of those with the wanted label? The step shows its own label; the other
+// Does f hold after one of the mover's rows from `at` on that have the wanted label? The step shows its own label; the other
 // side is in the state `other` after it.
 fn try_rows(
     labels: Labels,
-    left: &[u8],
-    right: &[u8],
-    sizes: &[usize],
-    run: &mut [u8],
+    left: &[u8; 1088],
+    right: &[u8; 1088],
+    sizes: &[usize; 4096],
+    run: &mut [u8; 614],
     len: usize,
-    rows: &[u8],
+    grid: &[u8; 1088],
+    at: usize,
+    rows: usize,
     wanted: Label,
     shown: Label,
     mover: Mover,
     other: u8,
     f: &[u8],
 ) -> bool
-    requires { ⌜ Tables (labels .pairs) (now left) (now right) ⌝ }
+    requires { ⌜ Grids (now left) (now right) ⌝ }
     requires { ⌜ Ready (labels .pairs) (now sizes) (now run) len 1 (now f) ⌝ }
-    requires { ⌜ Shown (shown .0) ⌝ }
+    requires { ⌜ Within at rows × Shown (shown .0) ⌝ }
     ensures { λ r. ⌜ r ≡ tried (λ (to : ℕ). judged labels (now (left .entry)) (now (right .entry)) (treeOf (now (f .entry))) (jointOf (take len (now (run .entry))) ▸ stepOf (shown .0) (pairOf (targetsOf mover to other))))
-        (wanted .0) (threes (now (rows .entry))) ⌝ }
+        (wanted .0) (pairsIn rows (drop at (now (grid .entry)))) ⌝ }
     ensures { λ r. ⌜ now (run .exit) ≡ now (run .entry) ⌝ }
 {
-    if rows.len() < 3 {
-        return false;
-    }
-    if rows[1] != wanted.0 {
-        return try_rows(
+    let mut at = at;
+    let mut rows = rows;
+    let mut before = rows_before(grid, at, rows, wanted);
+    while before < rows {
+        let here = at + 2 * before;
+        let to = targets(mover, grid[here + 1], other);
+        if look(
             labels,
             left,
             right,
             sizes,
             run,
             len,
-            &rows[3..],
-            wanted,
             shown,
-            mover,
-            other,
+            to.left,
+            to.right,
             f,
-        );
+        ) {
+            return true;
+        }
+        at = here + 2;
+        rows = rows - before - 1;
+        before = rows_before(grid, at, rows, wanted);
     }
-    let to = targets(mover, rows[2], other);
-    if look(
-        labels,
-        left,
-        right,
-        sizes,
-        run,
-        len,
-        shown,
-        to.left,
-        to.right,
-        f,
-    ) {
-        return true;
-    }
-    try_rows(
-        labels,
-        left,
-        right,
-        sizes,
-        run,
-        len,
-        &rows[3..],
-        wanted,
-        shown,
-        mover,
-        other,
-        f,
-    )
+    false
 }
 
-// Does f hold on the run with one step more? The buffer is as before when this returns.
+// Does f hold on the run with one step more? The buffer is as before when this returns. True and false need no run.
 fn look(
     labels: Labels,
-    left: &[u8],
-    right: &[u8],
-    sizes: &[usize],
-    run: &mut [u8],
+    left: &[u8; 1088],
+    right: &[u8; 1088],
+    sizes: &[usize; 4096],
+    run: &mut [u8; 614],
     len: usize,
     label: Label,
     p: u8,
     q: u8,
     f: &[u8],
 ) -> bool
-    requires { ⌜ Tables (labels .pairs) (now left) (now right) ⌝ }
+    requires { ⌜ Grids (now left) (now right) ⌝ }
     requires { ⌜ Ready (labels .pairs) (now sizes) (now run) len 1 (now f) ⌝ }
     requires { ⌜ (label .0 ≡ 255 → (p ≡ getD (now run) (len - 2) 0) × (q ≡ getD (now run) (len - 1) 0)) ⌝ }
     ensures { λ r. ⌜ r ≡ judged labels (now (left .entry)) (now (right .entry)) (treeOf (now (f .entry))) (jointOf (take len (now (run .entry))) ▸ stepOf (label .0) (p, q)) ⌝ }
     ensures { λ r. ⌜ now (run .exit) ≡ now (run .entry) ⌝ }
 {
+    let operator = f[0];
+    if operator == 0 {
+        return true;
+    }
+    if operator == 1 {
+        return false;
+    }
     let a = run[len];
     let b = run[len + 1];
     let c = run[len + 2];

@@ -36,9 +36,6 @@ beside-still-requires c κs =
 slice-aggregate-verdict-on : tie.Need-slice-aggregate-verdict-on
 slice-aggregate-verdict-on c = search needs
 
-slice-aggregate-verdict-on-2 : tie.Need-slice-aggregate-verdict-on-2
-slice-aggregate-verdict-on-2 c = search needs
-
 mul-verdict-on : tie.Need-mul-verdict-on
 mul-verdict-on c =
     let call = half-call _ _ _ _ _ (sym (c .before .before .before .before .before .before .before .check-half-call .ensures) ∙ c .before .before .before .before .before .enum-told .given .1) in
@@ -54,13 +51,13 @@ verdict-on-requires c κs =
     let call = half-call _ _ _ _ _ (sym (c .before .before .before .before .before .before .before .check-half-call .ensures) ∙ c .before .before .before .before .before .enum-told .given .1) in
     let room = half-room _ _ _ _ (call .0) _ (call .1) in
     let size = c .before .before .before .beside-still .kept .1 .1 .0 in
-    (half-tables _ _ _ _ (call .0) _ (call .1), ((half-held _ _ _ _ (call .0) _ (call .1) _ _ (c .before .before .before .beside-still .ensures) (omega (arith, room, size)), omega (arith, room, size)), call .0 .legal))
+    (half-tables _ _ _ _ (call .0) _ (call .1), ((half-held _ _ _ _ (call .0) _ (call .1) _ _ (c .before .before .before .beside-still .ensures) (omega (arith, room, size)), omega (arith, room), size), call .0 .legal))
 
 returns-2 : tie.Need-returns-2
 returns-2 c =
-    let check = sym (c .before .before .before .before .before .before .before .before .before .check-half-call .ensures) ∙ c .before .before .before .before .before .before .before .enum-told .given .1 in
+    let check = sym (c .before .before .before .before .before .before .before .before .check-half-call .ensures) ∙ c .before .before .before .before .before .before .enum-told .given .1 in
     let call = half-call _ _ _ _ _ check in
-    half-answer _ _ _ _ (call .0) _ (call .1) _ _ (c .before .before .before .before .before .beside-still .ensures) check _ (c .before .verdict-on .ensures)
+    half-answer _ _ _ _ (call .0) _ (call .1) _ _ (c .before .before .before .before .beside-still .ensures) check _ (c .verdict-on .ensures)
 
 pub half-spec : {M : Type 1} → statement M
 half-spec =
@@ -73,7 +70,6 @@ half-spec =
     slice-aggregate-beside-still
     beside-still-requires
     slice-aggregate-verdict-on
-    slice-aggregate-verdict-on-2
     mul-verdict-on
     add-verdict-on
     verdict-on-requires

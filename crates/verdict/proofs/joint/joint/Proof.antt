@@ -50,22 +50,19 @@ copy-requires c κs =
     let call = joint-call _ _ _ _ _ _ (sym (c .before .before .before .before .check-joint-call .ensures) ∙ c .before .before .enum-told .given .1) in
     omega (arith, joint-room _ _ _ _ _ (call .0) _ (call .1), length-take (3 * c .before .before .before .before .before .before .before .before .before .args .point + 2) (c .before .before .before .before .before .before .before .before .before .args .run .now))
 
-slice-aggregate-verdict-on : tie.Need-slice-aggregate-verdict-on
-slice-aggregate-verdict-on c = search needs
-
 verdict-on-requires : tie.Need-verdict-on-requires
 verdict-on-requires c κs =
     let call = joint-call _ _ _ _ _ _ (sym (c .before .before .before .before .before .before .before .check-joint-call .ensures) ∙ c .before .before .before .before .before .enum-told .given .1) in
     let room = joint-room _ _ _ _ _ (call .0) _ (call .1) in
     let size = c .before .before .copy .kept .1 .0 in
-    (call .0 .tables, ((joint-held _ _ _ _ _ (call .0) _ (call .1) _ (copied _ _ _ _ (room .0) (c .before .before .copy .ensures .1)) (omega (arith, room, size)), omega (arith, room, size)), call .0 .legal))
+    (call .0 .tables, ((joint-held _ _ _ _ _ (call .0) _ (call .1) _ (copied _ _ _ _ (room .0) (c .before .before .copy .ensures .1)) (omega (arith, room, size)), omega (arith, room), size), call .0 .legal))
 
 returns-2 : tie.Need-returns-2
 returns-2 c =
-    let check = sym (c .before .before .before .before .before .before .before .before .before .check-joint-call .ensures) ∙ c .before .before .before .before .before .before .before .enum-told .given .1 in
+    let check = sym (c .before .before .before .before .before .before .before .before .check-joint-call .ensures) ∙ c .before .before .before .before .before .before .enum-told .given .1 in
     let call = joint-call _ _ _ _ _ _ check in
     let room = joint-room _ _ _ _ _ (call .0) _ (call .1) in
-    joint-answer _ _ _ _ _ (call .0) _ (call .1) _ (copied _ _ _ _ (room .0) (c .before .before .before .before .copy .ensures .1)) check _ (c .before .verdict-on .ensures)
+    joint-answer _ _ _ _ _ (call .0) _ (call .1) _ (copied _ _ _ _ (room .0) (c .before .before .before .copy .ensures .1)) check _ (c .verdict-on .ensures)
 
 pub joint-spec : {M : Type 1} → statement M
 joint-spec =
@@ -80,6 +77,5 @@ joint-spec =
     slice-aggregate-copy
     slice-aggregate-copy-2
     copy-requires
-    slice-aggregate-verdict-on
     verdict-on-requires
     returns-2)

@@ -1,0 +1,116 @@
+-- One row a turn; the measure is the rows that are left.
+use Rattle.verdict.proofs.grid.rows_by_state.Statement.{statement}
+use Rattle.verdict.proofs.grid.rows_by_state.Tie as tie
+use borrow.Author.Needs.{needs}
+use native.Mathlib.Omega.{arith}
+use Prim.Native.Nat.{_-_}
+use Rattle.verdict.proofs.Grids.{Filling, filling-start, filling-grid, filling-end, filling-fits, filling-on}
+
+abbrev Inv-loop : tie.InvT-loop
+Inv-loop table grid₀ rows i₀ grid i = Filling table grid i
+
+abbrev μ-loop : tie.MeasureT-loop
+μ-loop table grid₀ rows i₀ grid i = rows - i
+
+loop-holds : tie.Need-loop-holds Inv-loop μ-loop
+loop-holds c = filling-start _ _ (c .pre .1)
+
+mul-at : tie.Need-mul-at Inv-loop μ-loop
+mul-at c = search needs
+
+add-at : tie.Need-add-at Inv-loop μ-loop
+add-at c = search needs
+
+shared-slice-read-state : tie.Need-shared-slice-read-state Inv-loop μ-loop
+shared-slice-read-state c = omega (arith, c .before .before .before .pre .0 .fits .0)
+
+cast-state : tie.Need-cast-state Inv-loop μ-loop
+cast-state c = omega (arith, filling-fits (c .before .before .before .pre .0) _ _ (c .before .before .loop .inv) (c .before .loop-test .taken))
+
+mul-state : tie.Need-mul-state Inv-loop μ-loop
+mul-state c = omega (arith, filling-fits (c .before .before .before .pre .0) _ _ (c .before .before .loop .inv) (c .before .loop-test .taken))
+
+element-copy-out-n : tie.Need-element-copy-out-n Inv-loop μ-loop
+element-copy-out-n c = omega (arith, filling-fits (c .before .before .before .pre .0) _ _ (c .before .before .loop .inv) (c .before .loop-test .taken))
+
+cast-end : tie.Need-cast-end Inv-loop μ-loop
+cast-end c = omega (arith, filling-fits (c .before .before .before .before .pre .0) _ _ (c .before .before .before .loop .inv) (c .before .before .loop-test .taken))
+
+mul-end : tie.Need-mul-end Inv-loop μ-loop
+mul-end c = omega (arith, filling-fits (c .before .before .before .before .pre .0) _ _ (c .before .before .before .loop .inv) (c .before .before .loop-test .taken))
+
+add-end : tie.Need-add-end Inv-loop μ-loop
+add-end c = omega (arith, filling-fits (c .before .before .before .before .pre .0) _ _ (c .before .before .before .loop .inv) (c .before .before .loop-test .taken))
+
+add-grid : tie.Need-add-grid Inv-loop μ-loop
+add-grid c = search needs
+
+shared-slice-read-grid : tie.Need-shared-slice-read-grid Inv-loop μ-loop
+shared-slice-read-grid c = omega (arith, c .before .before .before .before .before .pre .0 .fits .0)
+
+add-grid-2 : tie.Need-add-grid-2 Inv-loop μ-loop
+add-grid-2 c = omega (arith, filling-fits (c .before .before .before .before .before .pre .0) _ _ (c .before .before .before .before .loop .inv) (c .before .before .before .loop-test .taken))
+
+element-write-grid : tie.Need-element-write-grid Inv-loop μ-loop
+element-write-grid c = omega (arith, filling-fits (c .before .before .before .before .before .pre .0) _ _ (c .before .before .before .before .loop .inv) (c .before .before .before .loop-test .taken))
+
+add-grid-3 : tie.Need-add-grid-3 Inv-loop μ-loop
+add-grid-3 c = search needs
+
+shared-slice-read-grid-2 : tie.Need-shared-slice-read-grid-2 Inv-loop μ-loop
+shared-slice-read-grid-2 c = omega (arith, c .before .before .before .before .before .before .pre .0 .fits .0)
+
+add-grid-4 : tie.Need-add-grid-4 Inv-loop μ-loop
+add-grid-4 c = omega (arith, filling-fits (c .before .before .before .before .before .before .pre .0) _ _ (c .before .before .before .before .before .loop .inv) (c .before .before .before .before .loop-test .taken))
+
+element-write-grid-2 : tie.Need-element-write-grid-2 Inv-loop μ-loop
+element-write-grid-2 c = omega (arith, filling-fits (c .before .before .before .before .before .before .pre .0) _ _ (c .before .before .before .before .before .loop .inv) (c .before .before .before .before .loop-test .taken))
+
+add-grid-5 : tie.Need-add-grid-5 Inv-loop μ-loop
+add-grid-5 c = omega (arith, filling-fits (c .before .before .before .before .before .before .pre .0) _ _ (c .before .before .before .before .before .loop .inv) (c .before .before .before .before .loop-test .taken))
+
+element-write-grid-3 : tie.Need-element-write-grid-3 Inv-loop μ-loop
+element-write-grid-3 c = omega (arith, filling-fits (c .before .before .before .before .before .before .pre .0) _ _ (c .before .before .before .before .before .loop .inv) (c .before .before .before .before .loop-test .taken))
+
+add-i : tie.Need-add-i Inv-loop μ-loop
+add-i c = search needs
+
+loop-less : tie.Need-loop-less Inv-loop μ-loop
+loop-less c = search needs
+
+loop-again : tie.Need-loop-again Inv-loop μ-loop
+loop-again c = filling-on (c .before .before .before .before .before .before .pre .0) _ _ (c .before .before .before .before .before .loop .inv) (c .before .before .before .before .loop-test .taken)
+
+returns : tie.Need-returns Inv-loop μ-loop
+returns c = (filling-grid (c .before .before .pre .0) _ _ (c .before .loop .inv), filling-end (c .before .before .pre .0) _ _ (c .before .loop .inv) (c .loop-test .left))
+
+pub rows-by-state-spec : {M : Type 1} → statement M
+rows-by-state-spec =
+    tie.close
+    (tie.spec
+    Inv-loop
+    μ-loop
+    loop-holds
+    mul-at
+    add-at
+    shared-slice-read-state
+    cast-state
+    mul-state
+    element-copy-out-n
+    cast-end
+    mul-end
+    add-end
+    add-grid
+    shared-slice-read-grid
+    add-grid-2
+    element-write-grid
+    add-grid-3
+    shared-slice-read-grid-2
+    add-grid-4
+    element-write-grid-2
+    add-grid-5
+    element-write-grid-3
+    add-i
+    loop-less
+    loop-again
+    returns)
