@@ -20,6 +20,7 @@ use Rattle.labels.specs.declared.label.Label.{Label}
 use Rattle.labels.specs.declared.label.Labels.{Labels}
 use Rattle.labels.specs.declared.label.Partner.the-variants as partner
 use Rattle.halves.specs.Runs.{stepOf}
+use Rattle.verdict.proofs.Grids.{pairs-length}
 use Rattle.verdict.specs.Working.{Shown, Within, pairsIn, gridOf, skippedIn, judged, tried, shaken}
 
 -- the moves, from one with the wanted label to the next
@@ -57,11 +58,6 @@ module _ (b : ℕ) where
         go false h r = r (omega arith)
 
 -- pairs of bytes
-pub length-pairs : (n : ℕ) (bs : List ℕ) → length (pairsIn n bs) ≡ n
-unfolding pairsIn
-length-pairs zero bs = refl
-length-pairs (suc n) bs = ap suc (length-pairs n (drop 2 bs))
-
 two-more : (i : ℕ) → 2 * suc i ≡ 2 + 2 * i
 two-more i = omega arith
 
@@ -90,13 +86,13 @@ pairs-at (suc i) (suc n) bs h =
 -- the rows of a grid from `at` on, of which `before` stand before the first with the wanted label
 module _ (F : ℕ → Bool) (b : ℕ) (g : List ℕ) (at rows before : ℕ) (e : before ≡ skippedIn b (pairsIn rows (drop at g))) where
   few : skippedIn b (pairsIn rows (drop at g)) ≤ rows
-  few = omega (arith, skipped-few b (pairsIn rows (drop at g)), length-pairs rows (drop at g))
+  few = omega (arith, skipped-few b (pairsIn rows (drop at g)), pairs-length rows (drop at g))
 
   pub before-few : before ≤ rows
   before-few = omega (arith, e, few)
 
   pub rows-none : before ≡ rows → false ≡ tried F b (pairsIn rows (drop at g))
-  rows-none h = tried-none b F (pairsIn rows (drop at g)) (sym e ∙ h ∙ sym (length-pairs rows (drop at g)))
+  rows-none h = tried-none b F (pairsIn rows (drop at g)) (sym e ∙ h ∙ sym (pairs-length rows (drop at g)))
 
   module _ (n : before ≡ rows → ⊥) where
     pub before-less : before < rows
@@ -116,7 +112,7 @@ module _ (F : ℕ → Bool) (b : ℕ) (g : List ℕ) (at rows before : ℕ) (e :
         let k : rows - suc before ≡ rows - before - 1 = omega arith in
         let here = pairs-at before rows (drop at g) less in
         let behind = pairs-drop (suc before) rows (drop at g) (omega arith) in
-        let lt : skippedIn b (pairsIn rows (drop at g)) < length (pairsIn rows (drop at g)) = omega (arith, e, length-pairs rows (drop at g)) in
+        let lt : skippedIn b (pairsIn rows (drop at g)) < length (pairsIn rows (drop at g)) = omega (arith, e, pairs-length rows (drop at g)) in
         tried-next b F (pairsIn rows (drop at g)) lt
         ∙ ap (λ (x : ℕ). F (getD (pairsIn rows (drop at g)) x (0, 0) .1) || tried F b (drop (suc x) (pairsIn rows (drop at g)))) (sym e)
         ∙ ap₂ (λ x y. F x || tried F b y)
@@ -237,28 +233,18 @@ module _ (labels : Labels) (l r : List ℕ) (φ : Formula) (j : Run (ℕ × ℕ)
       ∙ beside-composed (pairing labels) (gridOf l) (gridOf r) (λ m. same (m .0) a && judged labels l r φ (j ▸ move (m .0) (m .1))) p q
       ∙ ap₂ (λ x y. x || y) (alone-tried (λ x. (x, q)) (gridOf l p)) (ap₂ (λ x y. x || y) (alone-tried (λ y. (p, y)) (gridOf r q)) handshakes-shaken)
 
-  -- the same over the moves that were found
-  module _ (lefts : List (ℕ × ℕ)) (el : lefts ≡ gridOf l p) (x : Bool) (px : x ≡ tried (λ s. after a s q) a lefts) where
-    by-left : x ≡ tried (λ s. after a s q) a (gridOf l p)
-    by-left = px ∙ ap (tried (λ s. after a s q) a) el
-
+  -- the cases of the search
+  module _ (x : Bool) (px : x ≡ tried (λ s. after a s q) a (gridOf l p)) where
     pub forward-left : x ≡ true → true ≡ judged labels l r (fwd a φ) j
-    forward-left e = rw (forward-tried, ← by-left, e)
+    forward-left e = rw (forward-tried, ← px, e)
 
-    module _ (rights : List (ℕ × ℕ)) (er : rights ≡ gridOf r q) (y : Bool) (py : y ≡ tried (λ s. after a p s) a rights) (ex : x ≡ false) where
-      by-right : y ≡ tried (λ s. after a p s) a (gridOf r q)
-      by-right = py ∙ ap (tried (λ s. after a p s) a) er
-
+    module _ (y : Bool) (py : y ≡ tried (λ s. after a p s) a (gridOf r q)) (ex : x ≡ false) where
       pub forward-right : y ≡ true → true ≡ judged labels l r (fwd a φ) j
-      forward-right e = rw (forward-tried, ← by-left, ex, ← by-right, e)
+      forward-right e = rw (forward-tried, ← px, ex, ← py, e)
 
       -- a label other than 0 has no handshakes
       pub forward-loud : y ≡ false → (a ≡ 0 → ⊥) → false ≡ judged labels l r (fwd a φ) j
-      forward-loud e n = rw (forward-tried, ← by-left, ex, ← by-right, e, ne-eqb 0 a (λ z. n (sym z)))
+      forward-loud e n = rw (forward-tried, ← px, ex, ← py, e, ne-eqb 0 a (λ z. n (sym z)))
 
-      pub forward-shaken : y ≡ false → a ≡ 0 → (v : Bool) → v ≡ shaken (pairing labels) (after 0) lefts rights → v ≡ judged labels l r (fwd a φ) j
-      forward-shaken e z v pv = rw (forward-tried, ← by-left, ex, ← by-right, e, eq-eqb 0 a (sym z)) (pv ∙ ap₂ (shaken (pairing labels) (after 0)) el er)
-
-pub positive : (n : ℕ) → (n ≡ 0 → ⊥) → 1 ≤ n
-positive zero h = absurd (h refl)
-positive (suc n) h = omega arith
+      pub forward-shaken : y ≡ false → a ≡ 0 → (v : Bool) → v ≡ shaken (pairing labels) (after 0) (gridOf l p) (gridOf r q) → v ≡ judged labels l r (fwd a φ) j
+      forward-shaken e z v pv = rw (forward-tried, ← px, ex, ← py, e, eq-eqb 0 a (sym z)) pv

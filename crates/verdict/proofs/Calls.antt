@@ -94,13 +94,13 @@ unrefused false x e = refl
 module _ (k : ℕ) (l r s f : List ℕ) where
   -- the checks of the parts
   abbrev pub jointParts : Check
-  jointParts = thenOf (thenOf (checkPairs k) (checkTablesAndJoint k l r s)) (checkFormula k 4096 f)
+  jointParts = thenOf (checkPairs k) (thenOf (checkTablesAndJoint k l r s) (checkFormula k 4096 f))
 
   joint-regroup : (p : ℕ) → checkJointCall k l r s f p ≡ thenOf jointParts (refusedIf (ltb (steps (jointOf s)) p) PointBeyond)
   unfolding checkJointCall checkTablesAndJoint firstOf nodeLimit
   joint-regroup p = go (checkPairs k) (checkTable k l) (checkTable k r) (checkJoint k l r s) (checkFormula k 4096 f) (refusedIf (ltb (steps (jointOf s)) p) PointBeyond)
     where
-      go : (c l r j f b : Check) → thenOf c (thenOf l (thenOf r (thenOf j (thenOf f (thenOf b Sound))))) ≡ thenOf (thenOf (thenOf c (thenOf l (thenOf r (thenOf j Sound)))) f) b
+      go : (c l r j f b : Check) → thenOf c (thenOf l (thenOf r (thenOf j (thenOf f (thenOf b Sound))))) ≡ thenOf (thenOf c (thenOf (thenOf l (thenOf r (thenOf j Sound))) f)) b
       go (Refused x) l r j f b = refl
       go Sound (Refused x) r j f b = refl
       go Sound Sound (Refused x) j f b = refl
@@ -118,8 +118,8 @@ module _ (k : ℕ) (l r s f : List ℕ) where
   pub joint-parts : jointParts ≡ Sound → JointCall
   unfolding checkTablesAndJoint checkJoint firstOf nodeLimit
   joint-parts e =
-      let (a, formula) = both-sound (thenOf (checkPairs k) (checkTablesAndJoint k l r s)) (checkFormula k 4096 f) e in
-      let (pairs, b) = both-sound (checkPairs k) (checkTablesAndJoint k l r s) a in
+      let (pairs, a) = both-sound (checkPairs k) (thenOf (checkTablesAndJoint k l r s) (checkFormula k 4096 f)) e in
+      let (b, formula) = both-sound (checkTablesAndJoint k l r s) (checkFormula k 4096 f) a in
       let (left, c) = both-sound (checkTable k l) _ b in
       let (right, d) = both-sound (checkTable k r) _ c in
       let (run, _) = both-sound (checkJoint k l r s) _ d in
@@ -188,6 +188,13 @@ module _ (k : ℕ) (l r s f : List ℕ) where
 pub copied : (s xs ys : List ℕ) (n : ℕ) → n ≤ length s → xs ≡ take (length (take n s)) (take n s) ++ ys → take n xs ≡ take n s
 copied s xs ys n h e = rw (e, take-length (take n s)) (take-at (take n s) ys n (length-take-le n s h))
 
+-- the pairs judged first, then the other parts
+pub pairs-refused : (c d : Check) (x : Refusal) → c ≡ Refused x → thenOf c d ≡ Refused x
+pairs-refused c d x e = rw e
+
+pub pairs-sound : (c d e : Check) → c ≡ Sound → d ≡ e → thenOf c d ≡ e
+pairs-sound c d e p q = rw p q
+
 pub answer-refused : (c : Check) (x : Refusal) (b : Bool) → c ≡ Refused x → verdict.Refused x ≡ answered c b
 unfolding answered
 answer-refused c x b e = rw e
@@ -208,13 +215,13 @@ nothing-leaves = refl
 module _ (k : ℕ) (t s f : List ℕ) where
   -- the checks of the parts
   abbrev pub halfParts : Check
-  halfParts = thenOf (thenOf (checkPairs k) (checkTable k t)) (checkFormula k 4096 f)
+  halfParts = thenOf (checkPairs k) (thenOf (checkTable k t) (checkFormula k 4096 f))
 
   half-regroup : (p : ℕ) → checkHalfCall k t s f p ≡ thenOf halfParts (thenOf (refusedIf (beyond s p) PointBeyond) (checkHalf t s))
   unfolding checkHalfCall firstOf nodeLimit
   half-regroup p = go (checkPairs k) (checkTable k t) (checkFormula k 4096 f) (refusedIf (beyond s p) PointBeyond) (checkHalf t s)
     where
-      go : (c t f b h : Check) → thenOf c (thenOf t (thenOf f (thenOf b (thenOf h Sound)))) ≡ thenOf (thenOf (thenOf c t) f) (thenOf b h)
+      go : (c t f b h : Check) → thenOf c (thenOf t (thenOf f (thenOf b (thenOf h Sound)))) ≡ thenOf (thenOf c (thenOf t f)) (thenOf b h)
       go (Refused x) t f b h = refl
       go Sound (Refused x) f b h = refl
       go Sound Sound (Refused x) b h = refl
@@ -229,8 +236,8 @@ module _ (k : ℕ) (t s f : List ℕ) where
 
   half-parts : halfParts ≡ Sound → (checkTable k t ≡ Sound) × (checkFormula k 4096 f ≡ Sound)
   half-parts e =
-      let (a, formula) = both-sound (thenOf (checkPairs k) (checkTable k t)) (checkFormula k 4096 f) e in
-      (both-sound (checkPairs k) (checkTable k t) a .1, formula)
+      let (pairs, a) = both-sound (checkPairs k) (thenOf (checkTable k t) (checkFormula k 4096 f)) e in
+      both-sound (checkTable k t) (checkFormula k 4096 f) a
 
   module _ (call : HalfCall) (p : ℕ) (within : beyond s p ≡ false) where
     half-accepted : AcceptedHalf t s

@@ -20,7 +20,7 @@ use Rattle.tables.proofs.SoundTables.{SoundTable, moves-few}
 use Rattle.verdict.specs.Working.{pairsIn, gridOf, Grid}
 
 -- as many pairs are read as are asked for
-pairs-length : (n : ℕ) (bs : List ℕ) → length (pairsIn n bs) ≡ n
+pub pairs-length : (n : ℕ) (bs : List ℕ) → length (pairsIn n bs) ≡ n
 unfolding pairsIn
 pairs-length zero bs = refl
 pairs-length (suc n) bs = ap suc (pairs-length n (drop 2 bs))

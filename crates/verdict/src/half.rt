@@ -35,9 +35,11 @@ pub fn half(k: u8, table: &[u8], half: &[u8], formula: &[u8], point: usize) -> V
 fn check_half_call(labels: Labels, table: &[u8], half: &[u8], formula: &[u8], point: usize) -> Check
     ensures { λ r. ⌜ r ≡ checkHalfCall (labels .pairs) (now (table .entry)) (now (half .entry)) (now (formula .entry)) point ⌝ }
 {
-    let parts = check_pairs(labels.pairs)
-        .then(check_table(labels, table))
-        .then(check_formula(labels, 4096, formula));
+    match check_pairs(labels.pairs) {
+        Check::Sound => {}
+        Check::Refused(refusal) => return Check::Refused(refusal),
+    }
+    let parts = check_table(labels, table).then(check_formula(labels, 4096, formula));
     match parts {
         Check::Sound => {}
         Check::Refused(refusal) => return Check::Refused(refusal),

@@ -36,9 +36,11 @@ fn check_joint_call(
 ) -> Check
     ensures { λ r. ⌜ r ≡ checkJointCall (labels .pairs) (now (left .entry)) (now (right .entry)) (now (run .entry)) (now (formula .entry)) point ⌝ }
 {
-    let parts = check_pairs(labels.pairs)
-        .then(check_joint(labels, left, right, run))
-        .then(check_formula(labels, 4096, formula));
+    match check_pairs(labels.pairs) {
+        Check::Sound => {}
+        Check::Refused(refusal) => return Check::Refused(refusal),
+    }
+    let parts = check_joint(labels, left, right, run).then(check_formula(labels, 4096, formula));
     match parts {
         Check::Sound => {}
         Check::Refused(refusal) => return Check::Refused(refusal),

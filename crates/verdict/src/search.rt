@@ -21,7 +21,7 @@ ghost use Rattle.labels.specs.Labels.{pairing};
 ghost use Rattle.halves.specs.Runs.{stepOf};
 ghost use Rattle.machines.specs.Joints.{jointOf};
 ghost use Rattle.formulas.specs.Working.{treeOf};
-ghost use Rattle.verdict.specs.Working.{Grids, Ready, Shown, Within, judged, pairsIn, tried, shaken, pairOf, targetsOf};
+ghost use Rattle.verdict.specs.Working.{Grids, Ready, Shown, Within, judged, pairsIn, gridOf, tried, shaken, pairOf, targetsOf};
 
 // Does the first tree of f hold on the run in the first len bytes? "And" and "or" stop as soon as they can.
 pub(crate) fn holds(
@@ -155,49 +155,112 @@ fn forward(
     ensures { λ r. ⌜ r ≡ judged labels (now (left .entry)) (now (right .entry)) (fwd (label .0) (treeOf (now (f .entry)))) (jointOf (take len (now (run .entry)))) ⌝ }
     ensures { λ r. ⌜ now (run .exit) ≡ now (run .entry) ⌝ }
 {
-    let p = run[len - 2];
-    let q = run[len - 1];
-    let lefts = rows_from(left, p);
-    if try_rows(
-        labels,
-        left,
-        right,
-        sizes,
-        run,
-        len,
-        left,
-        lefts.at,
-        lefts.count,
-        label,
-        label,
-        Mover::Left,
-        q,
-        f,
-    ) {
+    if try_left(labels, left, right, sizes, run, len, label, f) {
         return true;
     }
-    let rights = rows_from(right, q);
-    if try_rows(
-        labels,
-        left,
-        right,
-        sizes,
-        run,
-        len,
-        right,
-        rights.at,
-        rights.count,
-        label,
-        label,
-        Mover::Right,
-        p,
-        f,
-    ) {
+    if try_right(labels, left, right, sizes, run, len, label, f) {
         return true;
     }
     if !label.is_silent() {
         return false;
     }
+    try_both(labels, left, right, sizes, run, len, f)
+}
+
+// Does f hold after one of the left's steps alone of this label?
+fn try_left(
+    labels: Labels,
+    left: &[u8; 1088],
+    right: &[u8; 1088],
+    sizes: &[usize; 4096],
+    run: &mut [u8; 614],
+    len: usize,
+    label: Label,
+    f: &[u8],
+) -> bool
+    requires { ⌜ Grids (now left) (now right) ⌝ }
+    requires { ⌜ Ready (labels .pairs) (now sizes) (now run) len 1 (now f) ⌝ }
+    requires { ⌜ Shown (label .0) ⌝ }
+    ensures { λ r. ⌜ r ≡ tried (λ (p : ℕ). judged labels (now (left .entry)) (now (right .entry)) (treeOf (now (f .entry))) (jointOf (take len (now (run .entry))) ▸ stepOf (label .0) (p, getD (now (run .entry)) (len - 1) 0)))
+        (label .0) (gridOf (now (left .entry)) (getD (now (run .entry)) (len - 2) 0)) ⌝ }
+    ensures { λ r. ⌜ now (run .exit) ≡ now (run .entry) ⌝ }
+{
+    let q = run[len - 1];
+    let rows = rows_from(left, run[len - 2]);
+    try_rows(
+        labels,
+        left,
+        right,
+        sizes,
+        run,
+        len,
+        left,
+        rows.at,
+        rows.count,
+        label,
+        label,
+        Mover::Left,
+        q,
+        f,
+    )
+}
+
+// Does f hold after one of the right's steps alone of this label?
+fn try_right(
+    labels: Labels,
+    left: &[u8; 1088],
+    right: &[u8; 1088],
+    sizes: &[usize; 4096],
+    run: &mut [u8; 614],
+    len: usize,
+    label: Label,
+    f: &[u8],
+) -> bool
+    requires { ⌜ Grids (now left) (now right) ⌝ }
+    requires { ⌜ Ready (labels .pairs) (now sizes) (now run) len 1 (now f) ⌝ }
+    requires { ⌜ Shown (label .0) ⌝ }
+    ensures { λ r. ⌜ r ≡ tried (λ (q : ℕ). judged labels (now (left .entry)) (now (right .entry)) (treeOf (now (f .entry))) (jointOf (take len (now (run .entry))) ▸ stepOf (label .0) (getD (now (run .entry)) (len - 2) 0, q)))
+        (label .0) (gridOf (now (right .entry)) (getD (now (run .entry)) (len - 1) 0)) ⌝ }
+    ensures { λ r. ⌜ now (run .exit) ≡ now (run .entry) ⌝ }
+{
+    let p = run[len - 2];
+    let rows = rows_from(right, run[len - 1]);
+    try_rows(
+        labels,
+        left,
+        right,
+        sizes,
+        run,
+        len,
+        right,
+        rows.at,
+        rows.count,
+        label,
+        label,
+        Mover::Right,
+        p,
+        f,
+    )
+}
+
+// Does f hold after one of the handshakes from the last states?
+fn try_both(
+    labels: Labels,
+    left: &[u8; 1088],
+    right: &[u8; 1088],
+    sizes: &[usize; 4096],
+    run: &mut [u8; 614],
+    len: usize,
+    f: &[u8],
+) -> bool
+    requires { ⌜ Grids (now left) (now right) ⌝ }
+    requires { ⌜ Ready (labels .pairs) (now sizes) (now run) len 1 (now f) ⌝ }
+    ensures { λ r. ⌜ r ≡ shaken (pairing labels) (λ (p q : ℕ). judged labels (now (left .entry)) (now (right .entry)) (treeOf (now (f .entry))) (jointOf (take len (now (run .entry))) ▸ stepOf 0 (p, q)))
+        (gridOf (now (left .entry)) (getD (now (run .entry)) (len - 2) 0)) (gridOf (now (right .entry)) (getD (now (run .entry)) (len - 1) 0)) ⌝ }
+    ensures { λ r. ⌜ now (run .exit) ≡ now (run .entry) ⌝ }
+{
+    let lefts = rows_from(left, run[len - 2]);
+    let rights = rows_from(right, run[len - 1]);
     try_handshakes(
         labels,
         left,

@@ -1,4 +1,4 @@
--- The parts' checks, then the point, then the half.
+-- The pairs, the other parts, then the point, then the half.
 use borrow.Author.Needs.{needs}
 use Rattle.verdict.proofs.half.check_half_call.Statement.{statement}
 use Rattle.verdict.proofs.half.check_half_call.Tie as tie
@@ -10,63 +10,71 @@ use Rattle.labels.proofs.refusal.Check.then.Reads as then-reads
 use Rattle.tables.proofs.check.check_table.Reads as check-table-reads
 use Rattle.verdict.proofs.half.is_beyond.Reads as is-beyond-reads
 use mathlib.Core.Path.{sym, _∙_}
-use Rattle.verdict.proofs.Calls.{half-refused, half-beyond, half-judged}
+use Rattle.verdict.proofs.Calls.{half-refused, half-beyond, half-judged, pairs-refused, pairs-sound}
 
 check-pairs-requires : tie.Need-check-pairs-requires
 check-pairs-requires c κs = search needs
 
+enum-told : tie.Need-enum-told
+enum-told c = search needs
+
+enum-known-refusal : tie.Need-enum-known-refusal
+enum-known-refusal c = search needs
+
+returns : tie.Need-returns
+returns c = half-refused _ _ _ _ _ _ (pairs-refused _ _ _ (sym (c .before .before .before .check-pairs .ensures) ∙ c .before .refusal .given .1))
+
 check-table-requires : tie.Need-check-table-requires
 check-table-requires c κs = search needs
-
-then-requires : tie.Need-then-requires
-then-requires c κs = search needs
 
 check-formula-requires : tie.Need-check-formula-requires
 check-formula-requires c κs = search needs
 
-then-requires-2 : tie.Need-then-requires-2
-then-requires-2 c κs = search needs
+then-requires : tie.Need-then-requires
+then-requires c κs = search needs
 
-enum-told : tie.Need-enum-told
-enum-told c = search needs
+enum-told-2 : tie.Need-enum-told-2
+enum-told-2 c = search needs
 
 enum-known-parts : tie.Need-enum-known-parts
 enum-known-parts c = search needs
 
-returns : tie.Need-returns
-returns c =
-    let parts = rw (c .before .before .before .before .before .then .ensures, c .before .before .before .before .before .before .before .check-pairs .ensures, c .before .before .before .before .before .before .check-table .ensures, c .before .before .before .before .check-formula .ensures) at (c .before .before .before .then2 .ensures) in
-    half-refused _ _ _ _ _ _ (sym parts ∙ c .before .parts .given .1)
+returns-2 : tie.Need-returns-2
+returns-2 c =
+    let parts = rw (c .before .before .before .before .before .check-table .ensures, c .before .before .before .before .check-formula .ensures) at (c .before .before .before .then .ensures) in
+    half-refused _ _ _ _ _ _ (pairs-sound _ _ _ (sym (c .before .before .before .before .before .before .before .before .check-pairs .ensures) ∙ c .before .before .before .before .before .before .enum-told .given .1) (sym parts ∙ c .before .parts .given .1))
 
 is-beyond-requires : tie.Need-is-beyond-requires
 is-beyond-requires c κs = search needs
 
-returns-2 : tie.Need-returns-2
-returns-2 c =
-    let parts = rw (c .before .before .before .before .before .before .then .ensures, c .before .before .before .before .before .before .before .before .check-pairs .ensures, c .before .before .before .before .before .before .before .check-table .ensures, c .before .before .before .before .before .check-formula .ensures) at (c .before .before .before .before .then2 .ensures) in
-    half-beyond _ _ _ _ _ (sym parts ∙ c .before .before .enum-told .given .1) (sym (c .before .is-beyond .ensures) ∙ c .if1 .taken)
+returns-3 : tie.Need-returns-3
+returns-3 c =
+    let parts = rw (c .before .before .before .before .before .before .check-table .ensures, c .before .before .before .before .before .check-formula .ensures) at (c .before .before .before .before .then .ensures) in
+    half-beyond _ _ _ _ _ (pairs-sound _ _ _ (sym (c .before .before .before .before .before .before .before .before .before .check-pairs .ensures) ∙ c .before .before .before .before .before .before .before .enum-told .given .1) (sym parts ∙ c .before .before .enum-told2 .given .1)) (sym (c .before .is-beyond .ensures) ∙ c .if1 .taken)
 
 check-half-requires : tie.Need-check-half-requires
 check-half-requires c κs = search needs
 
-returns-3 : tie.Need-returns-3
-returns-3 c =
-    let parts = rw (c .before .before .before .before .before .before .before .then .ensures, c .before .before .before .before .before .before .before .before .before .check-pairs .ensures, c .before .before .before .before .before .before .before .before .check-table .ensures, c .before .before .before .before .before .before .check-formula .ensures) at (c .before .before .before .before .before .then2 .ensures) in
-    half-judged _ _ _ _ _ (sym parts ∙ c .before .before .before .enum-told .given .1) (sym (c .before .before .is-beyond .ensures) ∙ c .before .if1 .left) _ (c .check-half .ensures)
+returns-4 : tie.Need-returns-4
+returns-4 c =
+    let parts = rw (c .before .before .before .before .before .before .before .check-table .ensures, c .before .before .before .before .before .before .check-formula .ensures) at (c .before .before .before .before .before .then .ensures) in
+    half-judged _ _ _ _ _ (pairs-sound _ _ _ (sym (c .before .before .before .before .before .before .before .before .before .before .check-pairs .ensures) ∙ c .before .before .before .before .before .before .before .before .enum-told .given .1) (sym parts ∙ c .before .before .before .enum-told2 .given .1)) (sym (c .before .before .is-beyond .ensures) ∙ c .before .if1 .left) _ (c .check-half .ensures)
 
 pub check-half-call-spec : {M : Type 1} → statement M
 check-half-call-spec =
     tie.close
     (tie.spec
     check-pairs-requires
-    check-table-requires
-    then-requires
-    check-formula-requires
-    then-requires-2
     enum-told
-    enum-known-parts
+    enum-known-refusal
     returns
-    is-beyond-requires
+    check-table-requires
+    check-formula-requires
+    then-requires
+    enum-told-2
+    enum-known-parts
     returns-2
+    is-beyond-requires
+    returns-3
     check-half-requires
-    returns-3)
+    returns-4)

@@ -1,4 +1,4 @@
--- The parts' checks, then the point.
+-- The pairs, the other parts, then the point.
 use borrow.Author.Needs.{needs}
 use Rattle.verdict.proofs.joint.check_joint_call.Statement.{statement}
 use Rattle.verdict.proofs.joint.check_joint_call.Tie as tie
@@ -8,55 +8,63 @@ use Rattle.labels.proofs.label.check_pairs.Reads as check-pairs-reads
 use Rattle.labels.proofs.refusal.Check.then.Reads as then-reads
 use Rattle.machines.proofs.joint.check_joint.Reads as check-joint-reads
 use mathlib.Core.Path.{sym, _∙_}
-use Rattle.verdict.proofs.Calls.{joint-refused, joint-beyond, joint-sound}
+use Rattle.verdict.proofs.Calls.{joint-refused, joint-beyond, joint-sound, pairs-refused, pairs-sound}
 
 check-pairs-requires : tie.Need-check-pairs-requires
 check-pairs-requires c κs = search needs
 
+enum-told : tie.Need-enum-told
+enum-told c = search needs
+
+enum-known-refusal : tie.Need-enum-known-refusal
+enum-known-refusal c = search needs
+
+returns : tie.Need-returns
+returns c = joint-refused _ _ _ _ _ _ _ (pairs-refused _ _ _ (sym (c .before .before .before .check-pairs .ensures) ∙ c .before .refusal .given .1))
+
 check-joint-requires : tie.Need-check-joint-requires
 check-joint-requires c κs = search needs
-
-then-requires : tie.Need-then-requires
-then-requires c κs = search needs
 
 check-formula-requires : tie.Need-check-formula-requires
 check-formula-requires c κs = search needs
 
-then-requires-2 : tie.Need-then-requires-2
-then-requires-2 c κs = search needs
+then-requires : tie.Need-then-requires
+then-requires c κs = search needs
 
-enum-told : tie.Need-enum-told
-enum-told c = search needs
+enum-told-2 : tie.Need-enum-told-2
+enum-told-2 c = search needs
 
 enum-known-parts : tie.Need-enum-known-parts
 enum-known-parts c = search needs
 
-returns : tie.Need-returns
-returns c =
-    let parts = rw (c .before .before .before .before .before .then .ensures, c .before .before .before .before .before .before .before .check-pairs .ensures, c .before .before .before .before .before .before .check-joint .ensures, c .before .before .before .before .check-formula .ensures) at (c .before .before .before .then2 .ensures) in
-    joint-refused _ _ _ _ _ _ _ (sym parts ∙ c .before .parts .given .1)
-
 returns-2 : tie.Need-returns-2
 returns-2 c =
-    let parts = rw (c .before .before .before .before .before .then .ensures, c .before .before .before .before .before .before .before .check-pairs .ensures, c .before .before .before .before .before .before .check-joint .ensures, c .before .before .before .before .check-formula .ensures) at (c .before .before .before .then2 .ensures) in
-    joint-beyond _ _ _ _ _ _ (sym parts ∙ c .before .enum-told .given .1) (c .if1 .taken)
+    let parts = rw (c .before .before .before .before .before .check-joint .ensures, c .before .before .before .before .check-formula .ensures) at (c .before .before .before .then .ensures) in
+    joint-refused _ _ _ _ _ _ _ (pairs-sound _ _ _ (sym (c .before .before .before .before .before .before .before .before .check-pairs .ensures) ∙ c .before .before .before .before .before .before .enum-told .given .1) (sym parts ∙ c .before .parts .given .1))
 
 returns-3 : tie.Need-returns-3
 returns-3 c =
-    let parts = rw (c .before .before .before .before .before .then .ensures, c .before .before .before .before .before .before .before .check-pairs .ensures, c .before .before .before .before .before .before .check-joint .ensures, c .before .before .before .before .check-formula .ensures) at (c .before .before .before .then2 .ensures) in
-    joint-sound _ _ _ _ _ _ (sym parts ∙ c .before .enum-told .given .1) (c .if1 .left)
+    let parts = rw (c .before .before .before .before .before .check-joint .ensures, c .before .before .before .before .check-formula .ensures) at (c .before .before .before .then .ensures) in
+    joint-beyond _ _ _ _ _ _ (pairs-sound _ _ _ (sym (c .before .before .before .before .before .before .before .before .check-pairs .ensures) ∙ c .before .before .before .before .before .before .enum-told .given .1) (sym parts ∙ c .before .enum-told2 .given .1)) (c .if1 .taken)
+
+returns-4 : tie.Need-returns-4
+returns-4 c =
+    let parts = rw (c .before .before .before .before .before .check-joint .ensures, c .before .before .before .before .check-formula .ensures) at (c .before .before .before .then .ensures) in
+    joint-sound _ _ _ _ _ _ (pairs-sound _ _ _ (sym (c .before .before .before .before .before .before .before .before .check-pairs .ensures) ∙ c .before .before .before .before .before .before .enum-told .given .1) (sym parts ∙ c .before .enum-told2 .given .1)) (c .if1 .left)
 
 pub check-joint-call-spec : {M : Type 1} → statement M
 check-joint-call-spec =
     tie.close
     (tie.spec
     check-pairs-requires
-    check-joint-requires
-    then-requires
-    check-formula-requires
-    then-requires-2
     enum-told
-    enum-known-parts
+    enum-known-refusal
     returns
+    check-joint-requires
+    check-formula-requires
+    then-requires
+    enum-told-2
+    enum-known-parts
     returns-2
-    returns-3)
+    returns-3
+    returns-4)

@@ -4,28 +4,37 @@ use borrow.Fn.Kinds.{In}
 use borrow.Fn.PlainCycle.{Measures, is, falls, and}
 use Rattle.verdict.proofs.search.forward.Reads as forward
 use Rattle.verdict.proofs.search.forward.Kinds as forward-kinds
-use Rattle.verdict.proofs.search.+forward+holds+judge+look+modal+try_handshakes+try_partner+try_rows.Lts-forward as forward-lts
+use Rattle.verdict.proofs.search.+forward+holds+judge+look+modal+try_both+try_handshakes+try_left+try_partner+try_right+try_rows.Lts-forward as forward-lts
 use Rattle.verdict.proofs.search.holds.Reads as holds
 use Rattle.verdict.proofs.search.holds.Kinds as holds-kinds
-use Rattle.verdict.proofs.search.+forward+holds+judge+look+modal+try_handshakes+try_partner+try_rows.Lts-holds as holds-lts
+use Rattle.verdict.proofs.search.+forward+holds+judge+look+modal+try_both+try_handshakes+try_left+try_partner+try_right+try_rows.Lts-holds as holds-lts
 use Rattle.verdict.proofs.search.judge.Reads as judge
 use Rattle.verdict.proofs.search.judge.Kinds as judge-kinds
-use Rattle.verdict.proofs.search.+forward+holds+judge+look+modal+try_handshakes+try_partner+try_rows.Lts-judge as judge-lts
+use Rattle.verdict.proofs.search.+forward+holds+judge+look+modal+try_both+try_handshakes+try_left+try_partner+try_right+try_rows.Lts-judge as judge-lts
 use Rattle.verdict.proofs.search.look.Reads as look
 use Rattle.verdict.proofs.search.look.Kinds as look-kinds
-use Rattle.verdict.proofs.search.+forward+holds+judge+look+modal+try_handshakes+try_partner+try_rows.Lts-look as look-lts
+use Rattle.verdict.proofs.search.+forward+holds+judge+look+modal+try_both+try_handshakes+try_left+try_partner+try_right+try_rows.Lts-look as look-lts
 use Rattle.verdict.proofs.search.modal.Reads as modal
 use Rattle.verdict.proofs.search.modal.Kinds as modal-kinds
-use Rattle.verdict.proofs.search.+forward+holds+judge+look+modal+try_handshakes+try_partner+try_rows.Lts-modal as modal-lts
+use Rattle.verdict.proofs.search.+forward+holds+judge+look+modal+try_both+try_handshakes+try_left+try_partner+try_right+try_rows.Lts-modal as modal-lts
+use Rattle.verdict.proofs.search.try_both.Reads as try-both
+use Rattle.verdict.proofs.search.try_both.Kinds as try-both-kinds
+use Rattle.verdict.proofs.search.+forward+holds+judge+look+modal+try_both+try_handshakes+try_left+try_partner+try_right+try_rows.Lts-try_both as try-both-lts
 use Rattle.verdict.proofs.search.try_handshakes.Reads as try-handshakes
 use Rattle.verdict.proofs.search.try_handshakes.Kinds as try-handshakes-kinds
-use Rattle.verdict.proofs.search.+forward+holds+judge+look+modal+try_handshakes+try_partner+try_rows.Lts-try_handshakes as try-handshakes-lts
+use Rattle.verdict.proofs.search.+forward+holds+judge+look+modal+try_both+try_handshakes+try_left+try_partner+try_right+try_rows.Lts-try_handshakes as try-handshakes-lts
+use Rattle.verdict.proofs.search.try_left.Reads as try-left
+use Rattle.verdict.proofs.search.try_left.Kinds as try-left-kinds
+use Rattle.verdict.proofs.search.+forward+holds+judge+look+modal+try_both+try_handshakes+try_left+try_partner+try_right+try_rows.Lts-try_left as try-left-lts
 use Rattle.verdict.proofs.search.try_partner.Reads as try-partner
 use Rattle.verdict.proofs.search.try_partner.Kinds as try-partner-kinds
-use Rattle.verdict.proofs.search.+forward+holds+judge+look+modal+try_handshakes+try_partner+try_rows.Lts-try_partner as try-partner-lts
+use Rattle.verdict.proofs.search.+forward+holds+judge+look+modal+try_both+try_handshakes+try_left+try_partner+try_right+try_rows.Lts-try_partner as try-partner-lts
+use Rattle.verdict.proofs.search.try_right.Reads as try-right
+use Rattle.verdict.proofs.search.try_right.Kinds as try-right-kinds
+use Rattle.verdict.proofs.search.+forward+holds+judge+look+modal+try_both+try_handshakes+try_left+try_partner+try_right+try_rows.Lts-try_right as try-right-lts
 use Rattle.verdict.proofs.search.try_rows.Reads as try-rows
 use Rattle.verdict.proofs.search.try_rows.Kinds as try-rows-kinds
-use Rattle.verdict.proofs.search.+forward+holds+judge+look+modal+try_handshakes+try_partner+try_rows.Lts-try_rows as try-rows-lts
+use Rattle.verdict.proofs.search.+forward+holds+judge+look+modal+try_both+try_handshakes+try_left+try_partner+try_right+try_rows.Lts-try_rows as try-rows-lts
 use Rattle.labels.proofs.label.Label.is_silent.Reads as is-silent-reads
 use Rattle.labels.proofs.label.Labels.partner.Reads as partner-reads
 use Rattle.verdict.proofs.grid.rows_before.Reads as rows-before-reads
@@ -34,8 +43,8 @@ use Rattle.verdict.proofs.search.is_binary.Reads as is-binary-reads
 use Rattle.verdict.proofs.step.back_fits.Reads as back-fits-reads
 use Rattle.verdict.proofs.step.step_of.Reads as step-of-reads
 use Rattle.verdict.proofs.step.targets.Reads as targets-reads
-use Rattle.verdict.proofs.search.+forward+holds+judge+look+modal+try_handshakes+try_partner+try_rows.{statement}
-use Rattle.verdict.proofs.search.+forward+holds+judge+look+modal+try_handshakes+try_partner+try_rows.Tie.{close}
+use Rattle.verdict.proofs.search.+forward+holds+judge+look+modal+try_both+try_handshakes+try_left+try_partner+try_right+try_rows.{statement}
+use Rattle.verdict.proofs.search.+forward+holds+judge+look+modal+try_both+try_handshakes+try_left+try_partner+try_right+try_rows.Tie.{close}
 use borrow.Author.Needs.{needs}
 use native.Mathlib.Omega.{arith}
 use mathlib.Core.Path.{_≡_, refl, sym, ap, _∙_}
@@ -43,6 +52,7 @@ use mathlib.Core.List.{List}
 use mathlib.Core.Bool.{true}
 use lib.ListN.{length, getD, take, drop}
 use borrow.Author.Tests.{not-true, not-false, eqb-true, eqb-false}
+use Rattle.hml.specs.Labels.{positive}
 use Rattle.labels.proofs.Slices.{rest}
 use Rattle.hml.specs.System.{_▸_}
 use Rattle.halves.specs.Runs.{stepOf}
@@ -59,7 +69,7 @@ abbrev K : ℕ
 K = 100
 
 abbrev μ-forward : Measures 5 forward-kinds.ps ℕ
-μ-forward κs a = length (a .1 .1 .1 .1 .1 .1 .1 .0 .now) * K + 20
+μ-forward κs a = length (a .1 .1 .1 .1 .1 .1 .1 .0 .now) * K + 16
 
 abbrev μ-holds : Measures 5 holds-kinds.ps ℕ
 μ-holds κs a = length (a .1 .1 .1 .1 .1 .1 .0 .now) * K + 2
@@ -73,11 +83,20 @@ abbrev μ-look : Measures 5 look-kinds.ps ℕ
 abbrev μ-modal : Measures 5 modal-kinds.ps ℕ
 μ-modal κs a = length (a .1 .1 .1 .1 .1 .1 .0 .now) * K
 
+abbrev μ-try-both : Measures 5 try-both-kinds.ps ℕ
+μ-try-both κs a = length (a .1 .1 .1 .1 .1 .1 .0 .now) * K + 15
+
 abbrev μ-try-handshakes : Measures 5 try-handshakes-kinds.ps ℕ
 μ-try-handshakes κs a = length (a .1 .1 .1 .1 .1 .1 .1 .1 .1 .1 .0 .now) * K + 6 + a .1 .1 .1 .1 .1 .1 .1 .0
 
+abbrev μ-try-left : Measures 5 try-left-kinds.ps ℕ
+μ-try-left κs a = length (a .1 .1 .1 .1 .1 .1 .1 .0 .now) * K + 15
+
 abbrev μ-try-partner : Measures 5 try-partner-kinds.ps ℕ
 μ-try-partner κs a = length (a .1 .1 .1 .1 .1 .1 .1 .1 .1 .1 .0 .now) * K + 5
+
+abbrev μ-try-right : Measures 5 try-right-kinds.ps ℕ
+μ-try-right κs a = length (a .1 .1 .1 .1 .1 .1 .1 .0 .now) * K + 15
 
 abbrev μ-try-rows : Measures 6 try-rows-kinds.ps ℕ
 μ-try-rows κs a = length (a .1 .1 .1 .1 .1 .1 .1 .1 .1 .1 .1 .1 .1 .0 .now) * K + 4
@@ -112,6 +131,13 @@ modal-at t = and 5 modal-kinds.ps (is 5 modal-kinds.ps μ-modal t) modal.Pre
 abbrev modal-below : ℕ → In 5 modal-kinds.ps
 modal-below t = and 5 modal-kinds.ps (falls 5 modal-kinds.ps _<_ μ-modal t) modal.Pre
 
+abbrev try-both-at : ℕ → In 5 try-both-kinds.ps
+try-both-at t = and 5 try-both-kinds.ps (is 5 try-both-kinds.ps μ-try-both t) try-both.Pre
+
+abbrev try-both-below : ℕ → In 5 try-both-kinds.ps
+try-both-below t =
+    and 5 try-both-kinds.ps (falls 5 try-both-kinds.ps _<_ μ-try-both t) try-both.Pre
+
 abbrev try-handshakes-at : ℕ → In 5 try-handshakes-kinds.ps
 try-handshakes-at t =
     and
@@ -128,6 +154,13 @@ try-handshakes-below t =
     (falls 5 try-handshakes-kinds.ps _<_ μ-try-handshakes t)
     try-handshakes.Pre
 
+abbrev try-left-at : ℕ → In 5 try-left-kinds.ps
+try-left-at t = and 5 try-left-kinds.ps (is 5 try-left-kinds.ps μ-try-left t) try-left.Pre
+
+abbrev try-left-below : ℕ → In 5 try-left-kinds.ps
+try-left-below t =
+    and 5 try-left-kinds.ps (falls 5 try-left-kinds.ps _<_ μ-try-left t) try-left.Pre
+
 abbrev try-partner-at : ℕ → In 5 try-partner-kinds.ps
 try-partner-at t =
     and 5 try-partner-kinds.ps (is 5 try-partner-kinds.ps μ-try-partner t) try-partner.Pre
@@ -136,6 +169,13 @@ abbrev try-partner-below : ℕ → In 5 try-partner-kinds.ps
 try-partner-below t =
     and 5 try-partner-kinds.ps (falls 5 try-partner-kinds.ps _<_ μ-try-partner t) try-partner.Pre
 
+abbrev try-right-at : ℕ → In 5 try-right-kinds.ps
+try-right-at t = and 5 try-right-kinds.ps (is 5 try-right-kinds.ps μ-try-right t) try-right.Pre
+
+abbrev try-right-below : ℕ → In 5 try-right-kinds.ps
+try-right-below t =
+    and 5 try-right-kinds.ps (falls 5 try-right-kinds.ps _<_ μ-try-right t) try-right.Pre
+
 abbrev try-rows-at : ℕ → In 6 try-rows-kinds.ps
 try-rows-at t = and 6 try-rows-kinds.ps (is 6 try-rows-kinds.ps μ-try-rows t) try-rows.Pre
 
@@ -143,213 +183,125 @@ abbrev try-rows-below : ℕ → In 6 try-rows-kinds.ps
 try-rows-below t =
     and 6 try-rows-kinds.ps (falls 6 try-rows-kinds.ps _<_ μ-try-rows t) try-rows.Pre
 
-forward-sub-p : (t : ℕ) → forward-lts.Need-sub-p (
-  rows-from-reads.Asked,
-  rows-from-reads.Learnt,
-  try-rows-below t,
-  try-rows.Post,
+forward-try-left-requires : (t : ℕ) → forward-lts.Need-try-left-requires (
+  try-left-below t,
+  try-left.Post,
+  try-right-below t,
+  try-right.Post,
   is-silent-reads.Asked,
   is-silent-reads.Learnt,
-  try-handshakes-below t,
-  try-handshakes.Post,
+  try-both-below t,
+  try-both.Post,
 ) (forward-at t) forward.Post
-forward-sub-p t c =
-    let s = c .before in
-    let y = s .pre .1 .1 .0 in
-    omega (arith, y .held .whole)
-
-forward-element-copy-out-p : (t : ℕ) → forward-lts.Need-element-copy-out-p (
-  rows-from-reads.Asked,
-  rows-from-reads.Learnt,
-  try-rows-below t,
-  try-rows.Post,
-  is-silent-reads.Asked,
-  is-silent-reads.Learnt,
-  try-handshakes-below t,
-  try-handshakes.Post,
-) (forward-at t) forward.Post
-forward-element-copy-out-p t c =
-    let s = c .before in
-    let y = s .pre .1 .1 .0 in
-    omega (arith, y .held .whole, y .held .within, y .size)
-
-forward-sub-q : (t : ℕ) → forward-lts.Need-sub-q (
-  rows-from-reads.Asked,
-  rows-from-reads.Learnt,
-  try-rows-below t,
-  try-rows.Post,
-  is-silent-reads.Asked,
-  is-silent-reads.Learnt,
-  try-handshakes-below t,
-  try-handshakes.Post,
-) (forward-at t) forward.Post
-forward-sub-q t c =
+forward-try-left-requires t c κs =
     let s = c .before .before in
     let y = s .pre .1 .1 .0 in
-    omega (arith, y .held .whole)
-
-forward-element-copy-out-q : (t : ℕ) → forward-lts.Need-element-copy-out-q (
-  rows-from-reads.Asked,
-  rows-from-reads.Learnt,
-  try-rows-below t,
-  try-rows.Post,
-  is-silent-reads.Asked,
-  is-silent-reads.Learnt,
-  try-handshakes-below t,
-  try-handshakes.Post,
-) (forward-at t) forward.Post
-forward-element-copy-out-q t c =
-    let s = c .before .before in
-    let y = s .pre .1 .1 .0 in
-    omega (arith, y .held .whole, y .held .within, y .size)
-
-forward-rows-from-requires : (t : ℕ) → forward-lts.Need-rows-from-requires (
-  rows-from-reads.Asked,
-  rows-from-reads.Learnt,
-  try-rows-below t,
-  try-rows.Post,
-  is-silent-reads.Asked,
-  is-silent-reads.Learnt,
-  try-handshakes-below t,
-  try-handshakes.Post,
-) (forward-at t) forward.Post
-forward-rows-from-requires t c κs = c .before .before .before .pre .1 .0 .left
-
-forward-try-rows-requires : (t : ℕ) → forward-lts.Need-try-rows-requires (
-  rows-from-reads.Asked,
-  rows-from-reads.Learnt,
-  try-rows-below t,
-  try-rows.Post,
-  is-silent-reads.Asked,
-  is-silent-reads.Learnt,
-  try-handshakes-below t,
-  try-handshakes.Post,
-) (forward-at t) forward.Post
-forward-try-rows-requires t c κs =
-    let s = c .before .before .before .before .before in
-    let y = s .pre .1 .1 .0 in
-    (omega (arith, s .pre .0, c .before .rows-from .ensures .0), (s .pre .1 .0, (y, (c .before .rows-from .ensures .0 .0, s .pre .1 .1 .1))))
+    (omega (arith, s .pre .0), s .pre .1)
 
 forward-returns : (t : ℕ) → forward-lts.Need-returns (
-  rows-from-reads.Asked,
-  rows-from-reads.Learnt,
-  try-rows-below t,
-  try-rows.Post,
+  try-left-below t,
+  try-left.Post,
+  try-right-below t,
+  try-right.Post,
   is-silent-reads.Asked,
   is-silent-reads.Learnt,
-  try-handshakes-below t,
-  try-handshakes.Post,
+  try-both-below t,
+  try-both.Post,
 ) (forward-at t) forward.Post
-unfolding targetsOf
 forward-returns t c =
-    let s = c .before .before .before .before .before .before .before in
+    let s = c .before .before .before .before in
     let y = s .pre .1 .1 .0 in
-    (ahead.forward-left _ _ _ _ _ _ _ _ (s .pre .1 .1 .1) (held-last _ _ (y .held)) _ (c .before .before .before .rows-from .ensures .1) _ (c .before .try-rows .ensures .0) (c .if1 .taken), c .before .try-rows .ensures .1)
+    (ahead.forward-left _ _ _ _ _ _ _ _ (s .pre .1 .1 .1) (held-last _ _ (y .held)) _ (c .before .try-left .ensures .0) (c .if1 .taken), c .before .try-left .ensures .1)
 
-forward-rows-from-requires-2 : (t : ℕ) → forward-lts.Need-rows-from-requires-2 (
-  rows-from-reads.Asked,
-  rows-from-reads.Learnt,
-  try-rows-below t,
-  try-rows.Post,
+forward-try-right-requires : (t : ℕ) → forward-lts.Need-try-right-requires (
+  try-left-below t,
+  try-left.Post,
+  try-right-below t,
+  try-right.Post,
   is-silent-reads.Asked,
   is-silent-reads.Learnt,
-  try-handshakes-below t,
-  try-handshakes.Post,
+  try-both-below t,
+  try-both.Post,
 ) (forward-at t) forward.Post
-forward-rows-from-requires-2 t c κs = c .before .before .before .before .before .before .before .pre .1 .0 .right
-
-forward-try-rows-requires-2 : (t : ℕ) → forward-lts.Need-try-rows-requires-2 (
-  rows-from-reads.Asked,
-  rows-from-reads.Learnt,
-  try-rows-below t,
-  try-rows.Post,
-  is-silent-reads.Asked,
-  is-silent-reads.Learnt,
-  try-handshakes-below t,
-  try-handshakes.Post,
-) (forward-at t) forward.Post
-forward-try-rows-requires-2 t c κs =
-    let s = c .before .before .before .before .before .before .before .before .before in
+forward-try-right-requires t c κs =
+    let s = c .before .before .before .before .before in
     let y = s .pre .1 .1 .0 in
-    (omega (arith, s .pre .0, c .before .rows-from2 .ensures .0), (s .pre .1 .0, (rw (c .before .before .before .try-rows .ensures .1) y, (c .before .rows-from2 .ensures .0 .0, s .pre .1 .1 .1))))
+    (omega (arith, s .pre .0), (s .pre .1 .0, (rw (c .before .before .try-left .ensures .1) y, s .pre .1 .1 .1)))
 
 forward-returns-2 : (t : ℕ) → forward-lts.Need-returns-2 (
-  rows-from-reads.Asked,
-  rows-from-reads.Learnt,
-  try-rows-below t,
-  try-rows.Post,
+  try-left-below t,
+  try-left.Post,
+  try-right-below t,
+  try-right.Post,
   is-silent-reads.Asked,
   is-silent-reads.Learnt,
-  try-handshakes-below t,
-  try-handshakes.Post,
+  try-both-below t,
+  try-both.Post,
 ) (forward-at t) forward.Post
-unfolding targetsOf
 forward-returns-2 t c =
-    let s = c .before .before .before .before .before .before .before .before .before .before .before in
+    let s = c .before .before .before .before .before .before .before in
     let y = s .pre .1 .1 .0 in
-    let second = rw (c .before .before .before .before .before .try-rows .ensures .1) at (c .before .try-rows2 .ensures .0) in
-    (ahead.forward-right _ _ _ _ _ _ _ _ (s .pre .1 .1 .1) (held-last _ _ (y .held)) _ (c .before .before .before .before .before .before .before .rows-from .ensures .1) _ (c .before .before .before .before .before .try-rows .ensures .0) _ (c .before .before .before .rows-from2 .ensures .1) _ second (c .before .before .before .before .if1 .left) (c .if2 .taken), c .before .try-rows2 .ensures .1 ∙ c .before .before .before .before .before .try-rows .ensures .1)
+    let second = rw (c .before .before .before .before .try-left .ensures .1) at (c .before .try-right .ensures .0) in
+    (ahead.forward-right _ _ _ _ _ _ _ _ (s .pre .1 .1 .1) (held-last _ _ (y .held)) _ (c .before .before .before .before .try-left .ensures .0) _ second (c .before .before .before .if1 .left) (c .if2 .taken), c .before .try-right .ensures .1 ∙ c .before .before .before .before .try-left .ensures .1)
 
 forward-is-silent-requires : (t : ℕ) → forward-lts.Need-is-silent-requires (
-  rows-from-reads.Asked,
-  rows-from-reads.Learnt,
-  try-rows-below t,
-  try-rows.Post,
+  try-left-below t,
+  try-left.Post,
+  try-right-below t,
+  try-right.Post,
   is-silent-reads.Asked,
   is-silent-reads.Learnt,
-  try-handshakes-below t,
-  try-handshakes.Post,
+  try-both-below t,
+  try-both.Post,
 ) (forward-at t) forward.Post
 forward-is-silent-requires t c κs = tt
 
 forward-returns-3 : (t : ℕ) → forward-lts.Need-returns-3 (
-  rows-from-reads.Asked,
-  rows-from-reads.Learnt,
-  try-rows-below t,
-  try-rows.Post,
+  try-left-below t,
+  try-left.Post,
+  try-right-below t,
+  try-right.Post,
   is-silent-reads.Asked,
   is-silent-reads.Learnt,
-  try-handshakes-below t,
-  try-handshakes.Post,
+  try-both-below t,
+  try-both.Post,
 ) (forward-at t) forward.Post
-unfolding targetsOf
 forward-returns-3 t c =
-    let s = c .before .before .before .before .before .before .before .before .before .before .before .before .before in
+    let s = c .before .before .before .before .before .before .before .before .before in
     let y = s .pre .1 .1 .0 in
-    let second = rw (c .before .before .before .before .before .before .before .try-rows .ensures .1) at (c .before .before .before .try-rows2 .ensures .0) in
-    (ahead.forward-loud _ _ _ _ _ _ _ _ (s .pre .1 .1 .1) (held-last _ _ (y .held)) _ (c .before .before .before .before .before .before .before .before .before .rows-from .ensures .1) _ (c .before .before .before .before .before .before .before .try-rows .ensures .0) _ (c .before .before .before .before .before .rows-from2 .ensures .1) _ second (c .before .before .before .before .before .before .if1 .left) (c .before .before .if2 .left) (eqb-false _ _ (sym (c .before .is-silent .ensures) ∙ not-true _ (c .if3 .taken))), c .before .before .before .try-rows2 .ensures .1 ∙ c .before .before .before .before .before .before .before .try-rows .ensures .1)
+    let second = rw (c .before .before .before .before .before .before .try-left .ensures .1) at (c .before .before .before .try-right .ensures .0) in
+    (ahead.forward-loud _ _ _ _ _ _ _ _ (s .pre .1 .1 .1) (held-last _ _ (y .held)) _ (c .before .before .before .before .before .before .try-left .ensures .0) _ second (c .before .before .before .before .before .if1 .left) (c .before .before .if2 .left) (eqb-false _ _ (sym (c .before .is-silent .ensures) ∙ not-true _ (c .if3 .taken))), c .before .before .before .try-right .ensures .1 ∙ c .before .before .before .before .before .before .try-left .ensures .1)
 
-forward-try-handshakes-requires : (t : ℕ) → forward-lts.Need-try-handshakes-requires (
-  rows-from-reads.Asked,
-  rows-from-reads.Learnt,
-  try-rows-below t,
-  try-rows.Post,
+forward-try-both-requires : (t : ℕ) → forward-lts.Need-try-both-requires (
+  try-left-below t,
+  try-left.Post,
+  try-right-below t,
+  try-right.Post,
   is-silent-reads.Asked,
   is-silent-reads.Learnt,
-  try-handshakes-below t,
-  try-handshakes.Post,
+  try-both-below t,
+  try-both.Post,
 ) (forward-at t) forward.Post
-forward-try-handshakes-requires t c κs =
-    let s = c .before .before .before .before .before .before .before .before .before .before .before .before .before .before in
+forward-try-both-requires t c κs =
+    let s = c .before .before .before .before .before .before .before .before .before .before in
     let y = s .pre .1 .1 .0 in
-    (omega (arith, s .pre .0, c .before .before .before .before .before .before .before .before .before .before .rows-from .ensures .0, c .before .before .before .before .before .before .rows-from2 .ensures .0), (s .pre .1 .0, (rw (c .before .before .before .before .try-rows2 .ensures .1, c .before .before .before .before .before .before .before .before .try-rows .ensures .1) y, (c .before .before .before .before .before .before .before .before .before .before .rows-from .ensures .0 .0, c .before .before .before .before .before .before .rows-from2 .ensures .0 .0))))
+    (omega (arith, s .pre .0), (s .pre .1 .0, rw (c .before .before .before .before .try-right .ensures .1, c .before .before .before .before .before .before .before .try-left .ensures .1) y))
 
 forward-returns-4 : (t : ℕ) → forward-lts.Need-returns-4 (
-  rows-from-reads.Asked,
-  rows-from-reads.Learnt,
-  try-rows-below t,
-  try-rows.Post,
+  try-left-below t,
+  try-left.Post,
+  try-right-below t,
+  try-right.Post,
   is-silent-reads.Asked,
   is-silent-reads.Learnt,
-  try-handshakes-below t,
-  try-handshakes.Post,
+  try-both-below t,
+  try-both.Post,
 ) (forward-at t) forward.Post
-unfolding targetsOf
 forward-returns-4 t c =
-    let s = c .before .before .before .before .before .before .before .before .before .before .before .before .before .before .before in
+    let s = c .before .before .before .before .before .before .before .before .before .before .before in
     let y = s .pre .1 .1 .0 in
-    let second = rw (c .before .before .before .before .before .before .before .before .before .try-rows .ensures .1) at (c .before .before .before .before .before .try-rows2 .ensures .0) in
-    (ahead.forward-shaken _ _ _ _ _ _ _ _ (s .pre .1 .1 .1) (held-last _ _ (y .held)) _ (c .before .before .before .before .before .before .before .before .before .before .before .rows-from .ensures .1) _ (c .before .before .before .before .before .before .before .before .before .try-rows .ensures .0) _ (c .before .before .before .before .before .before .before .rows-from2 .ensures .1) _ second (c .before .before .before .before .before .before .before .before .if1 .left) (c .before .before .before .before .if2 .left) (eqb-true _ _ (sym (c .before .before .before .is-silent .ensures) ∙ not-false _ (c .before .before .if3 .left))) _ (rw (c .before .before .before .before .before .try-rows2 .ensures .1, c .before .before .before .before .before .before .before .before .before .try-rows .ensures .1) at (c .try-handshakes .ensures .0)), c .try-handshakes .ensures .1 ∙ c .before .before .before .before .before .try-rows2 .ensures .1 ∙ c .before .before .before .before .before .before .before .before .before .try-rows .ensures .1)
+    let second = rw (c .before .before .before .before .before .before .before .before .try-left .ensures .1) at (c .before .before .before .before .before .try-right .ensures .0) in
+    (ahead.forward-shaken _ _ _ _ _ _ _ _ (s .pre .1 .1 .1) (held-last _ _ (y .held)) _ (c .before .before .before .before .before .before .before .before .try-left .ensures .0) _ second (c .before .before .before .before .before .before .before .if1 .left) (c .before .before .before .before .if2 .left) (eqb-true _ _ (sym (c .before .before .before .is-silent .ensures) ∙ not-false _ (c .before .before .if3 .left))) _ (rw (c .before .before .before .before .before .try-right .ensures .1, c .before .before .before .before .before .before .before .before .try-left .ensures .1) at (c .try-both .ensures .0)), c .try-both .ensures .1 ∙ c .before .before .before .before .before .try-right .ensures .1 ∙ c .before .before .before .before .before .before .before .before .try-left .ensures .1)
 
 abbrev holds-Inv-loop : holds-lts.InvT-loop
 holds-Inv-loop labels left right sizes run₀ len f rest₀ run rest = (run ≡ run₀) × operands.Going labels left right sizes run₀ len f rest
@@ -1364,6 +1316,85 @@ modal-returns-5 t c =
     let g = rw (c .before .before .before .before .before .step-of .ensures) at (c .before .before .before .back-fits .ensures) in
     (operands.back-same _ _ _ f _ _ (y .tree) (y .held) o (c .before .before .before .before .before .before .before .before .before .if3 .left) _ g _ (not-false _ (c .before .before .if4 .left)) (c .holds .ensures .0), c .holds .ensures .1)
 
+try-both-sub-rows-from : (t : ℕ) → try-both-lts.Need-sub-rows-from (
+  rows-from-reads.Asked,
+  rows-from-reads.Learnt,
+  try-handshakes-below t,
+  try-handshakes.Post,
+) (try-both-at t) try-both.Post
+try-both-sub-rows-from t c =
+    let s = c .before in
+    let y = s .pre .1 .1 in
+    omega (arith, y .held .whole)
+
+try-both-element-copy-out-rows-from : (t : ℕ) → try-both-lts.Need-element-copy-out-rows-from (
+  rows-from-reads.Asked,
+  rows-from-reads.Learnt,
+  try-handshakes-below t,
+  try-handshakes.Post,
+) (try-both-at t) try-both.Post
+try-both-element-copy-out-rows-from t c =
+    let s = c .before in
+    let y = s .pre .1 .1 in
+    omega (arith, y .held .whole, y .held .within, y .size)
+
+try-both-rows-from-requires : (t : ℕ) → try-both-lts.Need-rows-from-requires (
+  rows-from-reads.Asked,
+  rows-from-reads.Learnt,
+  try-handshakes-below t,
+  try-handshakes.Post,
+) (try-both-at t) try-both.Post
+try-both-rows-from-requires t c κs = c .before .before .pre .1 .0 .left
+
+try-both-sub-rows-from-2 : (t : ℕ) → try-both-lts.Need-sub-rows-from-2 (
+  rows-from-reads.Asked,
+  rows-from-reads.Learnt,
+  try-handshakes-below t,
+  try-handshakes.Post,
+) (try-both-at t) try-both.Post
+try-both-sub-rows-from-2 t c =
+    let s = c .before .before .before in
+    let y = s .pre .1 .1 in
+    omega (arith, y .held .whole)
+
+try-both-element-copy-out-rows-from-2 : (t : ℕ) → try-both-lts.Need-element-copy-out-rows-from-2 (
+  rows-from-reads.Asked,
+  rows-from-reads.Learnt,
+  try-handshakes-below t,
+  try-handshakes.Post,
+) (try-both-at t) try-both.Post
+try-both-element-copy-out-rows-from-2 t c =
+    let s = c .before .before .before in
+    let y = s .pre .1 .1 in
+    omega (arith, y .held .whole, y .held .within, y .size)
+
+try-both-rows-from-requires-2 : (t : ℕ) → try-both-lts.Need-rows-from-requires-2 (
+  rows-from-reads.Asked,
+  rows-from-reads.Learnt,
+  try-handshakes-below t,
+  try-handshakes.Post,
+) (try-both-at t) try-both.Post
+try-both-rows-from-requires-2 t c κs = c .before .before .before .before .pre .1 .0 .right
+
+try-both-try-handshakes-requires : (t : ℕ) → try-both-lts.Need-try-handshakes-requires (
+  rows-from-reads.Asked,
+  rows-from-reads.Learnt,
+  try-handshakes-below t,
+  try-handshakes.Post,
+) (try-both-at t) try-both.Post
+try-both-try-handshakes-requires t c κs =
+    let s = c .before .before .before .before .before .before in
+    let y = s .pre .1 .1 in
+    (omega (arith, s .pre .0, c .before .before .before .rows-from .ensures .0), (s .pre .1 .0, (y, (c .before .before .before .rows-from .ensures .0 .0, c .before .rows-from2 .ensures .0 .0))))
+
+try-both-returns : (t : ℕ) → try-both-lts.Need-returns (
+  rows-from-reads.Asked,
+  rows-from-reads.Learnt,
+  try-handshakes-below t,
+  try-handshakes.Post,
+) (try-both-at t) try-both.Post
+try-both-returns t c = (rw (c .before .before .before .before .rows-from .ensures .1, c .before .before .rows-from2 .ensures .1) at (c .try-handshakes .ensures .0), c .try-handshakes .ensures .1)
+
 try-handshakes-returns : (t : ℕ) → try-handshakes-lts.Need-returns (
   try-partner-below t,
   try-partner.Post,
@@ -1383,7 +1414,7 @@ try-handshakes-element-copy-out-t17 : (t : ℕ) → try-handshakes-lts.Need-elem
 try-handshakes-element-copy-out-t17 t c =
     let s = c .before .before .before in
     let w = s .pre .1 .1 .1 in
-    let some = ahead.positive _ (c .before .if1 .left) in
+    let some = positive _ (c .before .if1 .left) in
     omega (arith, w, some)
 
 try-handshakes-add-try-partner : (t : ℕ) → try-handshakes-lts.Need-add-try-partner (
@@ -1395,7 +1426,7 @@ try-handshakes-add-try-partner : (t : ℕ) → try-handshakes-lts.Need-add-try-p
 try-handshakes-add-try-partner t c =
     let s = c .before .before .before .before in
     let w = s .pre .1 .1 .1 in
-    let some = ahead.positive _ (c .before .before .if1 .left) in
+    let some = positive _ (c .before .before .if1 .left) in
     omega (arith, w, some)
 
 try-handshakes-element-copy-out-try-partner :
@@ -1408,7 +1439,7 @@ try-handshakes-element-copy-out-try-partner :
 try-handshakes-element-copy-out-try-partner t c =
     let s = c .before .before .before .before in
     let w = s .pre .1 .1 .1 in
-    let some = ahead.positive _ (c .before .before .if1 .left) in
+    let some = positive _ (c .before .before .if1 .left) in
     omega (arith, w, some)
 
 try-handshakes-try-partner-requires : (t : ℕ) → try-handshakes-lts.Need-try-partner-requires (
@@ -1420,7 +1451,7 @@ try-handshakes-try-partner-requires : (t : ℕ) → try-handshakes-lts.Need-try-
 try-handshakes-try-partner-requires t c κs =
     let s = c .before .before .before .before .before in
     let w = s .pre .1 .1 .1 in
-    let some = ahead.positive _ (c .before .before .before .if1 .left) in
+    let some = positive _ (c .before .before .before .if1 .left) in
     (omega (arith, s .pre .0), (s .pre .1 .0, (s .pre .1 .1 .0, w .1)))
 
 try-handshakes-returns-2 : (t : ℕ) → try-handshakes-lts.Need-returns-2 (
@@ -1432,7 +1463,7 @@ try-handshakes-returns-2 : (t : ℕ) → try-handshakes-lts.Need-returns-2 (
 try-handshakes-returns-2 t c =
     let s = c .before .before .before .before .before .before .before in
     let w = s .pre .1 .1 .1 in
-    let some = ahead.positive _ (c .before .before .before .before .before .if1 .left) in
+    let some = positive _ (c .before .before .before .before .before .if1 .left) in
     (ahead.shaken-hit _ _ (pairsIn (s .args .count) (drop (s .args .others) (s .args .right .now))) (s .args .left .now) (s .args .at) (s .args .rows) (c .before .before .before .before .before .if1 .left) (sym (c .if2 .taken) ∙ c .before .try-partner .ensures .0), c .before .try-partner .ensures .1)
 
 try-handshakes-add-try-handshakes : (t : ℕ) → try-handshakes-lts.Need-add-try-handshakes (
@@ -1444,7 +1475,7 @@ try-handshakes-add-try-handshakes : (t : ℕ) → try-handshakes-lts.Need-add-tr
 try-handshakes-add-try-handshakes t c =
     let s = c .before .before .before .before .before .before .before .before in
     let w = s .pre .1 .1 .1 in
-    let some = ahead.positive _ (c .before .before .before .before .before .before .if1 .left) in
+    let some = positive _ (c .before .before .before .before .before .before .if1 .left) in
     omega (arith, w, some)
 
 try-handshakes-sub-try-handshakes : (t : ℕ) → try-handshakes-lts.Need-sub-try-handshakes (
@@ -1456,7 +1487,7 @@ try-handshakes-sub-try-handshakes : (t : ℕ) → try-handshakes-lts.Need-sub-tr
 try-handshakes-sub-try-handshakes t c =
     let s = c .before .before .before .before .before .before .before .before in
     let w = s .pre .1 .1 .1 in
-    let some = ahead.positive _ (c .before .before .before .before .before .before .if1 .left) in
+    let some = positive _ (c .before .before .before .before .before .before .if1 .left) in
     some
 
 try-handshakes-try-handshakes-requires : (t : ℕ) → try-handshakes-lts.Need-try-handshakes-requires (
@@ -1468,7 +1499,7 @@ try-handshakes-try-handshakes-requires : (t : ℕ) → try-handshakes-lts.Need-t
 try-handshakes-try-handshakes-requires t c κs =
     let s = c .before .before .before .before .before .before .before .before in
     let w = s .pre .1 .1 .1 in
-    let some = ahead.positive _ (c .before .before .before .before .before .before .if1 .left) in
+    let some = positive _ (c .before .before .before .before .before .before .if1 .left) in
     (omega (arith, s .pre .0, some), (s .pre .1 .0, (rw (c .before .before .try-partner .ensures .1) (s .pre .1 .1 .0), (omega (arith, w, some), w .1))))
 
 try-handshakes-returns-3 : (t : ℕ) → try-handshakes-lts.Need-returns-3 (
@@ -1480,8 +1511,80 @@ try-handshakes-returns-3 : (t : ℕ) → try-handshakes-lts.Need-returns-3 (
 try-handshakes-returns-3 t c =
     let s = c .before .before .before .before .before .before .before .before .before in
     let w = s .pre .1 .1 .1 in
-    let some = ahead.positive _ (c .before .before .before .before .before .before .before .if1 .left) in
+    let some = positive _ (c .before .before .before .before .before .before .before .if1 .left) in
     (ahead.shaken-miss _ _ (pairsIn (s .args .count) (drop (s .args .others) (s .args .right .now))) (s .args .left .now) (s .args .at) (s .args .rows) (c .before .before .before .before .before .before .before .if1 .left) _ (sym (c .before .before .if2 .left) ∙ c .before .before .before .try-partner .ensures .0) (rw (c .before .before .before .try-partner .ensures .1) at (c .try-handshakes .ensures .0)), c .try-handshakes .ensures .1 ∙ c .before .before .before .try-partner .ensures .1)
+
+try-left-sub-q : (t : ℕ) → try-left-lts.Need-sub-q (
+  rows-from-reads.Asked,
+  rows-from-reads.Learnt,
+  try-rows-below t,
+  try-rows.Post,
+) (try-left-at t) try-left.Post
+try-left-sub-q t c =
+    let s = c .before in
+    let y = s .pre .1 .1 .0 in
+    omega (arith, y .held .whole)
+
+try-left-element-copy-out-q : (t : ℕ) → try-left-lts.Need-element-copy-out-q (
+  rows-from-reads.Asked,
+  rows-from-reads.Learnt,
+  try-rows-below t,
+  try-rows.Post,
+) (try-left-at t) try-left.Post
+try-left-element-copy-out-q t c =
+    let s = c .before in
+    let y = s .pre .1 .1 .0 in
+    omega (arith, y .held .whole, y .held .within, y .size)
+
+try-left-sub-rows-from : (t : ℕ) → try-left-lts.Need-sub-rows-from (
+  rows-from-reads.Asked,
+  rows-from-reads.Learnt,
+  try-rows-below t,
+  try-rows.Post,
+) (try-left-at t) try-left.Post
+try-left-sub-rows-from t c =
+    let s = c .before .before in
+    let y = s .pre .1 .1 .0 in
+    omega (arith, y .held .whole)
+
+try-left-element-copy-out-rows-from : (t : ℕ) → try-left-lts.Need-element-copy-out-rows-from (
+  rows-from-reads.Asked,
+  rows-from-reads.Learnt,
+  try-rows-below t,
+  try-rows.Post,
+) (try-left-at t) try-left.Post
+try-left-element-copy-out-rows-from t c =
+    let s = c .before .before in
+    let y = s .pre .1 .1 .0 in
+    omega (arith, y .held .whole, y .held .within, y .size)
+
+try-left-rows-from-requires : (t : ℕ) → try-left-lts.Need-rows-from-requires (
+  rows-from-reads.Asked,
+  rows-from-reads.Learnt,
+  try-rows-below t,
+  try-rows.Post,
+) (try-left-at t) try-left.Post
+try-left-rows-from-requires t c κs = c .before .before .before .pre .1 .0 .left
+
+try-left-try-rows-requires : (t : ℕ) → try-left-lts.Need-try-rows-requires (
+  rows-from-reads.Asked,
+  rows-from-reads.Learnt,
+  try-rows-below t,
+  try-rows.Post,
+) (try-left-at t) try-left.Post
+try-left-try-rows-requires t c κs =
+    let s = c .before .before .before .before .before in
+    let y = s .pre .1 .1 .0 in
+    (omega (arith, s .pre .0), (s .pre .1 .0, (y, (c .before .rows-from .ensures .0 .0, s .pre .1 .1 .1))))
+
+try-left-returns : (t : ℕ) → try-left-lts.Need-returns (
+  rows-from-reads.Asked,
+  rows-from-reads.Learnt,
+  try-rows-below t,
+  try-rows.Post,
+) (try-left-at t) try-left.Post
+unfolding targetsOf
+try-left-returns t c = (rw (c .before .before .rows-from .ensures .1) at (c .try-rows .ensures .0), c .try-rows .ensures .1)
 
 try-partner-partner-requires : (t : ℕ) → try-partner-lts.Need-partner-requires (
   partner-reads.Asked,
@@ -1533,6 +1636,78 @@ try-partner-returns-2 : (t : ℕ) → try-partner-lts.Need-returns-2 (
   try-rows.Post,
 ) (try-partner-at t) try-partner.Post
 try-partner-returns-2 t c = (ahead.nobody-tried _ _ (sym (c .enum-told .given .1) ∙ c .before .before .partner .ensures), refl)
+
+try-right-sub-p : (t : ℕ) → try-right-lts.Need-sub-p (
+  rows-from-reads.Asked,
+  rows-from-reads.Learnt,
+  try-rows-below t,
+  try-rows.Post,
+) (try-right-at t) try-right.Post
+try-right-sub-p t c =
+    let s = c .before in
+    let y = s .pre .1 .1 .0 in
+    omega (arith, y .held .whole)
+
+try-right-element-copy-out-p : (t : ℕ) → try-right-lts.Need-element-copy-out-p (
+  rows-from-reads.Asked,
+  rows-from-reads.Learnt,
+  try-rows-below t,
+  try-rows.Post,
+) (try-right-at t) try-right.Post
+try-right-element-copy-out-p t c =
+    let s = c .before in
+    let y = s .pre .1 .1 .0 in
+    omega (arith, y .held .whole, y .held .within, y .size)
+
+try-right-sub-rows-from : (t : ℕ) → try-right-lts.Need-sub-rows-from (
+  rows-from-reads.Asked,
+  rows-from-reads.Learnt,
+  try-rows-below t,
+  try-rows.Post,
+) (try-right-at t) try-right.Post
+try-right-sub-rows-from t c =
+    let s = c .before .before in
+    let y = s .pre .1 .1 .0 in
+    omega (arith, y .held .whole)
+
+try-right-element-copy-out-rows-from : (t : ℕ) → try-right-lts.Need-element-copy-out-rows-from (
+  rows-from-reads.Asked,
+  rows-from-reads.Learnt,
+  try-rows-below t,
+  try-rows.Post,
+) (try-right-at t) try-right.Post
+try-right-element-copy-out-rows-from t c =
+    let s = c .before .before in
+    let y = s .pre .1 .1 .0 in
+    omega (arith, y .held .whole, y .held .within, y .size)
+
+try-right-rows-from-requires : (t : ℕ) → try-right-lts.Need-rows-from-requires (
+  rows-from-reads.Asked,
+  rows-from-reads.Learnt,
+  try-rows-below t,
+  try-rows.Post,
+) (try-right-at t) try-right.Post
+try-right-rows-from-requires t c κs = c .before .before .before .pre .1 .0 .right
+
+try-right-try-rows-requires : (t : ℕ) → try-right-lts.Need-try-rows-requires (
+  rows-from-reads.Asked,
+  rows-from-reads.Learnt,
+  try-rows-below t,
+  try-rows.Post,
+) (try-right-at t) try-right.Post
+try-right-try-rows-requires t c κs =
+    let s = c .before .before .before .before .before in
+    let y = s .pre .1 .1 .0 in
+    (omega (arith, s .pre .0), (s .pre .1 .0, (y, (c .before .rows-from .ensures .0 .0, s .pre .1 .1 .1))))
+
+try-right-returns : (t : ℕ) → try-right-lts.Need-returns (
+  rows-from-reads.Asked,
+  rows-from-reads.Learnt,
+  try-rows-below t,
+  try-rows.Post,
+) (try-right-at t) try-right.Post
+unfolding targetsOf
+try-right-returns t c = (rw (c .before .before .rows-from .ensures .1) at (c .try-rows .ensures .0), c .try-rows .ensures .1)
 
 abbrev try-rows-Inv-loop : try-rows-lts.InvT-loop
 try-rows-Inv-loop labels left right sizes run₀ len grid at rows wanted shown mover other f at₀ rows₀ before₀ run at' rows' before = (run ≡ run₀) × ahead.Trying (λ to. judged labels left right (treeOf f) (jointOf (take len run₀) ▸ stepOf (shown .0) (pairOf (targetsOf mover to other)))) (wanted .0) grid at rows at' rows' before
@@ -1720,43 +1895,40 @@ try-rows-returns-2 : (t : ℕ) → try-rows-lts.Need-returns-2 (
 ) (try-rows-at t) try-rows.Post try-rows-Inv-loop try-rows-μ-loop
 try-rows-returns-2 t c = (ahead.trying-end _ _ _ _ _ _ _ _ (c .before .loop .inv .1) (c .loop-test .left), c .before .loop .inv .0)
 
-pub +forward+holds+judge+look+modal+try-handshakes+try-partner+try-rows-spec :
+pub +forward+holds+judge+look+modal+try-both+try-handshakes+try-left+try-partner+try-right+try-rows-spec :
     {M : Type 1} → statement M
-+forward+holds+judge+look+modal+try-handshakes+try-partner+try-rows-spec =
++forward+holds+judge+look+modal+try-both+try-handshakes+try-left+try-partner+try-right+try-rows-spec =
     close
     μ-forward
     μ-holds
     μ-judge
     μ-look
     μ-modal
+    μ-try-both
     μ-try-handshakes
+    μ-try-left
     μ-try-partner
+    μ-try-right
     μ-try-rows
     (λ t. forward-lts.spec (
-      rows-from-reads.Asked,
-      rows-from-reads.Learnt,
-      try-rows-below t,
-      try-rows.Post,
+      try-left-below t,
+      try-left.Post,
+      try-right-below t,
+      try-right.Post,
       is-silent-reads.Asked,
       is-silent-reads.Learnt,
-      try-handshakes-below t,
-      try-handshakes.Post,
+      try-both-below t,
+      try-both.Post,
     )
     (forward-at t)
     forward.Post
-    (forward-sub-p t)
-    (forward-element-copy-out-p t)
-    (forward-sub-q t)
-    (forward-element-copy-out-q t)
-    (forward-rows-from-requires t)
-    (forward-try-rows-requires t)
+    (forward-try-left-requires t)
     (forward-returns t)
-    (forward-rows-from-requires-2 t)
-    (forward-try-rows-requires-2 t)
+    (forward-try-right-requires t)
     (forward-returns-2 t)
     (forward-is-silent-requires t)
     (forward-returns-3 t)
-    (forward-try-handshakes-requires t)
+    (forward-try-both-requires t)
     (forward-returns-4 t))
     (λ t. holds-lts.spec (
       is-binary-reads.Asked,
@@ -1871,6 +2043,22 @@ pub +forward+holds+judge+look+modal+try-handshakes+try-partner+try-rows-spec :
     (modal-sub-holds t)
     (modal-holds-requires t)
     (modal-returns-5 t))
+    (λ t. try-both-lts.spec (
+      rows-from-reads.Asked,
+      rows-from-reads.Learnt,
+      try-handshakes-below t,
+      try-handshakes.Post,
+    )
+    (try-both-at t)
+    try-both.Post
+    (try-both-sub-rows-from t)
+    (try-both-element-copy-out-rows-from t)
+    (try-both-rows-from-requires t)
+    (try-both-sub-rows-from-2 t)
+    (try-both-element-copy-out-rows-from-2 t)
+    (try-both-rows-from-requires-2 t)
+    (try-both-try-handshakes-requires t)
+    (try-both-returns t))
     (λ t. try-handshakes-lts.spec (
       try-partner-below t,
       try-partner.Post,
@@ -1889,6 +2077,21 @@ pub +forward+holds+judge+look+modal+try-handshakes+try-partner+try-rows-spec :
     (try-handshakes-sub-try-handshakes t)
     (try-handshakes-try-handshakes-requires t)
     (try-handshakes-returns-3 t))
+    (λ t. try-left-lts.spec (
+      rows-from-reads.Asked,
+      rows-from-reads.Learnt,
+      try-rows-below t,
+      try-rows.Post,
+    )
+    (try-left-at t)
+    try-left.Post
+    (try-left-sub-q t)
+    (try-left-element-copy-out-q t)
+    (try-left-sub-rows-from t)
+    (try-left-element-copy-out-rows-from t)
+    (try-left-rows-from-requires t)
+    (try-left-try-rows-requires t)
+    (try-left-returns t))
     (λ t. try-partner-lts.spec (
       partner-reads.Asked,
       partner-reads.Learnt,
@@ -1903,6 +2106,21 @@ pub +forward+holds+judge+look+modal+try-handshakes+try-partner+try-rows-spec :
     (try-partner-enum-told t)
     (try-partner-returns t)
     (try-partner-returns-2 t))
+    (λ t. try-right-lts.spec (
+      rows-from-reads.Asked,
+      rows-from-reads.Learnt,
+      try-rows-below t,
+      try-rows.Post,
+    )
+    (try-right-at t)
+    try-right.Post
+    (try-right-sub-p t)
+    (try-right-element-copy-out-p t)
+    (try-right-sub-rows-from t)
+    (try-right-element-copy-out-rows-from t)
+    (try-right-rows-from-requires t)
+    (try-right-try-rows-requires t)
+    (try-right-returns t))
     λ t. try-rows-lts.spec (
       rows-before-reads.Asked,
       rows-before-reads.Learnt,
