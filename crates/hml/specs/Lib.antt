@@ -13,6 +13,7 @@ pub mod Real
 pub mod Joining
 pub mod Split
 pub mod Distinct
+pub mod Numbered
 -- table 1 and theorem 1: the quotient keeps the verdict, for two machines and for a line of any number
 pub mod Quotient
 pub mod Theorem
