@@ -23,6 +23,15 @@ pub then-assoc : (c d e : Check) → thenOf (thenOf c d) e ≡ thenOf c (thenOf 
 then-assoc Sound d e = refl
 then-assoc (Refused r) d e = refl
 
+-- a test whose failing would have been refused, and one whose passing would
+pub passed : (b : Bool) (r : Refusal) → refusedIf (not b) r ≡ Sound → b ≡ true
+passed true r e = refl
+passed false r e = absurd (apart cc)
+
+pub unrefused : (b : Bool) (r : Refusal) → refusedIf b r ≡ Sound → b ≡ false
+unrefused true r e = absurd (apart cc)
+unrefused false r e = refl
+
 -- A check judges a type: it is sound with a proof, or refuses with a refutation.
 pub data Judges (A : Type 0) : Check → Type 0 where
   accepts : A → Judges A Sound

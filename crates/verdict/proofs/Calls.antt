@@ -9,7 +9,6 @@ use lib.ListN.{length, getD, take, drop, length-take}
 use lib.Seq.{take-take, take-at, take-length, getD-take, length-take-le}
 use lib.Dec.{eqb, ltb}
 use borrow.Author.Tests.{lt-ltb, le-ltb, ltb-false, eq-eqb, ne-eqb}
-use Rattle.hml.specs.Tests.{apart}
 use Rattle.hml.specs.Lists.{present}
 use Rattle.hml.specs.System.{Run, last, steps, stop}
 use Rattle.hml.specs.Formula.{Formula, size, nesting, holds}
@@ -24,7 +23,7 @@ use Rattle.labels.specs.declared.refusal.Refusal.{Refusal}
 use Rattle.labels.specs.declared.refusal.Refusal.the-variants.{PointBeyond}
 use Rattle.labels.specs.declared.refusal.Check.{Check}
 use Rattle.labels.specs.declared.refusal.Check.the-variants.{Sound, Refused}
-use Rattle.labels.proofs.Refusals.{then-sound, both-sound, judges}
+use Rattle.labels.proofs.Refusals.{then-sound, both-sound, passed, unrefused, judges}
 use Rattle.tables.specs.Tables.{tableOf, checkTable, fitTable, fitStates, rowsOf, threes, checkRows}
 use Rattle.tables.proofs.SoundTables.{SoundTable, sound-table, no-idle-label}
 use Rattle.halves.specs.Halves.{halfOf, isHalfRun, checkHalf, checkTableAndHalf}
@@ -80,15 +79,6 @@ module _ (k : ℕ) (f : List ℕ) (legal : Legal k nodeLimit f) where
     pub legal-fails : b ≡ false → verdict.Fails ≡ verdictOf (present (λ φ. tablesHold labels l r φ j) (formulaOf f))
     unfolding verdictOf
     legal-fails e = rw (← tables-judged, e)
-
--- a test that was not refused
-passed : (b : Bool) (x : Refusal) → refusedIf (not b) x ≡ Sound → b ≡ true
-passed true x e = refl
-passed false x e = absurd (apart cc)
-
-unrefused : (b : Bool) (x : Refusal) → refusedIf b x ≡ Sound → b ≡ false
-unrefused true x e = absurd (apart cc)
-unrefused false x e = refl
 
 -- the joint call
 module _ (k : ℕ) (l r s f : List ℕ) where

@@ -14,7 +14,7 @@ use Rattle.hml.specs.System.{Run, start, _▸_, move, idle, last}
 use Rattle.hml.specs.Formula.{Formula, top, bottom, not, and, or, fwd, back, fwdIdle, backIdle, size, nesting, labelled, holds}
 use Rattle.hml.specs.Labels.{count}
 use Rattle.labels.specs.declared.label.Labels.{Labels}
-use Rattle.labels.proofs.Slices.{rest, rest-of}
+use Rattle.labels.proofs.Slices.{rest, rest-of, rest-length}
 use Rattle.halves.specs.Runs.{stepOf}
 use Rattle.machines.specs.Joints.{jointOf}
 use Rattle.machines.proofs.Buffers.{Held, held-last, held-empty, held-shorter, held-step}
@@ -53,9 +53,6 @@ first-true a b e = both-true {a = a} {b = b} e .0
 
 second-true : (a b : Bool) → (a && b) ≡ true → b ≡ true
 second-true a b e = both-true {a = a} {b = b} e .1
-
-pub rest-length : (k : ℕ) (l : List ℕ) → length (rest k l) ≡ length l - k
-rest-length k l = ap length (rest-of k l) ∙ length-drop k l
 
 -- the size of the first tree
 tree-size : (f : List ℕ) → Tree f → treeSize f ≡ size (treeOf f)

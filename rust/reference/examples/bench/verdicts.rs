@@ -54,23 +54,12 @@ impl Pair {
 
     /// The bench of one joint verdict.
     fn bench(&self, what: &str, formula: &[u8], point: usize) -> Bench {
-        let (one, two) = (self.clone(), self.clone());
-        let (formula, again) = (formula.to_vec(), formula.to_vec());
-        Bench {
-            what: what.to_string(),
-            engine: Box::new(move || {
-                bare::joint_verdict(one.k, &one.left, &one.right, &one.run, &formula, point)
-            }),
-            plain: Box::new(move || {
-                let Pair {
-                    k,
-                    left,
-                    right,
-                    run,
-                } = &two;
-                as_bare(verdict::joint(*k, left, right, run, &again, point))
-            }),
-        }
+        on_both(
+            what,
+            (self.clone(), formula.to_vec()),
+            move |(it, f)| bare::joint_verdict(it.k, &it.left, &it.right, &it.run, f, point),
+            move |(it, f)| as_bare(verdict::joint(it.k, &it.left, &it.right, &it.run, f, point)),
+        )
     }
 }
 
@@ -93,17 +82,27 @@ impl Single {
 
     /// The bench of one half verdict.
     fn bench(&self, what: &str, formula: &[u8], point: usize) -> Bench {
-        let (one, two) = (self.clone(), self.clone());
-        let (formula, again) = (formula.to_vec(), formula.to_vec());
-        Bench {
-            what: what.to_string(),
-            engine: Box::new(move || {
-                bare::half_verdict(one.k, &one.table, &one.half, &formula, point)
-            }),
-            plain: Box::new(move || {
-                as_bare(verdict::half(two.k, &two.table, &two.half, &again, point))
-            }),
-        }
+        on_both(
+            what,
+            (self.clone(), formula.to_vec()),
+            move |(it, f)| bare::half_verdict(it.k, &it.table, &it.half, f, point),
+            move |(it, f)| as_bare(verdict::half(it.k, &it.table, &it.half, f, point)),
+        )
+    }
+}
+
+/// The bench of a call by the engine and by the plain implementation on one input.
+fn on_both<T: Clone + 'static>(
+    what: &str,
+    input: T,
+    engine: impl Fn(&T) -> u64 + 'static,
+    plain: impl Fn(&T) -> u64 + 'static,
+) -> Bench {
+    let again = input.clone();
+    Bench {
+        what: what.to_string(),
+        engine: Box::new(move || engine(&input)),
+        plain: Box::new(move || plain(&again)),
     }
 }
 
