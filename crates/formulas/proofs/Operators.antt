@@ -1,11 +1,11 @@
 -- The first tree of some bytes by its operator: what it is made of, and where its operands begin.
-use Prim.Native.Nat.{ℕ, zero, suc, _+_, _-_, _*_, _≤_, _<_}
+use Prim.Native.Nat.{ℕ, zero, suc, _+_, _*_, _≤_}
 use mathlib.Core.Path.{_≡_, refl, sym, _∙_, ap, subst}
-use mathlib.Core.List.{List, [], _∷_}
+use mathlib.Core.List.{List}
 use native.Mathlib.Omega.{arith}
 use lib.ListN.{length, getD, drop}
 use Rattle.hml.specs.Formula.{Formula, top, bottom, not, and, or, fwd, back, fwdIdle, backIdle, size}
-use Rattle.hml.specs.Spell.{spell, length-spell, parse, parse-spell}
+use Rattle.hml.specs.Spell.{spell, length-spell, parse-spell}
 use Rattle.formulas.specs.Working.{Tree, treeIn, treeOf}
 use Rattle.formulas.proofs.Measures.{spell-drop, size-some}
 

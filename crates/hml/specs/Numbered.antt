@@ -1,6 +1,6 @@
 -- The splitting of a number, from 0 on: "the first step varies slowest". With w ways at the last step, splitting i of a run is splitting
 -- i / w of the run without that step, and its way i % w.
-use mathlib.Core.Path.{_≡_, refl, sym, _∙_, ap}
+use mathlib.Core.Path.{_≡_, refl, _∙_, ap}
 use mathlib.Core.Bool.{Bool, true, false}
 use mathlib.Core.List.{List, [], _∷_, _++_, map}
 use Prim.Native.Nat.{ℕ, zero, suc, _+_, _-_, _*_, _/_, _%_, _≤_, _<_}

@@ -1,14 +1,14 @@
 -- A joint run in the first bytes of a buffer, which is lengthened by a step and shortened again.
-use Prim.Native.Nat.{ℕ, zero, suc, _+_, _-_, _*_, _/_, _%_, _≤_, _<_}
-use mathlib.Core.Path.{_≡_, refl, sym, _∙_, ap, ap₂}
+use Prim.Native.Nat.{ℕ, suc, _+_, _-_, _*_, _/_, _%_, _≤_, _<_}
+use mathlib.Core.Path.{_≡_, refl, _∙_, ap}
 use mathlib.Core.Bool.{Bool, true, false, cond}
 use mathlib.Core.List.{List, [], _∷_, _++_, append-assoc}
 use native.Mathlib.Omega.{arith}
 use native.Mathlib.Numerals.{add-one}
-use lib.ListN.{length, getD, take, drop, set, length-set, length-take}
+use lib.ListN.{length, getD, take, set, length-set}
 use lib.Seq.{take-suc-set, take-set-le, set-comm, set-set, set-getD, getD-set-same, getD-set-other, length-take-le, take-suc}
 use lib.Dec.{eqb, leb}
-use borrow.Author.Tests.{eq-eqb, ne-eqb, eqb-true, eqb-false, leb-true, leb-false}
+use borrow.Author.Tests.{eqb-true, leb-true, leb-false}
 use Rattle.hml.specs.System.{Run, start, _▸_, last, idle, move}
 use Rattle.tables.specs.Tables.{threes}
 use Rattle.halves.specs.Runs.{stepOf, lengthened}

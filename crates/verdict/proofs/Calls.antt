@@ -5,17 +5,17 @@ use mathlib.Core.Bool.{Bool, true, false, not}
 use mathlib.Core.List.{List, [], _∷_, _++_}
 use mathlib.Core.Option.{some}
 use native.Mathlib.Omega.{arith}
-use lib.ListN.{length, getD, take, drop, length-take}
+use lib.ListN.{length, getD, take}
 use lib.Seq.{take-take, take-at, take-length, getD-take, length-take-le}
-use lib.Dec.{eqb, ltb}
-use borrow.Author.Tests.{lt-ltb, le-ltb, ltb-false, eq-eqb, ne-eqb}
+use lib.Dec.{ltb}
+use borrow.Author.Tests.{lt-ltb, le-ltb, ltb-false, ne-eqb}
 use Rattle.hml.specs.Lists.{present}
 use Rattle.hml.specs.System.{Run, last, steps, stop}
 use Rattle.hml.specs.Formula.{Formula, size, nesting, holds}
 use Rattle.hml.specs.Machine.{machine}
 use Rattle.hml.specs.Labels.{pairs}
 use Rattle.hml.specs.Compose.{beside}
-use Rattle.hml.specs.Alone.{alone, holds-alone}
+use Rattle.hml.specs.Alone.{holds-alone}
 use Rattle.labels.specs.Refusals.{thenOf, firstOf, refusedIf}
 use Rattle.labels.specs.Labels.{checkPairs, pairing}
 use Rattle.labels.specs.declared.label.Labels.{Labels}

@@ -1,5 +1,5 @@
 -- The verdict of a formula from those of its operands, by its operator.
-use Prim.Native.Nat.{ℕ, zero, suc, _+_, _-_, _*_, _/_, _%_, _≤_, _<_, max}
+use Prim.Native.Nat.{ℕ, zero, suc, _+_, _-_, _*_, _/_, _≤_, _<_, max}
 use mathlib.Core.Path.{_≡_, refl, sym, _∙_, ap}
 use mathlib.Core.Logic.{_⊎_, inl, inr, ⊎-elim}
 use mathlib.Core.Bool.{Bool, true, false, cond, _&&_, _||_, not as negate, false≢true, Bool·beq}
@@ -8,20 +8,20 @@ use native.Mathlib.Omega.{arith}
 use lib.ListN.{length, getD, take, drop, length-drop}
 use lib.Seq.{drop-drop}
 use lib.Dec.{eqb, leb}
-use borrow.Author.Tests.{eq-eqb, ne-eqb, eqb-true, eqb-false, leb-true}
+use borrow.Author.Tests.{leb-true}
 use Rattle.hml.specs.Tests.{same, both-true, Decides, decides, decided-or, decided-same}
-use Rattle.hml.specs.System.{Run, start, _▸_, move, idle, last}
-use Rattle.hml.specs.Formula.{Formula, top, bottom, not, and, or, fwd, back, fwdIdle, backIdle, size, nesting, labelled, holds}
+use Rattle.hml.specs.System.{Run, _▸_, move, idle, last}
+use Rattle.hml.specs.Formula.{Formula, not, and, or, fwd, back, fwdIdle, backIdle, size, nesting, labelled, holds}
 use Rattle.hml.specs.Labels.{count}
 use Rattle.labels.specs.declared.label.Labels.{Labels}
 use Rattle.labels.proofs.Slices.{rest, rest-of, rest-length}
 use Rattle.halves.specs.Runs.{stepOf}
 use Rattle.machines.specs.Joints.{jointOf}
-use Rattle.machines.proofs.Buffers.{Held, held-last, held-empty, held-shorter, held-step}
+use Rattle.machines.proofs.Buffers.{Held, held-empty, held-shorter, held-step}
 use Rattle.formulas.specs.Working.{Tree, treeOf}
 use Rattle.formulas.specs.Sizes.{Sized, treeSize}
 use Rattle.formulas.proofs.Measures.{size-some}
-use Rattle.formulas.proofs.Operators.{At, Unary, Binary, at, tree-spell, node-room}
+use Rattle.formulas.proofs.Operators.{At, Unary, Binary, at, tree-spell}
 use Rattle.formulas.proofs.TreeSizes.{size-spell, sized-room, sized-part, sized-first}
 use Rattle.verdict.specs.declared.step.Step.the-variants as step
 use Rattle.verdict.specs.Working.{Ready, Shown, jointStep, grants, judged, statesOf}

@@ -1,9 +1,8 @@
 -- What functions inside the crate promise each other. No public promise cites this file.
 use Prim.Native.Nat.{ℕ, zero, suc, _+_, _*_, _≤_, _<_}
 use mathlib.Core.Path.{_≡_}
-use mathlib.Core.Bool.{Bool, true, false, cond, _&&_}
+use mathlib.Core.Bool.{Bool, true, cond, _&&_}
 use mathlib.Core.List.{List, [], _∷_}
-use mathlib.Core.Option.{Option}
 use lib.ListN.{length, getD, drop}
 use lib.Dec.{eqb}
 use Rattle.hml.specs.Tests.{same}
@@ -16,7 +15,6 @@ use Rattle.labels.specs.Labels.{pairing}
 use Rattle.labels.specs.declared.label.Labels.{Labels}
 use Rattle.tables.specs.Tables.{tableOf}
 use Rattle.tables.proofs.SoundTables.{SoundTable}
-use Rattle.machines.specs.Joints.{jointOf}
 use Rattle.machines.proofs.Buffers.{Held}
 use Rattle.formulas.specs.Working.{Tree, treeOf}
 use Rattle.formulas.specs.Sizes.{Sized}

@@ -2,10 +2,6 @@
 use borrow.Author.Needs.{needs}
 use Rattle.verdict.proofs.answer.verdict_on.Statement.{statement}
 use Rattle.verdict.proofs.answer.verdict_on.Tie as tie
-use Rattle.verdict.proofs.answer.verdict_on.Lts as lts
-use Rattle.formulas.proofs.sizes.tree_sizes.Reads as tree-sizes-reads
-use Rattle.verdict.proofs.grid.rows_by_state.Reads as rows-by-state-reads
-use Rattle.verdict.proofs.search.holds.Reads as holds-reads
 use mathlib.Core.Path.{refl}
 use Rattle.verdict.proofs.Calls.{legal-ready, legal-holds, legal-fails}
 

@@ -1,7 +1,6 @@
 -- The rows are sought one by one.
 use Rattle.verdict.proofs.grid.rows_before.Statement.{statement}
 use Rattle.verdict.proofs.grid.rows_before.Tie as tie
-use Rattle.verdict.proofs.grid.rows_before.Lts as lts
 use Prim.Native.Nat.{_-_}
 use native.Mathlib.Omega.{arith}
 use Rattle.verdict.proofs.GridRows.{Seeking, seek-start, seek-end, seek-hit, seek-on}

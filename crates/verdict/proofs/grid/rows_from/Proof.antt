@@ -2,7 +2,6 @@
 use borrow.Author.Needs.{needs}
 use Rattle.verdict.proofs.grid.rows_from.Statement.{statement}
 use Rattle.verdict.proofs.grid.rows_from.Tie as tie
-use Rattle.verdict.proofs.grid.rows_from.Lts as lts
 use native.Mathlib.Omega.{arith}
 use mathlib.Core.Path.{refl}
 use Rattle.verdict.specs.Working.{gridOf}

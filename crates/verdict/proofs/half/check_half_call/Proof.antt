@@ -2,13 +2,6 @@
 use borrow.Author.Needs.{needs}
 use Rattle.verdict.proofs.half.check_half_call.Statement.{statement}
 use Rattle.verdict.proofs.half.check_half_call.Tie as tie
-use Rattle.verdict.proofs.half.check_half_call.Lts as lts
-use Rattle.formulas.proofs.check.check_formula.Reads as check-formula-reads
-use Rattle.halves.proofs.half.check_half.Reads as check-half-reads
-use Rattle.labels.proofs.label.check_pairs.Reads as check-pairs-reads
-use Rattle.labels.proofs.refusal.Check.then.Reads as then-reads
-use Rattle.tables.proofs.check.check_table.Reads as check-table-reads
-use Rattle.verdict.proofs.half.is_beyond.Reads as is-beyond-reads
 use mathlib.Core.Path.{sym, _∙_}
 use Rattle.verdict.proofs.Calls.{half-refused, half-beyond, half-judged, pairs-refused, pairs-sound}
 

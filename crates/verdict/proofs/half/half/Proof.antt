@@ -2,12 +2,8 @@
 use borrow.Author.Needs.{needs}
 use Rattle.verdict.proofs.half.half.Statement.{statement}
 use Rattle.verdict.proofs.half.half.Tie as tie
-use Rattle.verdict.proofs.half.half.Lts as lts
-use Rattle.verdict.proofs.answer.verdict_on.Reads as verdict-on-reads
-use Rattle.verdict.proofs.beside.beside_still.Reads as beside-still-reads
-use Rattle.verdict.proofs.half.check_half_call.Reads as check-half-call-reads
 use native.Mathlib.Omega.{arith}
-use mathlib.Core.Path.{refl, sym, _∙_, ap}
+use mathlib.Core.Path.{sym, _∙_}
 use Rattle.verdict.specs.Verdicts.{halfVerdict}
 use Rattle.verdict.proofs.Calls.{half-call, half-room, half-tables, half-held, half-answer, answer-refused}
 

@@ -1,7 +1,6 @@
 -- Whether a point is beyond a half, by its length.
 use Rattle.verdict.proofs.half.is_beyond.Statement.{statement}
 use Rattle.verdict.proofs.half.is_beyond.Tie as tie
-use Rattle.verdict.proofs.half.is_beyond.Lts as lts
 use borrow.Author.Tests.{eq-eqb, ne-eqb}
 use Rattle.halves.specs.Cuts.{beyond}
 

@@ -2,11 +2,6 @@
 use borrow.Author.Needs.{needs}
 use Rattle.verdict.proofs.joint.check_joint_call.Statement.{statement}
 use Rattle.verdict.proofs.joint.check_joint_call.Tie as tie
-use Rattle.verdict.proofs.joint.check_joint_call.Lts as lts
-use Rattle.formulas.proofs.check.check_formula.Reads as check-formula-reads
-use Rattle.labels.proofs.label.check_pairs.Reads as check-pairs-reads
-use Rattle.labels.proofs.refusal.Check.then.Reads as then-reads
-use Rattle.machines.proofs.joint.check_joint.Reads as check-joint-reads
 use mathlib.Core.Path.{sym, _∙_}
 use Rattle.verdict.proofs.Calls.{joint-refused, joint-beyond, joint-sound, pairs-refused, pairs-sound}
 

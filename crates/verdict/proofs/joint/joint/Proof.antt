@@ -2,13 +2,9 @@
 use borrow.Author.Needs.{needs}
 use Rattle.verdict.proofs.joint.joint.Statement.{statement}
 use Rattle.verdict.proofs.joint.joint.Tie as tie
-use Rattle.verdict.proofs.joint.joint.Lts as lts
-use Rattle.bytes.proofs.copy.Reads as copy-reads
-use Rattle.verdict.proofs.answer.verdict_on.Reads as verdict-on-reads
-use Rattle.verdict.proofs.joint.check_joint_call.Reads as check-joint-call-reads
 use Prim.Native.Nat.{_+_, _*_}
 use native.Mathlib.Omega.{arith}
-use mathlib.Core.Path.{refl, sym, _∙_, ap}
+use mathlib.Core.Path.{sym, _∙_}
 use lib.ListN.{length-take}
 use lib.Seq.{length-take-le}
 use Rattle.verdict.specs.Verdicts.{jointVerdict}

@@ -1,7 +1,6 @@
 -- Whether the operator is "and" or "or".
 use Rattle.verdict.proofs.search.is_binary.Statement.{statement}
 use Rattle.verdict.proofs.search.is_binary.Tie as tie
-use Rattle.verdict.proofs.search.is_binary.Lts as lts
 use borrow.Author.Tests.{eq-eqb, ne-eqb}
 
 returns : tie.Need-returns

@@ -2,8 +2,6 @@
 use borrow.Author.Needs.{needs}
 use Rattle.verdict.proofs.step.back_fits.Statement.{statement}
 use Rattle.verdict.proofs.step.back_fits.Tie as tie
-use Rattle.verdict.proofs.step.back_fits.Lts as lts
-use mathlib.Core.Path.{sym, _∙_}
 use borrow.Author.Tests.{eq-eqb, ne-eqb}
 use Rattle.verdict.specs.Working.{grants}
 

@@ -2,8 +2,6 @@
 use borrow.Author.Needs.{needs}
 use Rattle.verdict.proofs.step.step_of.Statement.{statement}
 use Rattle.verdict.proofs.step.step_of.Tie as tie
-use Rattle.verdict.proofs.step.step_of.Lts as lts
-use Rattle.labels.proofs.label.Label.is_idle.Reads as is-idle-reads
 use mathlib.Core.Path.{sym, _∙_}
 use Rattle.verdict.specs.Working.{jointStep}
 

@@ -2,7 +2,6 @@
 use borrow.Author.Needs.{needs}
 use Rattle.verdict.proofs.step.targets.Statement.{statement}
 use Rattle.verdict.proofs.step.targets.Tie as tie
-use Rattle.verdict.proofs.step.targets.Lts as lts
 use Rattle.verdict.specs.Working.{targetsOf}
 
 enum-told : tie.Need-enum-told
