@@ -1,9 +1,9 @@
 -- Writing a casebook from its parts: document 01, "The casebook", and the order of "Calls that take parts".
 use Prim.Native.Nat.{ℕ}
 use mathlib.Core.List.{List, [], _∷_, _++_}
-use lib.ListN.{length, drop}
+use lib.ListN.{length}
 use lib.Dec.{ltb}
-use Rattle.labels.specs.Refusals.{refusedIf, firstOf}
+use Rattle.labels.specs.Refusals.{refusedIf, firstOf, outputOf}
 use Rattle.labels.specs.Labels.{checkPairs}
 use Rattle.labels.specs.declared.refusal.Check.{Check}
 use Rattle.labels.specs.declared.refusal.Check.the-variants as check
@@ -35,10 +35,6 @@ answered (check.Refused x) n = writing.Refused x
 unfoldable pub writeOf : ℕ → List ℕ → List ℕ → List ℕ → List ℕ → ℕ → Writing
 writeOf k l r j q room = answered (checkWrite k l r j q room) (length (casebookBytes k l r j q))
 
--- the lent output afterwards: "After an answer, lent bytes past it keep theirs"; after a refusal every byte keeps its value
-abbrev pub outputOf : Check → List ℕ → List ℕ → List ℕ
-outputOf check.Sound bytes out = bytes ++ drop (length bytes) out
-outputOf (check.Refused x) bytes out = out
-
+-- the lent output afterwards
 unfoldable pub writtenOf : ℕ → List ℕ → List ℕ → List ℕ → List ℕ → List ℕ → List ℕ
 writtenOf k l r j q out = outputOf (checkWrite k l r j q (length out)) (casebookBytes k l r j q) out

@@ -1,12 +1,12 @@
 -- Lists without repetition, and that a joint run's splittings are one. Needs tables without repetition.
 use mathlib.Core.Path.{_≡_, refl, sym, _∙_, ap}
 use mathlib.Core.Logic.{_⊎_, inl, inr}
-use mathlib.Core.Bool.{Bool, true, false}
+use mathlib.Core.Bool.{Bool, true, false, _&&_, _||_}
 use mathlib.Core.List.{List, [], _∷_, _++_, map, List·Memᴰ·head as here, List·Memᴰ·tail as there, List·Memᴰ·not-nil as nowhere, List·Memᴰ·append-cases as ∈-append, Memᴰ·of-map as map-∈, Memᴰ·cast as ∈-cast}
 use mathlib.Core.Option.{Option}
 use Prim.Native.Nat.{ℕ}
-use Rattle.hml.specs.Tests.{apart, Tested}
-use Rattle.hml.specs.Lists.{_∈_, only, each, ∈-only, each-∈}
+use Rattle.hml.specs.Tests.{apart, Tested, decides, decided-true}
+use Rattle.hml.specs.Lists.{_∈_, only, each, any, decided-any, each-cong, each-none, ∈-only, each-∈}
 use Rattle.hml.specs.System.{System, Step, move, idle, Run, start, _▸_, last, Pairing}
 use Rattle.hml.specs.Compose.{Way, left, right, both, joint, ways, lefts, rights, handshakes, shakes}
 use Rattle.hml.specs.Real.{halves}
@@ -37,6 +37,27 @@ module _ {A B : Type 0} where
   distinct-each g u h none = none
   distinct-each g u h (some {x = x} {xs = xs} n d) = distinct-append (u x) (distinct-each g u h d)
       (λ z i k. let t = each-∈ g xs k in n (∈-cast (h x (t .0) z i (t .2)) (t .1)))
+
+-- a search of a list without repetition for one element finds it once
+module _ {A B : Type 0} (F : A → Bool) (y : A) (found : (x : A) → F x ≡ true → x ≡ y) (g : A → B) where
+  each-once : {xs : List A} → Distinct xs → each (λ x. only (F x) (g x)) xs ≡ only (any F xs) (g y)
+  unfolding only
+  each-once none = refl
+  each-once (some {x = x} {xs = xs} n d) = go (F x) refl (any F xs) refl (each-once d)
+    where
+      missing : F x ≡ true → any F xs ≡ true → ⊥
+      missing e a = let (z, i, h) = decides (decided-any (λ z. decided-true (F z)) xs) .0 a in n (∈-cast (found x e ∙ sym (found z h)) i)
+
+      go : (b : Bool) → F x ≡ b → (a : Bool) → any F xs ≡ a → each (λ x. only (F x) (g x)) xs ≡ only (any F xs) (g y) → only b (g x) ++ each (λ x. only (F x) (g x)) xs ≡ only (b || any F xs) (g y)
+      go true e true f r = absurd (missing e f)
+      go true e false f r = rw (found x e) (ap (g y ∷_) (r ∙ rw f))
+      go false e a f r = r
+
+  -- the same beside a test that does not look at the element
+  pub each-found : (b : Bool) {t : A → Bool} → ((x : A) → t x ≡ (b && F x)) → {xs : List A} → Distinct xs → each (λ x. only (t x) (g x)) xs ≡ only (b && any F xs) (g y)
+  unfolding only
+  each-found true h {xs} d = each-cong (λ x. ap (λ b. only b (g x)) (h x)) xs ∙ each-once d
+  each-found false h {xs} d = each-none _ (λ x. ap (λ b. only b (g x)) (h x)) xs
 
 pair-path : {A B : Type 0} {u v : A × B} → u .0 ≡ v .0 → u .1 ≡ v .1 → u ≡ v
 pair-path e f i = (e i, f i)

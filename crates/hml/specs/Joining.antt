@@ -1,10 +1,11 @@
 -- Joining as a function: the one run that two matching halves give, or none.
-use mathlib.Core.Path.{_≡_, refl}
+use mathlib.Core.Path.{_≡_, refl, ap}
 use mathlib.Core.Bool.{Bool, true, false}
 use mathlib.Core.Option.{Option, none, some}
+use Prim.Native.Nat.{suc}
 use Rattle.hml.specs.Tests.{apart, Decides, proves, decides}
 use Rattle.hml.specs.Lists.{guard}
-use Rattle.hml.specs.System.{Step, move, idle, Run, start, _▸_, last, Pairing}
+use Rattle.hml.specs.System.{Step, move, idle, Run, start, _▸_, first, last, steps, Pairing}
 use Rattle.hml.specs.Compose.{shakes, decided-shakes, Match, Join, starts, _▹_, leftAlone, rightAlone, handshake, bothIdle}
 
 module _ (P : Pairing) {S T U : Type 0} (pair : S → T → U) where
@@ -58,3 +59,12 @@ module _ (P : Pairing) {S T U : Type 0} (pair : S → T → U) where
       go none v f g e = absurd (apart cc)
       go (some i) none f g e = absurd (apart cc)
       go (some i) (some u) f g e = let k : i ▸ u ≡ j = cc in rw (← k) (f i refl ▹ g u refl)
+
+  -- two runs that join start where their join starts, and have as many steps
+  pub join-first : {l : Run S} {r : Run T} {j : Run U} → Join P pair l r j → first j ≡ pair (first l) (first r)
+  join-first starts = refl
+  join-first (m ▹ w) = join-first m
+
+  pub join-steps : {l : Run S} {r : Run T} {j : Run U} → Join P pair l r j → (steps l ≡ steps j) × (steps r ≡ steps j)
+  join-steps starts = (refl, refl)
+  join-steps (m ▹ w) = let (e, f) = join-steps m in (ap suc e, ap suc f)

@@ -13,6 +13,8 @@ pub mod Real
 pub mod Joining
 pub mod Split
 pub mod Distinct
+-- elements of a list by their numbers, and the splitting of a number
+pub mod Indexed
 pub mod Numbered
 -- table 1 and theorem 1: the quotient keeps the verdict, for two machines and for a line of any number
 pub mod Quotient

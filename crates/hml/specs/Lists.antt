@@ -2,7 +2,7 @@
 use mathlib.Core.Path.{_≡_, refl, sym, _∙_, ap, fun-ext}
 use mathlib.Core.Logic.{_↔_, _⊎_, inl, inr}
 use mathlib.Core.Bool.{Bool, true, false, _&&_, _||_, or-assoc, or-false, false≢true}
-use mathlib.Core.List.{List, [], _∷_, _++_, map, List·Memᴰ}
+use mathlib.Core.List.{List, [], _∷_, _++_, map, append-nil, append-assoc, List·Memᴰ}
 use mathlib.Core.List.{List·Memᴰ·head as here, List·Memᴰ·tail as there, List·Memᴰ·not-nil as nowhere, List·Memᴰ·cases-cons as ∈-cons, List·Memᴰ·eq-of-singleton as ∈-single, List·Memᴰ·append-cases as ∈-append, Memᴰ·append-left as ∈-left, Memᴰ·append-right as ∈-right}
 use mathlib.Core.Option.{Option, none, some}
 use Prim.Native.Nat.{ℕ, _*_}
@@ -115,3 +115,29 @@ module _ {A B : Type 0} where
   pub length-each : (g : A → List B) (k : ℕ) → ((x : A) → length (g x) ≡ k) → (xs : List A) → length (each g xs) ≡ length xs * k
   length-each g k h [] = sym (zero-mul k)
   length-each g k h (x ∷ xs) = length-append (g x) (each g xs) ∙ rw (h x, length-each g k h xs, suc-mul (length xs) k) (add-comm k (length xs * k))
+
+  -- lists made from each element of two lists, of a list that was changed, or of a list that was so made
+  pub each-append : (g : A → List B) (xs ys : List A) → each g (xs ++ ys) ≡ each g xs ++ each g ys
+  each-append g [] ys = refl
+  each-append g (x ∷ xs) ys = rw (each-append g xs ys) (sym (append-assoc (g x) (each g xs) (each g ys)))
+
+  pub each-cong : {g h : A → List B} → ((x : A) → g x ≡ h x) → (xs : List A) → each g xs ≡ each h xs
+  each-cong h xs = ap (λ g. each g xs) (fun-ext h)
+
+  pub each-none : (g : A → List B) → ((x : A) → g x ≡ []) → (xs : List A) → each g xs ≡ []
+  each-none g h [] = refl
+  each-none g h (x ∷ xs) = rw (h x, each-none g h xs)
+
+  pub each-only : (g : A → List B) (b : Bool) (x : A) → each g (only b x) ≡ given b (g x)
+  unfolding only
+  each-only g true x = append-nil (g x)
+  each-only g false x = refl
+
+module _ {A B C : Type 0} where
+  pub each-map : (g : B → List C) (f : A → B) (xs : List A) → each g (map f xs) ≡ each (λ x. g (f x)) xs
+  each-map g f [] = refl
+  each-map g f (x ∷ xs) = ap (g (f x) ++_) (each-map g f xs)
+
+  pub each-each : (g : B → List C) (f : A → List B) (xs : List A) → each g (each f xs) ≡ each (λ x. each g (f x)) xs
+  each-each g f [] = refl
+  each-each g f (x ∷ xs) = each-append g (f x) (each f xs) ∙ ap (each g (f x) ++_) (each-each g f xs)

@@ -1,7 +1,8 @@
 -- The numbers of document 01, "Who can cause a refusal", and how checks follow one another.
 use Prim.Native.Nat.{ℕ}
 use mathlib.Core.Bool.{Bool, true, false}
-use mathlib.Core.List.{List, [], _∷_}
+use mathlib.Core.List.{List, [], _∷_, _++_}
+use lib.ListN.{length, drop}
 use Rattle.labels.specs.declared.refusal.Refusal.{Refusal}
 use Rattle.labels.specs.declared.refusal.Refusal.the-variants as refusal
 use Rattle.labels.specs.declared.refusal.Check.{Check}
@@ -42,3 +43,8 @@ refusedIf false r = Sound
 unfoldable pub firstOf : List Check → Check
 firstOf [] = Sound
 firstOf (c ∷ cs) = thenOf c (firstOf cs)
+
+-- a lent output afterwards: "After an answer, lent bytes past it keep theirs"; after a refusal every byte keeps its value
+abbrev pub outputOf : Check → List ℕ → List ℕ → List ℕ
+outputOf Sound bytes out = bytes ++ drop (length bytes) out
+outputOf (Refused r) bytes out = out

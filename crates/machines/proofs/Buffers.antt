@@ -6,20 +6,34 @@ use mathlib.Core.List.{List, [], _∷_, _++_, append-assoc}
 use native.Mathlib.Omega.{arith}
 use native.Mathlib.Numerals.{add-one}
 use lib.ListN.{length, getD, take, set, length-set}
-use lib.Seq.{take-suc-set, take-set-le, set-comm, set-set, set-getD, getD-set-same, getD-set-other, length-take-le, take-suc}
+use lib.Seq.{take-suc-set, take-set-le, set-comm, set-set, set-getD, getD-set-same, getD-set-other, length-take-le, take-suc, getD-take}
 use lib.Dec.{eqb, leb}
 use borrow.Author.Tests.{eqb-true, leb-true, leb-false}
 use Rattle.hml.specs.System.{Run, start, _▸_, last, idle, move}
-use Rattle.tables.specs.Tables.{threes}
+use Rattle.tables.specs.Tables.{threes, tableOf}
 use Rattle.halves.specs.Runs.{stepOf, lengthened}
-use Rattle.machines.specs.Joints.{jointOf, jointSteps}
-use Rattle.machines.proofs.JointRuns.{joint-more}
+use Rattle.halves.proofs.Runs.{NoIdleLabel}
+use Rattle.machines.specs.Joints.{jointOf, jointSteps, fitJoint, isJointRun}
+use Rattle.machines.proofs.JointRuns.{accepted-joint, joint-more, joint-stopped}
 
 -- the first n bytes of xs are a joint run, and at each of its points it ends in the states that are written there
 pub record Held (xs : List ℕ) (n : ℕ) : Type 0 where
   pub whole : n % 3 ≡ 2
   pub within : n ≤ length xs
   pub kept : (m : ℕ) → 3 * m + 2 ≤ n → last (jointOf (take (3 * m + 2) xs)) ≡ (getD xs (3 * m) 0, getD xs (3 * m + 1) 0)
+
+-- an accepted joint run is so held in its own bytes
+pub accepted-held : (k : ℕ) (l r : List ℕ) → NoIdleLabel (tableOf l) → NoIdleLabel (tableOf r) → (s : List ℕ) → fitJoint s ≡ true → isJointRun k l r s ≡ true → Held s (length s)
+accepted-held k l r fl fr s fit real = record { whole = accepted-joint k l r fl fr s fit real .whole; within = omega arith; kept = kept }
+  where
+    kept : (m : ℕ) → 3 * m + 2 ≤ length s → last (jointOf (take (3 * m + 2) s)) ≡ (getD s (3 * m) 0, getD s (3 * m + 1) 0)
+    kept m i =
+        let (f, e) = joint-stopped k l r s m fit real in
+        let a = accepted-joint k l r fl fr (take (3 * m + 2) s) f e in
+        let n : length (take (3 * m + 2) s) ≡ 3 * m + 2 = length-take-le (3 * m + 2) s i in
+        let u : length (take (3 * m + 2) s) - 2 ≡ 3 * m = omega (arith, n) in
+        let v : length (take (3 * m + 2) s) - 1 ≡ 3 * m + 1 = omega (arith, n) in
+        rw (a .ends, u, v, getD-take (3 * m + 2) s (3 * m) 0 (omega arith), getD-take (3 * m + 2) s (3 * m + 1) 0 (omega arith))
 
 -- three bytes in the place of those from n on
 abbrev pub put : List ℕ → ℕ → ℕ → ℕ → ℕ → List ℕ

@@ -1,7 +1,7 @@
 -- The cases of judging a joint run, each from what the code knows at its return.
 use Prim.Native.Nat.{ℕ, suc, _+_, _*_, _/_, _%_, _≤_, _<_}
 use mathlib.Core.Path.{_≡_, refl, sym, _∙_, ap, ap₂}
-use mathlib.Core.Bool.{Bool, true, false, _&&_, _||_}
+use mathlib.Core.Bool.{Bool, true, false, cond, _&&_, _||_}
 use mathlib.Core.List.{List, [], _∷_, map}
 use mathlib.Core.Option.{Option, none, some}
 use native.Mathlib.Omega.{arith}
@@ -10,14 +10,14 @@ use lib.Seq.{drop-cons}
 use lib.Dec.{eqb}
 use borrow.Author.Tests.{eq-eqb, ne-eqb, lt-ltb, le-ltb, le-leb, lt-leb}
 use Rattle.hml.specs.Tests.{apart}
-use Rattle.hml.specs.Lists.{any, present}
+use Rattle.hml.specs.Lists.{any, any-cong, present, guard}
 use Rattle.hml.specs.System.{System, Pairing}
 use Rattle.hml.specs.Labels.{pairs}
 use Rattle.labels.specs.Refusals.{firstOf, thenOf}
 use Rattle.labels.specs.Labels.{pairing, partnerFound}
-use Rattle.tables.specs.Tables.{statesOf, tableOf, threes, hasMove, checkTable, Ready}
+use Rattle.tables.specs.Tables.{statesOf, tableOf, threes, among, hasMove, checkTable, Ready}
 use Rattle.halves.specs.Runs.{goOn}
-use Rattle.machines.specs.Joints.{jointSteps, shakesTo, isLeftAlone, isRightAlone, isHandshake, isJointIdle, isReal, isRealStep, fitJoint, isJointRun, checkJoint, checkTablesAndJoint}
+use Rattle.machines.specs.Joints.{jointSteps, kept, shakesTo, answerTo, isLeftAlone, isRightAlone, isHandshake, isJointIdle, isReal, isRealStep, fitJoint, isJointRun, checkJoint, checkTablesAndJoint}
 use Rattle.labels.specs.declared.label.Label.{Label}
 use Rattle.labels.specs.declared.label.Labels.{Labels}
 use Rattle.labels.specs.declared.label.Partner.the-variants as partner
@@ -45,30 +45,60 @@ module _ (p q c p′ q′ : ℕ) where
     left-kept e = rw (idle, eq-eqb _ _ e)
 
 -- what a partner lookup found
-found-some : (o : Option ℕ) (b : Label) → partner.Label b ≡ partnerFound o → o ≡ some (b .0)
+pub found-some : (o : Option ℕ) (b : Label) → partner.Label b ≡ partnerFound o → o ≡ some (b .0)
 unfolding partnerFound
 found-some none b e = absurd (apart cc)
 found-some (some x) b e = let q : b ≡ record { 0 = x } = cc in ap (λ l. some (l .0)) (sym q)
 
-found-none : (o : Option ℕ) → partner.Nobody ≡ partnerFound o → o ≡ none
+pub found-none : (o : Option ℕ) → partner.Nobody ≡ partnerFound o → o ≡ none
 unfolding partnerFound
 found-none none e = refl
 found-none (some x) e = absurd (apart cc)
 
--- a handshake by one row of the left, of label a and target to
-module _ (P : Pairing) (R : System ℕ) (q p′ q′ a to : ℕ) where
-  pub elsewhere : (to ≡ p′ → ⊥) → false ≡ shakesTo P R q p′ q′ (a, to)
-  unfolding shakesTo
+-- the right's answer to one move of the left, of label a and target to
+module _ (P : Pairing) (answers : List (ℕ × ℕ)) (p′ q′ a to : ℕ) where
+  pub elsewhere : (to ≡ p′ → ⊥) → partner.Nobody ≡ partnerFound (answerTo P answers p′ q′ (a, to))
+  unfolding answerTo partnerFound
   elsewhere n = rw (ne-eqb _ _ n)
 
   module _ (there : to ≡ p′) where
-    pub nobody-shakes : partner.Nobody ≡ partnerFound (P .partner a) → false ≡ shakesTo P R q p′ q′ (a, to)
-    unfolding shakesTo
-    nobody-shakes e = rw (eq-eqb _ _ there, found-none (P .partner a) e)
+    pub nobody-answers : partner.Nobody ≡ partnerFound (P .partner a) → partner.Nobody ≡ partnerFound (answerTo P answers p′ q′ (a, to))
+    unfolding answerTo partnerFound
+    nobody-answers e = rw (eq-eqb _ _ there, found-none (P .partner a) e)
 
-    pub partner-shakes : (b : Label) → partner.Label b ≡ partnerFound (P .partner a) → {x : Bool} → x ≡ hasMove R q (b .0) q′ → x ≡ shakesTo P R q p′ q′ (a, to)
-    unfolding shakesTo
-    partner-shakes b e h = rw (eq-eqb _ _ there, found-some (P .partner a) b e) h
+    module _ (b : Label) (e : partner.Label b ≡ partnerFound (P .partner a)) where
+      pub partner-answers : among answers (b .0) q′ ≡ true → partner.Label b ≡ partnerFound (answerTo P answers p′ q′ (a, to))
+      unfolding answerTo partnerFound
+      partner-answers h = rw (eq-eqb _ _ there, found-some (P .partner a) b e, h)
+
+      pub partner-elsewhere : among answers (b .0) q′ ≡ false → partner.Nobody ≡ partnerFound (answerTo P answers p′ q′ (a, to))
+      unfolding answerTo partnerFound
+      partner-elsewhere h = rw (eq-eqb _ _ there, found-some (P .partner a) b e, h)
+
+-- is a move of the left answered?
+abbrev pub isAnswered : Pairing → List (ℕ × ℕ) → ℕ → ℕ → ℕ × ℕ → Bool
+isAnswered P answers p′ q′ m = present (λ b. true) (answerTo P answers p′ q′ m)
+
+module _ (P : Pairing) (answers : List (ℕ × ℕ)) (p′ q′ : ℕ) (m : ℕ × ℕ) where
+  pub answered : (b : Label) → partner.Label b ≡ partnerFound (answerTo P answers p′ q′ m) → isAnswered P answers p′ q′ m ≡ true
+  answered b f = rw (found-some (answerTo P answers p′ q′ m) b f)
+
+  pub unanswered : partner.Nobody ≡ partnerFound (answerTo P answers p′ q′ m) → isAnswered P answers p′ q′ m ≡ false
+  unanswered f = rw (found-none (answerTo P answers p′ q′ m) f)
+
+-- a move shakes hands exactly if it is answered
+answer-shakes : (P : Pairing) (R : System ℕ) (q p′ q′ : ℕ) (m : ℕ × ℕ) → isAnswered P (R q) p′ q′ m ≡ shakesTo P R q p′ q′ m
+unfolding shakesTo answerTo hasMove
+answer-shakes P R q p′ q′ m = go (eqb (m .1) p′) (P .partner (m .0))
+  where
+    guarded : (t : Bool) (b : ℕ) → present (λ b. true) (guard t b) ≡ t
+    guarded true b = refl
+    guarded false b = refl
+
+    go : (t : Bool) (o : Option ℕ) → present (λ b. true) (cond t (kept (λ b. among (R q) b q′) o) none) ≡ (t && present (λ b. among (R q) b q′) o)
+    go false o = refl
+    go true none = refl
+    go true (some b) = guarded (among (R q) b q′) b
 
 -- a handshake, and the four ways
 module _ (P : Pairing) (L R : System ℕ) (p q c p′ q′ : ℕ) where
@@ -76,9 +106,9 @@ module _ (P : Pairing) (L R : System ℕ) (p q c p′ q′ : ℕ) where
   unfolding isHandshake
   no-handshake e = rw e
 
-  pub search-decides : eqb c 0 ≡ true → {x : Bool} → x ≡ any (shakesTo P R q p′ q′) (L p) → x ≡ isHandshake P L R p q c p′ q′
+  pub search-decides : eqb c 0 ≡ true → (moves answers : List (ℕ × ℕ)) → moves ≡ L p → answers ≡ R q → {x : Bool} → x ≡ any (isAnswered P answers p′ q′) moves → x ≡ isHandshake P L R p q c p′ q′
   unfolding isHandshake
-  search-decides e h = rw e h
+  search-decides e moves answers f g h = rw e (h ∙ rw (f, g) (any-cong (answer-shakes P R q p′ q′) (L p)))
 
   pub by-left : (eqb q′ q && hasMove L p c p′) ≡ true → true ≡ isReal P L R p q c p′ q′
   unfolding isReal isLeftAlone

@@ -1,4 +1,5 @@
 // Joint runs: the check against two tables.
+use crate::handshake::answer_to;
 use labels::label::Label;
 use labels::label::Labels;
 use labels::label::Partner;
@@ -15,7 +16,7 @@ ghost use lib.ListN.{length, getD};
 ghost use Rattle.hml.specs.Labels.{pairs};
 ghost use Rattle.labels.specs.Labels.{pairing};
 ghost use Rattle.tables.specs.Tables.{rowsOf, tableOf, hasMove, Rising, Ready};
-ghost use Rattle.machines.specs.Joints.{shakesTo, isHandshake, isJointIdle, isReal, isJointRun, checkTablesAndJoint};
+ghost use Rattle.machines.specs.Joints.{isHandshake, isJointIdle, isReal, isJointRun, checkTablesAndJoint};
 
 // The check of two tables and of a joint run of them: the tables' numbers, then 3 and 8.
 pub fn check_joint(labels: Labels, left: &[u8], right: &[u8], run: &[u8]) -> Check
@@ -140,29 +141,16 @@ fn is_handshake(
     if !label.is_silent() {
         return false;
     }
+    let answers = rows_leaving(right, from.right);
     let mut rows = rows_leaving(left, from.left);
     while 3 <= rows.len() {
-        if shakes_hands(labels, rows, right, from.right, to) {
-            return true;
+        match answer_to(labels, Label(rows[1]), rows[2], answers, to.left, to.right) {
+            Partner::Label(_) => return true,
+            Partner::Nobody => {}
         }
         rows = &rows[3..];
     }
     false
-}
-
-// Does the first of these rows of the left lead to its target, and a row of the right, by the partner of its label, to the other?
-fn shakes_hands(labels: Labels, rows: &[u8], right: &[u8], from: u8, to: States) -> bool
-    requires { ⌜ (3 ≤ length (now rows)) × Rising (rowsOf (now right)) ⌝ }
-    ensures { λ r. ⌜ r ≡ shakesTo (pairing labels) (tableOf (now (right .entry))) from (to .left) (to .right)
-        (getD (now (rows .entry)) 1 0, getD (now (rows .entry)) 2 0) ⌝ }
-{
-    if rows[2] != to.left {
-        return false;
-    }
-    match labels.partner(Label(rows[1])) {
-        Partner::Label(partner) => has_row(right, from, partner, to.right),
-        Partner::Nobody => false,
-    }
 }
 
 // Label 255, and both states kept.

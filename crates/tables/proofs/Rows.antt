@@ -13,7 +13,7 @@ use Rattle.hml.specs.Tests.{apart, same, Decides, decided-iff, decided-and, dec
 use Rattle.hml.specs.Lists.{_∈_, any, only, each, any-map, decided-any}
 use Rattle.hml.specs.System.{System}
 use Rattle.hml.specs.Machine.{Row, machine}
-use Rattle.tables.specs.Tables.{threes, rowsOf, hasMove, rowsFrom, bytesOf, rowBelow, leaving, Rising, none, one, more}
+use Rattle.tables.specs.Tables.{threes, rowsOf, among, hasMove, rowsFrom, bytesOf, rowBelow, leaving, Rising, none, one, more}
 use Rattle.tables.specs.Working.{below}
 use Rattle.tables.proofs.Chunks.{rowBytes, threes-chunks, chunks-length, chunks-whole, chunks-take, chunks-drop}
 
@@ -228,7 +228,7 @@ part-whole t start end h k = simp (length-take, length-drop) (omega (arith, leng
 
 -- the test passes exactly for the system's moves
 pub hasMove-decides : (M : System ℕ) (p a q : ℕ) → Decides ((a, q) ∈ M p) (hasMove M p a q)
-unfolding hasMove
+unfolding hasMove among
 hasMove-decides M p a q = decided-iff
     (λ t. ∈-cast (λ i. (sym (t .2 .0) i, sym (t .2 .1) i)) (t .1))
     (λ i. ((a, q), i, (refl, refl)))

@@ -3,7 +3,7 @@
 use Prim.Native.Nat.{ℕ, zero, suc, _+_, _-_, _*_, _/_, _%_, _≤_, _<_}
 use mathlib.Core.Path.{_≡_}
 use mathlib.Core.Bool.{Bool, true, false, cond, _&&_, _||_, not}
-use mathlib.Core.List.{List, [], _∷_}
+use mathlib.Core.List.{List, [], _∷_, map}
 use lib.ListN.{length, getD}
 use lib.Dec.{eqb, leb, ltb}
 use Rattle.hml.specs.Tests.{same}
@@ -43,9 +43,17 @@ rowsOf (n ∷ bytes) = threes bytes
 unfoldable pub tableOf : List ℕ → System ℕ
 tableOf t = machine (rowsOf t)
 
+-- the moves of rows that stand one after the other: label and target of each
+unfoldable pub movesIn : List ℕ → List (ℕ × ℕ)
+movesIn bytes = map (λ r. (r .1, r .2)) (threes bytes)
+
+-- is there a move with this label and target among these?
+unfoldable pub among : List (ℕ × ℕ) → ℕ → ℕ → Bool
+among moves a q = any (λ m. same (m .0) a && same (m .1) q) moves
+
 -- has the system a move from p with this label and target?
 unfoldable pub hasMove : System ℕ → ℕ → ℕ → ℕ → Bool
-hasMove M p a q = any (λ m. same (m .0) a && same (m .1) q) (M p)
+hasMove M p a q = among (M p) a q
 
 -- a row by its number, from 0
 abbrev pub rowStruct : Row → declared-row.Row

@@ -7,7 +7,7 @@ ghost use mathlib.Core.Bool.{_&&_};
 ghost use Prim.Native.Nat.{_≤_, _%_};
 ghost use lib.ListN.{length, getD};
 ghost use lib.Dec.{eqb};
-ghost use Rattle.tables.specs.Tables.{rowsOf, rowsFrom, bytesOf, tableOf, hasMove, Rising};
+ghost use Rattle.tables.specs.Tables.{rowsOf, rowsFrom, bytesOf, tableOf, movesIn, among, hasMove, Rising};
 ghost use Rattle.tables.specs.Working.{below};
 
 // The rows that leave a state, as the part of the table that they are. In rows that do not rise the answer is left open:
@@ -49,12 +49,20 @@ fn rows_below(table: &[u8], state: usize) -> usize
 pub fn has_row(table: &[u8], from: u8, label: Label, to: u8) -> bool
     ensures exact { λ r. ⌜ (Rising (rowsOf (now (table .entry))) → r ≡ hasMove (tableOf (now (table .entry))) from (label .0) to) ⌝ }
 {
-    let mut rows = rows_leaving(table, from);
-    while 3 <= rows.len() {
-        if leads(rows, label, to) {
+    let rows = rows_leaving(table, from);
+    leads_to(rows, label, to)
+}
+
+// Has one of these rows, whatever state it leaves, this label and target? Bytes that fill no row are none.
+pub fn leads_to(rows: &[u8], label: Label, to: u8) -> bool
+    ensures { λ r. ⌜ r ≡ among (movesIn (now (rows .entry))) (label .0) to ⌝ }
+{
+    let mut rest = rows;
+    while 3 <= rest.len() {
+        if leads(rest, label, to) {
             return true;
         }
-        rows = &rows[3..];
+        rest = &rest[3..];
     }
     false
 }

@@ -1,4 +1,6 @@
 -- The left rows of the state are tried one after the other; the measure is the bytes that are left.
+use Rattle.machines.proofs.joint.is_handshake.Statement.{statement}
+use Rattle.machines.proofs.joint.is_handshake.Tie as tie
 use borrow.Author.Needs.{needs}
 use native.Mathlib.Omega.{arith}
 use mathlib.Core.Path.{sym, _∙_}
@@ -6,18 +8,15 @@ use lib.ListN.{length}
 use borrow.Author.Tests.{not-true, not-false}
 use Rattle.labels.specs.Labels.{pairing}
 use Rattle.labels.proofs.Slices.{rest-fewer}
-use Rattle.tables.specs.Tables.{tableOf}
-use Rattle.tables.proofs.Searching.{Searching, search-start, search-end, search-hit, search-miss}
-use Rattle.machines.specs.Joints.{shakesTo}
-use Rattle.machines.proofs.Joints.{no-handshake, search-decides}
-use Rattle.machines.proofs.joint.is_handshake.Statement.{statement}
-use Rattle.machines.proofs.joint.is_handshake.Tie as tie
+use Rattle.tables.specs.Tables.{movesIn}
+use Rattle.tables.proofs.Searching.{Searching, search-rows, search-end, search-hit, search-miss, leaving-moves}
+use Rattle.machines.proofs.Joints.{isAnswered, answered, unanswered, no-handshake, search-decides}
 
 abbrev Inv-loop : tie.InvT-loop
-Inv-loop labels left right from to rows₀ rows = Searching left (from .left) (shakesTo (pairing labels) (tableOf right) (from .right) (to .left) (to .right)) rows
+Inv-loop labels left right to answers rows₀ rows = Searching (movesIn rows₀) (isAnswered (pairing labels) (movesIn answers) (to .left) (to .right)) rows
 
 abbrev μ-loop : tie.MeasureT-loop
-μ-loop labels left right from to rows₀ rows = length rows
+μ-loop labels left right to answers rows₀ rows = length rows
 
 is-silent-requires : tie.Need-is-silent-requires Inv-loop μ-loop
 is-silent-requires c κs = search needs
@@ -28,16 +27,32 @@ returns c = no-handshake _ _ _ _ _ _ _ _ (sym (c .before .is-silent .ensures) �
 rows-leaving-requires : tie.Need-rows-leaving-requires Inv-loop μ-loop
 rows-leaving-requires c κs = search needs
 
-loop-holds : tie.Need-loop-holds Inv-loop μ-loop
-loop-holds c = search-start _ _ _ _ (c .rows-leaving .ensures .1 (c .before .before .before .before .before .pre .0 .rising))
+rows-leaving-requires-2 : tie.Need-rows-leaving-requires-2 Inv-loop μ-loop
+rows-leaving-requires-2 c κs = search needs
 
-shakes-hands-requires : tie.Need-shakes-hands-requires Inv-loop μ-loop
-shakes-hands-requires c κs = (c .loop-test .taken, c .before .before .before .before .before .before .before .pre .1 .rising)
+loop-holds : tie.Need-loop-holds Inv-loop μ-loop
+loop-holds c = search-rows _ _
+
+shared-slice-read-t15 : tie.Need-shared-slice-read-t15 Inv-loop μ-loop
+shared-slice-read-t15 c = omega arith
+
+shared-slice-read-answer-to : tie.Need-shared-slice-read-answer-to Inv-loop μ-loop
+shared-slice-read-answer-to c = omega arith
+
+answer-to-requires : tie.Need-answer-to-requires Inv-loop μ-loop
+answer-to-requires c κs = search needs
+
+enum-told : tie.Need-enum-told Inv-loop μ-loop
+enum-told c = search needs
 
 returns-2 : tie.Need-returns-2 Inv-loop μ-loop
 returns-2 c =
-    search-decides _ _ _ _ _ _ _ _ (sym (c .before .before .before .before .before .before .is-silent .ensures) ∙ not-false _ (c .before .before .before .before .before .if1 .left))
-    (search-hit _ _ _ _ (c .before .before .before .loop .inv) (c .before .before .loop-test .taken) (sym (c .before .shakes-hands .ensures) ∙ c .if2 .taken))
+    search-decides _ _ _ _ _ _ _ _ (sym (c .before .before .before .before .before .before .before .before .before .before .is-silent .ensures) ∙ not-false _ (c .before .before .before .before .before .before .before .before .before .if1 .left)) _ _
+    (leaving-moves _ _ _ (c .before .before .before .before .before .before .before .rows-leaving2 .ensures .1 (c .before .before .before .before .before .before .before .before .before .before .before .before .before .pre .0 .rising))) (leaving-moves _ _ _ (c .before .before .before .before .before .before .before .before .rows-leaving .ensures .1 (c .before .before .before .before .before .before .before .before .before .before .before .before .before .pre .1 .rising)))
+    (search-hit _ _ _ (c .before .before .before .before .before .before .loop .inv) (c .before .before .before .before .before .loop-test .taken) (answered _ _ _ _ _ _ (sym (c .enum-told .given .1) ∙ c .before .before .answer-to .ensures)))
+
+enum-told-2 : tie.Need-enum-told-2 Inv-loop μ-loop
+enum-told-2 c = search needs
 
 sub-rows : tie.Need-sub-rows Inv-loop μ-loop
 sub-rows c = omega arith
@@ -49,13 +64,16 @@ part-rows-end : tie.Need-part-rows-end Inv-loop μ-loop
 part-rows-end c = omega arith
 
 loop-less : tie.Need-loop-less Inv-loop μ-loop
-loop-less c = rest-fewer 3 (c .before .before .before .before .loop .rows .now) (omega arith) (c .before .before .before .loop-test .taken)
+loop-less c = rest-fewer 3 (c .before .before .before .before .before .before .before .loop .rows .now) (omega arith) (c .before .before .before .before .before .before .loop-test .taken)
 
 loop-again : tie.Need-loop-again Inv-loop μ-loop
-loop-again c = search-miss _ _ _ _ (c .before .before .before .before .loop .inv) (c .before .before .before .loop-test .taken) (sym (c .before .before .shakes-hands .ensures) ∙ c .before .if2 .left)
+loop-again c = search-miss _ _ _ (c .before .before .before .before .before .before .before .loop .inv) (c .before .before .before .before .before .before .loop-test .taken) (unanswered _ _ _ _ _ (sym (c .before .enum-told2 .given .1) ∙ c .before .before .before .answer-to .ensures))
 
 returns-3 : tie.Need-returns-3 Inv-loop μ-loop
-returns-3 c = search-decides _ _ _ _ _ _ _ _ (sym (c .before .before .before .before .is-silent .ensures) ∙ not-false _ (c .before .before .before .if1 .left)) (search-end _ _ _ _ (c .before .loop .inv) (c .loop-test .left))
+returns-3 c =
+    search-decides _ _ _ _ _ _ _ _ (sym (c .before .before .before .before .before .is-silent .ensures) ∙ not-false _ (c .before .before .before .before .if1 .left)) _ _
+    (leaving-moves _ _ _ (c .before .before .rows-leaving2 .ensures .1 (c .before .before .before .before .before .before .before .before .pre .0 .rising))) (leaving-moves _ _ _ (c .before .before .before .rows-leaving .ensures .1 (c .before .before .before .before .before .before .before .before .pre .1 .rising)))
+    (search-end _ _ _ (c .before .loop .inv) (c .loop-test .left))
 
 pub is-handshake-spec : {M : Type 1} → statement M
 is-handshake-spec =
@@ -66,9 +84,14 @@ is-handshake-spec =
     is-silent-requires
     returns
     rows-leaving-requires
+    rows-leaving-requires-2
     loop-holds
-    shakes-hands-requires
+    shared-slice-read-t15
+    shared-slice-read-answer-to
+    answer-to-requires
+    enum-told
     returns-2
+    enum-told-2
     sub-rows
     part-rows-start
     part-rows-end

@@ -1,0 +1,11 @@
+pub mod StepWays
+pub mod Options
+pub mod Counts
+pub mod LogRuns
+pub mod Joined
+pub mod JoinCalls
+pub mod Outcomes
+pub mod SplitCalls
+pub mod Unrolling
+pub mod AllSplittings
+pub mod Published

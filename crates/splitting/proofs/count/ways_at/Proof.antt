@@ -1,0 +1,35 @@
+-- The rows that leave the step's states have their moves.
+use borrow.Author.Needs.{needs}
+use Rattle.splitting.proofs.count.ways_at.Statement.{statement}
+use Rattle.splitting.proofs.count.ways_at.Tie as tie
+use mathlib.Core.Path.{_∙_, ap}
+use lib.ListN.{length}
+use Rattle.splitting.proofs.Counts.{ways-options, options-small}
+
+joint-step-requires : tie.Need-joint-step-requires
+joint-step-requires c κs = search needs
+
+rows-leaving-requires : tie.Need-rows-leaving-requires
+rows-leaving-requires c κs = search needs
+
+rows-leaving-requires-2 : tie.Need-rows-leaving-requires-2
+rows-leaving-requires-2 c κs = search needs
+
+count-ways-requires : tie.Need-count-ways-requires
+count-ways-requires c κs = search needs
+
+returns : tie.Need-returns
+returns c =
+    let e = ways-options _ _ _ _ _ (c .before .before .before .before .before .before .before .before .pre .0) _ (c .before .before .before .before .joint-step .ensures) _ _ (c .before .before .rows-leaving .ensures .1 (c .before .before .before .before .before .before .before .before .pre .0 .left .rising)) (c .before .rows-leaving2 .ensures .1 (c .before .before .before .before .before .before .before .before .pre .0 .right .rising)) in
+    let n = c .count-ways .ensures ∙ ap length e in
+    (n, options-small _ _ _ _ _ (c .before .before .before .before .before .before .before .before .pre .0) _ n)
+
+pub ways-at-spec : {M : Type 1} → statement M
+ways-at-spec =
+    tie.close
+    (tie.spec
+    joint-step-requires
+    rows-leaving-requires
+    rows-leaving-requires-2
+    count-ways-requires
+    returns)

@@ -1,0 +1,4 @@
+pub mod Splittings
+pub mod Joinings
+pub mod Working
+pub mod Matching

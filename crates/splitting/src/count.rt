@@ -1,0 +1,84 @@
+// How many splittings a joint run has.
+use crate::ways::count_ways;
+use crate::ways::joint_step;
+use labels::label::Labels;
+use labels::label::check_pairs;
+use labels::refusal::Check;
+use labels::refusal::Refusal;
+use machines::joint::check_joint;
+use tables::leaving::rows_leaving;
+ghost use mathlib.Core.Path.{_≡_};
+ghost use Prim.Native.Nat.{_+_, _*_, _≤_, _<_, min};
+ghost use lib.ListN.{length};
+ghost use Rattle.splitting.specs.Splittings.{splittingsOf, checkLog, countOf};
+ghost use Rattle.splitting.specs.Working.{Log, Tables, optionsAt};
+
+// How many splittings there are, at most 65,535.
+pub enum Counted {
+    Splittings(usize),
+    Refused(Refusal),
+}
+
+// How many splittings a joint run has: the parts' numbers, then 13.
+pub fn count(k: u8, left: &[u8], right: &[u8], run: &[u8]) -> Counted
+    ensures { λ r. ⌜ r ≡ countOf k (now (left .entry)) (now (right .entry)) (now (run .entry)) ⌝ }
+{
+    let labels = Labels { pairs: k };
+    match check_log(labels, left, right, run) {
+        Check::Sound => {}
+        Check::Refused(refusal) => return Counted::Refused(refusal),
+    }
+    let splittings = count_splittings(labels, left, right, run);
+    if 65535 < splittings {
+        return Counted::Refused(Refusal::TooManySplittings);
+    }
+    Counted::Splittings(splittings)
+}
+
+// The parts' numbers, in record order.
+fn check_log(labels: Labels, left: &[u8], right: &[u8], run: &[u8]) -> Check
+    ensures { λ r. ⌜ r ≡ checkLog (labels .pairs) (now (left .entry)) (now (right .entry)) (now (run .entry)) ⌝ }
+{
+    match check_pairs(labels.pairs) {
+        Check::Sound => check_joint(labels, left, right, run),
+        Check::Refused(refusal) => Check::Refused(refusal),
+    }
+}
+
+// The product of the steps' ways, which stays at 65,536 once it is there.
+fn count_splittings(labels: Labels, left: &[u8], right: &[u8], run: &[u8]) -> usize
+    requires { ⌜ Log (labels .pairs) (now left) (now right) (now run) ⌝ }
+    ensures { λ r. ⌜ r ≡ min (length (splittingsOf (labels .pairs) (now (left .entry)) (now (right .entry)) (now (run .entry)))) 65536 ⌝ }
+{
+    let steps = run.len() / 3;
+    let mut splittings: usize = 1;
+    let mut i: usize = 0;
+    while i < steps {
+        splittings = capped(splittings * ways_at(labels, left, right, run, i));
+        i += 1;
+    }
+    splittings
+}
+
+fn capped(n: usize) -> usize
+    ensures { λ r. ⌜ r ≡ min n 65536 ⌝ }
+{
+    if 65536 < n {
+        return 65536;
+    }
+    n
+}
+
+// How many ways step i has.
+fn ways_at(labels: Labels, left: &[u8], right: &[u8], run: &[u8], i: usize) -> usize
+    requires { ⌜ Tables (labels .pairs) (now left) (now right) ⌝ }
+    requires { ⌜ 3 * i + 4 < length (now run) ⌝ }
+    ensures exact { λ r. ⌜ r ≡ length (optionsAt (labels .pairs) (now (left .entry)) (now (right .entry)) (now (run .entry)) i) ⌝ }
+    ensures few { λ r. ⌜ r ≤ 10 ⌝ }
+{
+    let step = joint_step(run, i);
+    let before = step.before;
+    let left_rows = rows_leaving(left, before.left);
+    let right_rows = rows_leaving(right, before.right);
+    count_ways(labels, left_rows, right_rows, step)
+}
