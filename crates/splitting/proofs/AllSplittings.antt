@@ -18,7 +18,7 @@ use Rattle.tables.specs.Tables.{tableOf}
 use Rattle.halves.specs.Halves.{halfBytes, halfOf}
 use Rattle.machines.specs.Joints.{jointOf}
 use Rattle.splitting.specs.Splittings.{splittingsOf, checkLog, checkCount, leftHalf, rightHalf, halfLength, countOf}
-use Rattle.splitting.specs.Joinings.{joinOf, joinBytes, checkHalves}
+use Rattle.joining.specs.Joinings.{joinOf, joinBytes, checkHalves}
 use Rattle.splitting.specs.declared.count.Counted.the-variants as count
 use Rattle.splitting.proofs.LogRuns.{sound-log, sound-halves, left-read, right-read, runs-join, runs-accepted, run-accepted, halves-join, bytes-joined, joined-read, nth, nth-joins, nth-length, all-numbered, numbered-once}
 use Rattle.splitting.proofs.Outcomes.{SplitGives, JoinGives, split-checked, split-given, room-gives, join-gives, join-given, count-answered}

@@ -22,10 +22,11 @@ use Rattle.halves.specs.Runs.{stepOf}
 use Rattle.machines.specs.Joints.{jointOf}
 use Rattle.machines.proofs.Buffers.{Held, held-empty, held-step}
 use Rattle.splitting.specs.Splittings.{splittingsOf}
-use Rattle.splitting.specs.Working.{Tables, Log, stepHere, waysHere, optionsAt}
-use Rattle.splitting.specs.declared.ways.JointStep.{JointStep}
-use Rattle.splitting.proofs.StepWays.{ways-few}
-use Rattle.splitting.proofs.Options.{options-listed}
+use Rattle.ways.specs.StepWays.{waysHere}
+use Rattle.splitting.specs.Working.{Tables, Log, stepHere, optionsAt}
+use Rattle.ways.specs.declared.step.JointStep.{JointStep}
+use Rattle.ways.proofs.RowWays.{ways-few}
+use Rattle.ways.proofs.Options.{options-listed}
 
 -- the ways of step i, by the rows that leave its states
 module _ (labels : Labels) (l r s : List ℕ) (i : ℕ) (t : Tables (labels .pairs) l r) where

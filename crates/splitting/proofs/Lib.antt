@@ -1,9 +1,5 @@
-pub mod StepWays
-pub mod Options
 pub mod Counts
 pub mod LogRuns
-pub mod Joined
-pub mod JoinCalls
 pub mod Outcomes
 pub mod SplitCalls
 pub mod Unrolling

@@ -31,7 +31,7 @@ use Rattle.machines.proofs.JointRuns.{AcceptedJoint, accepted-joint, joint-read
 use Rattle.splitting.specs.Splittings.{splittingsOf, checkLog, leftHalf, rightHalf, halfLength}
 use Rattle.machines.proofs.Buffers.{Held, accepted-held}
 use Rattle.splitting.specs.Working.{Log}
-use Rattle.splitting.specs.Joinings.{joinOf, halvesMatch, joinBytes, checkHalves}
+use Rattle.joining.specs.Joinings.{joinOf, halvesMatch, joinBytes, checkHalves}
 
 -- a half run has a state, and two bytes for each step
 pub half-length : (x : Run ℕ) → length (halfBytes x) ≡ 2 * steps x + 1

@@ -14,10 +14,10 @@ use Rattle.labels.specs.declared.refusal.Check.the-variants as check
 use Rattle.labels.specs.declared.refusal.Check.the-variants.{Sound}
 use Rattle.labels.proofs.Refusals.{both-sound, unrefused}
 use Rattle.splitting.specs.Splittings.{splittingsOf, checkLog, checkCount, checkNumber, checkSplit, leftHalf, rightHalf, halfLength, counted, halved, splitOf, leftOutput, rightOutput}
-use Rattle.splitting.specs.Joinings.{joinBytes, checkHalves, checkJoin, joined, joiningOf, joinOutput}
+use Rattle.joining.specs.Joinings.{joinBytes, checkHalves, checkJoin, joined, joiningOf, joinOutput}
 use Rattle.splitting.specs.declared.count.Counted.the-variants as count
 use Rattle.splitting.specs.declared.split.Splitting.the-variants as splitting
-use Rattle.splitting.specs.declared.join.Joining.the-variants as joining
+use Rattle.joining.specs.declared.join.Joining.the-variants as joining
 use Rattle.splitting.proofs.LogRuns.{nth-length}
 
 -- what a call of the split answers for the lent outputs x and y: the length of the halves a and b, with which the outputs then begin

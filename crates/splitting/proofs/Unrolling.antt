@@ -22,9 +22,10 @@ use Rattle.halves.specs.declared.step.Step.{Step}
 use Rattle.halves.specs.declared.step.Step.the-variants as step
 use Rattle.halves.specs.declared.step.Move.{Move}
 use Rattle.splitting.specs.Splittings.{splittingsOf, leftHalf, rightHalf, halfLength}
-use Rattle.splitting.specs.declared.ways.JointStep.{JointStep}
-use Rattle.splitting.specs.declared.ways.Way.{Way}
-use Rattle.splitting.specs.Working.{Steps, Log, stepHere, optionsAt, wayAt, wayStruct, chosen, stepMeant, labelByte, targetByte, putStep, wholeLeft, wholeRight}
+use Rattle.ways.specs.declared.step.JointStep.{JointStep}
+use Rattle.ways.specs.declared.step.Way.{Way}
+use Rattle.ways.specs.StepWays.{Steps, wayStruct, chosen}
+use Rattle.splitting.specs.Working.{Log, stepHere, optionsAt, wayAt, stepMeant, labelByte, targetByte, putStep, wholeLeft, wholeRight}
 use Rattle.splitting.proofs.Counts.{upTo, splitsUpTo, up-to-start, up-to-end, states-before, one-step, step-splits}
 use Rattle.splitting.proofs.LogRuns.{nth-length}
 

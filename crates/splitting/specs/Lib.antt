@@ -1,4 +1,2 @@
 pub mod Splittings
-pub mod Joinings
 pub mod Working
-pub mod Matching

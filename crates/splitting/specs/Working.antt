@@ -1,30 +1,22 @@
 -- What functions inside the crate promise each other. No public promise cites this file.
-use Prim.Native.Nat.{ℕ, _+_, _*_, _/_, _%_}
-use mathlib.Core.Path.{_≡_}
-use mathlib.Core.Bool.{Bool, true, cond, _&&_}
-use mathlib.Core.List.{List, [], _∷_, _++_}
-use mathlib.Core.Option.{Option, none, some}
+use Prim.Native.Nat.{ℕ, _+_, _*_, _%_}
+use mathlib.Core.List.{List, _++_}
 use lib.ListN.{length, getD, set, drop}
-use lib.Dec.{eqb}
 use Rattle.hml.specs.Tests.{tested-ℕ}
-use Rattle.hml.specs.Lists.{only, each, given}
 use Rattle.hml.specs.System as theory
-use Rattle.hml.specs.System.{Pairing, move, idle}
+use Rattle.hml.specs.System.{move, idle}
 use Rattle.hml.specs.Split.{options}
 use Rattle.hml.specs.Labels.{pairs}
-use Rattle.tables.specs.Tables.{tableOf, among}
+use Rattle.tables.specs.Tables.{tableOf}
 use Rattle.tables.proofs.SoundTables.{SoundTable}
 use Rattle.halves.specs.Runs.{stepOf}
-use Rattle.halves.specs.Steps.{stepStruct}
 use Rattle.halves.specs.declared.step.Step.{Step}
 use Rattle.halves.specs.declared.step.Step.the-variants as step
-use Rattle.machines.specs.Joints.{answerTo}
 use Rattle.machines.proofs.JointRuns.{AcceptedJoint}
 use Rattle.machines.proofs.Buffers.{Held}
 use Rattle.splitting.specs.Splittings.{leftHalf, rightHalf}
-use Rattle.splitting.specs.declared.ways.States.{States}
-use Rattle.splitting.specs.declared.ways.JointStep.{JointStep}
-use Rattle.splitting.specs.declared.ways.Way.{Way}
+use Rattle.ways.specs.StepWays.{Steps, chosen}
+use Rattle.ways.specs.declared.step.JointStep.{JointStep}
 
 -- two tables that no check refuses
 pub record Tables (k : ℕ) (l r : List ℕ) : Type 0 where
@@ -44,41 +36,6 @@ stepHere s i = record {
   label = record { 0 = getD s (3 * i + 2) 0 };
   after = record { left = getD s (3 * i + 3) 0; right = getD s (3 * i + 4) 0 };
 }
-
--- the steps of the halves of one way
-abbrev pub Steps : Type 0
-Steps = theory.Step ℕ × theory.Step ℕ
-
--- a way as the program holds it
-unfoldable pub wayStruct : Steps → Way
-wayStruct w = record { left = stepStruct (w .0); right = stepStruct (w .1) }
-
--- the way of a number; beyond the last both halves idle
-abbrev pub chosen : List Steps → ℕ → Steps
-chosen ways n = getD ways n (idle, idle)
-
--- the left's move m and the right's answer to it, by one of the moves rs, in a handshake to the states v
-module _ (P : Pairing) (rs : List (ℕ × ℕ)) (v : States) where
-  abbrev pub answeredBy : ℕ × ℕ → Option ℕ → List Steps
-  answeredBy m none = []
-  answeredBy m (some b) = (move (m .0) (m .1), move b (v .right)) ∷ []
-
-  abbrev pub shakenBy : ℕ × ℕ → List Steps
-  shakenBy m = answeredBy m (answerTo P rs (v .left) (v .right) m)
-
-module _ (P : Pairing) (ls rs : List (ℕ × ℕ)) (s : JointStep) where
-  -- the ways of a step, by the moves ls and rs of its states: handshakes
-  unfoldable pub handshakes : List Steps
-  handshakes = given (eqb (s .label .0) 0) (each (shakenBy P rs (s .after)) ls)
-
-  -- the right alone, then handshakes
-  unfoldable pub rightWays : List Steps
-  rightWays = only (eqb (s .after .left) (s .before .left) && among rs (s .label .0) (s .after .right)) (idle, move (s .label .0) (s .after .right)) ++ handshakes
-
-  -- a joint idle is one way; else the left alone, then the right alone, then handshakes
-  unfoldable pub waysHere : List Steps
-  waysHere = cond (eqb (s .label .0) 255) ((idle, idle) ∷ [])
-      (only (eqb (s .after .right) (s .before .right) && among ls (s .label .0) (s .after .left)) (move (s .label .0) (s .after .left), idle) ++ rightWays)
 
 -- the splittings of step i of a joint run's bytes, from the states before it
 unfoldable pub optionsAt : ℕ → List ℕ → List ℕ → List ℕ → ℕ → List Steps

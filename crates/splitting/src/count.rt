@@ -1,12 +1,12 @@
 // How many splittings a joint run has.
-use crate::ways::count_ways;
-use crate::ways::joint_step;
+use crate::step::joint_step;
 use labels::label::Labels;
 use labels::label::check_pairs;
 use labels::refusal::Check;
 use labels::refusal::Refusal;
 use machines::joint::check_joint;
 use tables::leaving::rows_leaving;
+use ways::count::count_ways;
 ghost use mathlib.Core.Path.{_≡_};
 ghost use Prim.Native.Nat.{_+_, _*_, _≤_, _<_, min};
 ghost use lib.ListN.{length};

@@ -1,6 +1,5 @@
-// Splittings of a joint run into two half runs: how many there are, each by its number, and joining, the reverse. Document 01,
-// "Machines and labels".
+// Splittings of a joint run into two half runs: how many there are, and each by its number. Document 01, "A splitting chooses one way
+// for each step".
 pub mod count;
-pub mod join;
 pub mod split;
-mod ways;
+mod step;

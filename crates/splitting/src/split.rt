@@ -1,15 +1,15 @@
 // The splitting of a number, written as its two halves.
 use crate::count::Counted;
 use crate::count::count;
-use crate::ways::count_ways;
-use crate::ways::joint_step;
-use crate::ways::nth_way;
+use crate::step::joint_step;
 use halves::step::Step;
 use labels::label::Label;
 use labels::label::Labels;
 use labels::refusal::Check;
 use labels::refusal::Refusal;
 use tables::leaving::rows_leaving;
+use ways::choose::nth_way;
+use ways::count::count_ways;
 ghost use mathlib.Core.Path.{_≡_};
 ghost use Prim.Native.Nat.{_+_, _*_, _/_, _≤_, _<_};
 ghost use lib.ListN.{length, getD};

@@ -1,0 +1,380 @@
+-- Joining halves step by step: the label of each joint step, the run that the first steps give, and its bytes.
+use Prim.Native.Nat.{ℕ, zero, suc, _+_, _-_, _*_, _/_, _%_, _≤_, _<_}
+use mathlib.Core.Path.{_≡_, refl, sym, _∙_, ap}
+use mathlib.Core.Bool.{Bool, true, false, cond, false≢true}
+use mathlib.Core.List.{List, [], _∷_, _++_, append-nil, append-assoc}
+use mathlib.Core.Option.{Option, none, some}
+use native.Mathlib.Omega.{arith}
+use lib.ListN.{length, getD, take, drop, set, length-append, length-drop, length-set}
+use lib.Seq.{take-add, take-all, take-at, drop-cons, drop-at, drop-drop, drop-set-lt, length-take-le, sets-eq}
+use lib.Dec.{eqb}
+use borrow.Author.Tests.{eqb-true}
+use Rattle.hml.specs.Tests.{apart, decides, denied}
+use Rattle.hml.specs.Lists.{guard, present, each, length-each}
+use Rattle.hml.specs.System.{Step, move, idle, Run, start, _▸_, last, steps, Pairing}
+use Rattle.hml.specs.Compose.{shakes, decided-shakes, paired, Join, starts, _▹_, last-join}
+use Rattle.hml.specs.Joining.{joinStep, extend, join, join-sound}
+use Rattle.hml.specs.Labels.{pairs}
+use Rattle.labels.specs.Labels.{partnerFound}
+use Rattle.labels.specs.declared.label.Label.{Label}
+use Rattle.labels.specs.declared.label.Partner.the-variants as partner
+use Rattle.halves.specs.Runs.{written, stepOf, lengthened}
+use Rattle.halves.specs.Halves.{twos, halfOf}
+use Rattle.halves.proofs.Runs.{steps-lengthened, length-written}
+use Rattle.halves.proofs.HalfRuns.{twos-chunks, half-more}
+use Rattle.tables.proofs.Chunks.{chunks-length}
+use Rattle.machines.specs.Joints.{jointBytes}
+use Rattle.machines.proofs.Buffers.{put, length-put}
+use Rattle.machines.proofs.Joints.{found-some, found-none}
+use Rattle.joining.specs.Joinings.{joinOf, halvesMatch, runBytes, joinBytes}
+use Rattle.joining.specs.Matching.{HalfBytes, jointLabel, labelFound, putJointStep, wholeRun}
+use Rattle.joining.specs.declared.join.JointLabel.the-variants as joint
+
+-- the label of the joint step of two labels, each case from what the code knows at its return
+module _ (P : Pairing) (a b : Label) where
+  pub left-idles : eqb (a .0) 255 ≡ true → joint.Label b ≡ labelFound (jointLabel P (a .0) (b .0))
+  unfolding jointLabel labelFound
+  left-idles e = rw e
+
+  module _ (moves : eqb (a .0) 255 ≡ false) where
+    pub right-idles : eqb (b .0) 255 ≡ true → joint.Label a ≡ labelFound (jointLabel P (a .0) (b .0))
+    unfolding jointLabel labelFound
+    right-idles e = rw (moves, e)
+
+    module _ (moves′ : eqb (b .0) 255 ≡ false) where
+      pub nobody-shakes : partner.Nobody ≡ partnerFound (P .partner (a .0)) → joint.NoMatch ≡ labelFound (jointLabel P (a .0) (b .0))
+      unfolding jointLabel labelFound
+      nobody-shakes f = rw (moves, moves′, denied (decided-shakes P (a .0) (b .0)) (λ e. let n = found-none _ f in apart cc))
+
+      module _ (p : Label) (f : partner.Label p ≡ partnerFound (P .partner (a .0))) where
+        pub partner-shakes : p .0 ≡ b .0 → joint.Label (record { 0 = 0 }) ≡ labelFound (jointLabel P (a .0) (b .0))
+        unfolding jointLabel labelFound
+        partner-shakes e = rw (moves, moves′, decides (decided-shakes P (a .0) (b .0)) .1 (found-some _ p f ∙ ap some e))
+
+        pub other-shakes : (p .0 ≡ b .0 → ⊥) → joint.NoMatch ≡ labelFound (jointLabel P (a .0) (b .0))
+        unfolding jointLabel labelFound
+        other-shakes n = rw (moves, moves′, denied (decided-shakes P (a .0) (b .0)) (λ e. n (let g = found-some _ p f in cc)))
+
+-- what a lookup of the label found
+label-some : (o : Option ℕ) (c : Label) → joint.Label c ≡ labelFound o → o ≡ some (c .0)
+unfolding labelFound
+label-some none c e = absurd (apart cc)
+label-some (some x) c e = let q : c ≡ record { 0 = x } = cc in ap (λ (l : Label). some (l .0)) (sym q)
+
+label-none : (o : Option ℕ) → joint.NoMatch ≡ labelFound o → o ≡ none
+unfolding labelFound
+label-none none e = refl
+label-none (some x) e = absurd (apart cc)
+
+-- the label of joint step i
+abbrev pub labelHere : ℕ → List ℕ → List ℕ → ℕ → Option ℕ
+labelHere k a b i = jointLabel (pairs k) (getD a (2 * i + 1) 0) (getD b (2 * i + 1) 0)
+
+-- writing it
+module _ (k : ℕ) (a b : List ℕ) (i : ℕ) (out : List ℕ) where
+  pub step-put : (c : Label) → joint.Label c ≡ labelFound (labelHere k a b i) → put out (3 * i + 2) (c .0) (getD a (2 * i + 2) 0) (getD b (2 * i + 2) 0) ≡ putJointStep k a b i out
+  unfolding putJointStep
+  step-put c e = rw (label-some (labelHere k a b i) c e)
+
+  pub step-none : joint.NoMatch ≡ labelFound (labelHere k a b i) → out ≡ putJointStep k a b i out
+  unfolding putJointStep
+  step-none e = rw (label-none (labelHere k a b i) e)
+
+-- a half up to step i
+abbrev pub upTo : List ℕ → ℕ → Run ℕ
+upTo a i = halfOf (take (2 * i + 1) a)
+
+-- its start state
+half-start : (a : List ℕ) → 1 ≤ length a → upTo a 0 ≡ start (getD a 0 0)
+unfolding halfOf twos lengthened
+half-start [] h = absurd (omega arith)
+half-start (p ∷ a) h = refl
+
+-- a part with two bytes more
+take-two : (l : List ℕ) (n : ℕ) → n + 2 ≤ length l → take (n + 2) l ≡ take n l ++ getD l n 0 ∷ getD l (n + 1) 0 ∷ []
+take-two l n h =
+    let e : n + 1 ≡ suc n = omega arith in
+    rw (take-add, drop-cons l n 0 (omega arith), drop-cons l (suc n) 0 (omega arith), e)
+
+-- with its next step
+half-next : (a : List ℕ) (i : ℕ) → 2 * i + 2 < length a → upTo a (i + 1) ≡ upTo a i ▸ stepOf (getD a (2 * i + 1) 0) (getD a (2 * i + 2) 0)
+half-next a i h =
+    let e : 2 * (i + 1) + 1 ≡ 2 * i + 1 + 2 = omega arith in
+    let f : 2 * i + 2 ≡ 2 * i + 1 + 1 = omega arith in
+    rw (e, f, take-two a (2 * i + 1) (omega arith)) (half-more (take (2 * i + 1) a) (getD a (2 * i + 1) 0) (getD a (2 * i + 1 + 1) 0) (omega (arith, length-take-le (2 * i + 1) a (omega arith))))
+
+-- the number of its steps
+half-steps : (a : List ℕ) → length a % 2 ≡ 1 → steps (halfOf a) ≡ length a / 2
+unfolding halfOf
+half-steps [] o = absurd (omega (arith, o))
+half-steps (p ∷ bs) o = steps-lengthened (start p) (twos bs) ∙ omega (arith, chunks-length twos-chunks bs, o)
+
+up-to-steps : (a : List ℕ) (i : ℕ) → 2 * i + 1 ≤ length a → steps (upTo a i) ≡ i
+up-to-steps a i h = let n = length-take-le (2 * i + 1) a h in half-steps (take (2 * i + 1) a) (omega (arith, n)) ∙ omega (arith, n)
+
+-- the whole half
+half-whole : (a : List ℕ) → length a % 2 ≡ 1 → upTo a (length a / 2) ≡ halfOf a
+half-whole a o = ap halfOf (take-all (2 * (length a / 2) + 1) a (omega (arith, o)))
+
+-- each step of a half run ends in the target that is written with it
+half-ends : (a : List ℕ) → HalfBytes a → (i : ℕ) → 2 * i + 2 < length a → last (upTo a i ▸ stepOf (getD a (2 * i + 1) 0) (getD a (2 * i + 2) 0)) ≡ getD a (2 * i + 2) 0
+half-ends a x i h =
+    let e : 2 * (i + 1) ≡ 2 * i + 2 = omega arith in
+    rw (← half-next a i h, ← e) (x .kept (i + 1) (omega arith))
+
+-- a written label and its targets as a joint step
+abbrev labelled : Option ℕ → ℕ × ℕ → Option (Step (ℕ × ℕ))
+labelled none u = none
+labelled (some c) u = some (stepOf c u)
+
+-- two written steps form the joint step of their label and targets, since an idle is written with the state that it keeps
+step-joined : (P : Pairing) (l r : Run ℕ) (a p b q : ℕ) → last (l ▸ stepOf a p) ≡ p → last (r ▸ stepOf b q) ≡ q
+    → joinStep P paired (last l) (last r) (stepOf a p) (stepOf b q) ≡ labelled (jointLabel P a b) (p, q)
+unfolding stepOf jointLabel
+step-joined P l r a p b q h g = go (eqb a 255) (eqb b 255) refl refl h g
+  where
+    shaken : (t : Bool) → guard t (move 0 (p, q)) ≡ labelled (guard t 0) (p, q)
+    shaken true = refl
+    shaken false = refl
+
+    go : (x y : Bool) → eqb a 255 ≡ x → eqb b 255 ≡ y → last (l ▸ cond x idle (move a p)) ≡ p → last (r ▸ cond y idle (move b q)) ≡ q
+        → joinStep P paired (last l) (last r) (cond x idle (move a p)) (cond y idle (move b q)) ≡ labelled (cond x (some b) (cond y (some a) (guard (shakes P a b) 0))) (p, q)
+    go true true e f h g = rw f
+    go true false e f h g = rw (f, h)
+    go false true e f h g = rw (e, g)
+    go false false e f h g = shaken (shakes P a b)
+
+-- runs that join have the steps of the run that they give
+joined-steps : {P : Pairing} {l r : Run ℕ} {j : Run (ℕ × ℕ)} → Join P paired l r j → (steps l ≡ steps j) × (steps r ≡ steps j)
+joined-steps starts = (refl, refl)
+joined-steps (m ▹ w) = let (x, y) = joined-steps m in (ap suc x, ap suc y)
+
+-- is there a run?
+abbrev pub matched : Option (Run (ℕ × ℕ)) → Bool
+matched o = present (λ j. true) o
+
+-- a run that another step lengthens was there
+matched-more : (P : Pairing) (o : Option (Run (ℕ × ℕ))) (u : Option (Step (ℕ × ℕ))) → matched (extend P paired o u) ≡ true → matched o ≡ true
+matched-more P none u e = e
+matched-more P (some j) u e = refl
+
+-- the joint run of the first i steps, if they match
+abbrev pub joinedTo : ℕ → List ℕ → List ℕ → ℕ → Option (Run (ℕ × ℕ))
+joinedTo k a b i = join (pairs k) paired (upTo a i) (upTo b i)
+
+module _ (k : ℕ) (a b : List ℕ) (x : HalfBytes a) (y : HalfBytes b) where
+  joined-start : joinedTo k a b 0 ≡ some (start (getD a 0 0, getD b 0 0))
+  unfolding join
+  joined-start = rw (half-start a (omega (arith, x .odd)), half-start b (omega (arith, y .odd)))
+
+  -- the next joint step
+  joined-next : (i : ℕ) → 2 * i + 2 < length a → 2 * i + 2 < length b
+      → joinedTo k a b (i + 1) ≡ extend (pairs k) paired (joinedTo k a b i) (labelled (labelHere k a b i) (getD a (2 * i + 2) 0, getD b (2 * i + 2) 0))
+  unfolding join
+  joined-next i h g = rw (
+    half-next a i h,
+    half-next b i g,
+    step-joined (pairs k) (upTo a i) (upTo b i) (getD a (2 * i + 1) 0) (getD a (2 * i + 2) 0) (getD b (2 * i + 1) 0) (getD b (2 * i + 2) 0) (half-ends a x i h) (half-ends b y i g),
+  )
+
+  -- halves that match up to a step match up to each step before it
+  matched-before : (n i : ℕ) → 2 * (i + n) + 1 ≤ length a → 2 * (i + n) + 1 ≤ length b → matched (joinedTo k a b (i + n)) ≡ true → matched (joinedTo k a b i) ≡ true
+  matched-before zero i h g e = let z : i + 0 ≡ i = omega arith in rw z at e
+  matched-before (suc n) i h g e =
+      let s : i + suc n ≡ i + n + 1 = omega arith in
+      let u = labelled (labelHere k a b (i + n)) (getD a (2 * (i + n) + 2) 0, getD b (2 * (i + n) + 2) 0) in
+      matched-before n i (omega arith) (omega arith) (matched-more (pairs k) (joinedTo k a b (i + n)) u (rw (s, joined-next (i + n) (omega arith) (omega arith)) at e))
+
+  -- halves that match are equally long
+  equally-long : matched (joinOf k a b) ≡ true → length a ≡ length b
+  unfolding joinOf
+  equally-long m = go (join (pairs k) paired (halfOf a) (halfOf b)) refl m
+    where
+      go : (o : Option (Run (ℕ × ℕ))) → join (pairs k) paired (halfOf a) (halfOf b) ≡ o → matched o ≡ true → length a ≡ length b
+      go none e m = absurd (false≢true m)
+      go (some j) e m = let (u, v) = joined-steps (join-sound (pairs k) paired (halfOf a) (halfOf b) j e) in omega (arith, u, v, half-steps a (x .odd), half-steps b (y .odd), x .odd, y .odd)
+
+  -- 16 for halves that are not
+  pub match-uneven : (length a ≡ length b → ⊥) → false ≡ halvesMatch k a b
+  unfolding halvesMatch
+  match-uneven n = go (matched (joinOf k a b)) refl
+    where
+      go : (t : Bool) → matched (joinOf k a b) ≡ t → false ≡ t
+      go true e = absurd (n (equally-long e))
+      go false e = refl
+
+  -- the loop: the steps before step i match
+  pub match-start : matched (joinedTo k a b 0) ≡ true
+  match-start = rw joined-start
+
+  module _ (long : length a ≡ length b) where
+    joined-whole : joinedTo k a b (length a / 2) ≡ joinOf k a b
+    unfolding joinOf
+    joined-whole = rw (half-whole a (x .odd), ap (λ (n : ℕ). upTo b (n / 2)) long, half-whole b (y .odd))
+
+    module _ (i : ℕ) (m : matched (joinedTo k a b i) ≡ true) where
+      pub match-end : length a / 2 ≤ i → i ≤ length a / 2 → true ≡ halvesMatch k a b
+      unfolding halvesMatch
+      match-end h g = let e : i ≡ length a / 2 = omega arith in sym (rw (e, joined-whole) at m)
+
+      module _ (h : i < length a / 2) where
+        pub match-on : (c : Label) → joint.Label c ≡ labelFound (labelHere k a b i) → matched (joinedTo k a b (i + 1)) ≡ true
+        match-on c f = rw (joined-next i (omega arith) (omega arith), label-some (labelHere k a b i) c f) (go (joinedTo k a b i) (stepOf (c .0) (getD a (2 * i + 2) 0, getD b (2 * i + 2) 0)) m)
+          where
+            go : (o : Option (Run (ℕ × ℕ))) (u : Step (ℕ × ℕ)) → matched o ≡ true → matched (extend (pairs k) paired o (some u)) ≡ true
+            go none u e = e
+            go (some j) u e = refl
+
+        pub match-stop : joint.NoMatch ≡ labelFound (labelHere k a b i) → false ≡ halvesMatch k a b
+        unfolding halvesMatch
+        match-stop f = go (matched (joinOf k a b)) refl
+          where
+            stopped : (o : Option (Run (ℕ × ℕ))) → matched (extend (pairs k) paired o none) ≡ true → ⊥
+            stopped none e = false≢true e
+            stopped (some j) e = false≢true e
+
+            go : (t : Bool) → matched (joinOf k a b) ≡ t → false ≡ t
+            go false e = refl
+            go true e =
+                let n = length a / 2 - (i + 1) in
+                let s : i + 1 + n ≡ length a / 2 = omega arith in
+                let m′ = matched-before n (i + 1) (omega (arith, x .odd)) (omega (arith, x .odd)) (rw (s, joined-whole) e) in
+                absurd (stopped (joinedTo k a b i) (rw (joined-next i (omega arith) (omega arith), label-none (labelHere k a b i) f) at m′))
+
+-- the bytes of a list of steps and one more
+each-more : {A : Type 0} (f : A → List ℕ) (xs : List A) (x : A) → each f (xs ++ x ∷ []) ≡ each f xs ++ f x
+each-more f [] x = append-nil (f x)
+each-more f (y ∷ xs) x = ap (f y ++_) (each-more f xs x) ∙ sym (append-assoc (f y) (each f xs) (f x))
+
+-- the bytes of a joint run with one more step, which ends in the targets that are written with it
+bytes-more : (j : Run (ℕ × ℕ)) (c p q : ℕ) → last (j ▸ stepOf c (p, q)) ≡ (p, q) → jointBytes (j ▸ stepOf c (p, q)) ≡ jointBytes j ++ c ∷ p ∷ q ∷ []
+unfolding jointBytes stepOf written
+bytes-more j c p q h = go (eqb c 255) refl h
+  where
+    go : (t : Bool) → eqb c 255 ≡ t → last (j ▸ cond t idle (move c (p, q))) ≡ (p, q) → jointBytes (j ▸ cond t idle (move c (p, q))) ≡ jointBytes j ++ c ∷ p ∷ q ∷ []
+    go true e h = rw (h, each-more _ (written j) (255, (p, q)), eqb-true c 255 e)
+    go false e h = rw (each-more _ (written j) (c, (p, q)))
+
+-- two start states, and three bytes a step
+bytes-length : (j : Run (ℕ × ℕ)) → length (jointBytes j) ≡ 3 * steps j + 2
+unfolding jointBytes
+bytes-length j = omega (arith, length-each (λ (e : ℕ × (ℕ × ℕ)). e .0 ∷ e .1 .0 ∷ e .1 .1 ∷ []) 3 (λ e. refl) (written j), length-written j)
+
+-- three bytes written behind the bytes b
+put-three : (b xs : List ℕ) (n c p q : ℕ) → length b ≡ n → n + 3 ≤ length xs → put (b ++ drop n xs) n c p q ≡ (b ++ c ∷ p ∷ q ∷ []) ++ drop (n + 3) xs
+put-three b xs n c p q e h =
+    let second : n + 1 ≡ suc n = omega arith in
+    let third : n + 2 ≡ suc (suc n) = omega arith in
+    rw (second, third) (sets-eq (c ∷ p ∷ q ∷ []) (b ++ drop n xs) n (omega (arith, length-append b (drop n xs), length-drop n xs))
+    ∙ rw (take-at b (drop n xs) n e, ← drop-drop 3 n (b ++ drop n xs), drop-at b (drop n xs) n e, drop-drop 3 n xs, append-assoc))
+
+-- the output when the loop begins: the two start states
+abbrev pub begunBy : List ℕ → List ℕ → List ℕ → List ℕ
+begunBy a b out = set (set out 0 (getD a 0 0)) 1 (getD b 0 0)
+
+-- the loop has written the joint run of the first i steps over what it began with
+pub record Joining (k : ℕ) (a b begun out : List ℕ) (i : ℕ) : Type 0 where
+  pub within : i ≤ length a / 2
+  pub kept : length out ≡ length begun
+  pub same : out ≡ runBytes (joinedTo k a b i) ++ drop (3 * i + 2) begun
+
+-- halves that match
+module _ (k : ℕ) (a b : List ℕ) (x : HalfBytes a) (y : HalfBytes b) (m : halvesMatch k a b ≡ true) where
+  -- they are equally long
+  pub match-long : length a ≡ length b
+  unfolding halvesMatch
+  match-long = equally-long k a b x y m
+
+  -- the run that the first steps give: its size, and where it ends
+  joined-found : (i : ℕ) → i ≤ length a / 2 → (j : Run (ℕ × ℕ)) × (joinedTo k a b i ≡ some j) × (length (jointBytes j) ≡ 3 * i + 2)
+  unfolding halvesMatch
+  joined-found i h = go (joinedTo k a b i) refl (matched-before k a b x y n i (omega (arith, x .odd)) (omega (arith, x .odd, match-long)) (rw (s, joined-whole k a b x y match-long) m))
+    where
+      n : ℕ
+      n = length a / 2 - i
+
+      s : i + n ≡ length a / 2
+      s = omega arith
+
+      go : (o : Option (Run (ℕ × ℕ))) → joinedTo k a b i ≡ o → matched o ≡ true → (j : Run (ℕ × ℕ)) × (o ≡ some j) × (length (jointBytes j) ≡ 3 * i + 2)
+      go none e t = absurd (false≢true t)
+      go (some j) e t =
+          let (u, v) = joined-steps (join-sound (pairs k) paired (upTo a i) (upTo b i) j e) in
+          (j, refl, omega (arith, bytes-length j, u, up-to-steps a i (omega (arith, x .odd))))
+
+  -- the whole run
+  pub join-length : length (joinBytes k a b) ≡ 3 * (length a / 2) + 2
+  unfolding joinBytes
+  join-length = let (j, e, n) = joined-found (length a / 2) (omega arith) in rw (← joined-whole k a b x y match-long, e) n
+
+  -- what the first steps have written: two states, and three bytes a step
+  written-size : (i : ℕ) → i ≤ length a / 2 → length (runBytes (joinedTo k a b i)) ≡ 3 * i + 2
+  written-size i h = let (j, e, n) = joined-found i h in rw e n
+
+  -- the next step has a label, and adds it and both targets
+  written-next : (i : ℕ) → i < length a / 2 → (c : ℕ) × (labelHere k a b i ≡ some c)
+      × (runBytes (joinedTo k a b (i + 1)) ≡ runBytes (joinedTo k a b i) ++ c ∷ getD a (2 * i + 2) 0 ∷ getD b (2 * i + 2) 0 ∷ [])
+  written-next i h =
+      let (j, e, n) = joined-found i (omega arith) in
+      let (j′, e′, n′) = joined-found (i + 1) (omega arith) in
+      go (labelHere k a b i) j j′ e e′ (joined-next k a b x y i (omega (arith, x .odd)) (omega (arith, x .odd, match-long)))
+    where
+      p : ℕ
+      p = getD a (2 * i + 2) 0
+
+      q : ℕ
+      q = getD b (2 * i + 2) 0
+
+      ends : (j′ : Run (ℕ × ℕ)) → joinedTo k a b (i + 1) ≡ some j′ → last j′ ≡ (p, q)
+      ends j′ e =
+          let s : 2 * (i + 1) ≡ 2 * i + 2 = omega arith in
+          let t = last-join (pairs k) paired (join-sound (pairs k) paired (upTo a (i + 1)) (upTo b (i + 1)) j′ e) in
+          rw (x .kept (i + 1) (omega (arith, x .odd)), y .kept (i + 1) (omega (arith, x .odd, match-long)), s) at t
+
+      go : (o : Option ℕ) (j j′ : Run (ℕ × ℕ)) → joinedTo k a b i ≡ some j → joinedTo k a b (i + 1) ≡ some j′ → joinedTo k a b (i + 1) ≡ extend (pairs k) paired (joinedTo k a b i) (labelled o (p, q))
+          → (c : ℕ) × (o ≡ some c) × (runBytes (joinedTo k a b (i + 1)) ≡ runBytes (joinedTo k a b i) ++ c ∷ p ∷ q ∷ [])
+      go none j j′ e e′ f = absurd (let g = rw (e, e′) at f in apart cc)
+      go (some c) j j′ e e′ f =
+          let g : some j′ ≡ some (j ▸ stepOf c (p, q)) = rw (e, e′) at f in
+          let g′ : j′ ≡ j ▸ stepOf c (p, q) = cc in
+          (c, refl, rw (e, e′, g′) (bytes-more j c p q (rw (← g′) (ends j′ e′))))
+
+  module _ (first : List ℕ) (room : length (joinBytes k a b) ≤ length first) where
+    pub write-start : Joining k a b (begunBy a b first) (begunBy a b first) 0
+    unfolding jointBytes written
+    write-start = record { within = omega arith; kept = refl; same = rw (joined-start k a b x y) (starts first (omega (arith, join-length))) }
+      where
+        starts : (first : List ℕ) → 2 ≤ length first → begunBy a b first ≡ getD a 0 0 ∷ getD b 0 0 ∷ drop 2 (begunBy a b first)
+        starts [] h = absurd (omega arith)
+        starts (z ∷ []) h = absurd (omega arith)
+        starts (z ∷ z′ ∷ first) h = refl
+
+    module _ (out : List ℕ) (i : ℕ) (w : Joining k a b (begunBy a b first) out i) where
+      -- the output keeps its length
+      pub write-kept : length out ≡ length first
+      write-kept = w .kept ∙ rw (length-set, length-set)
+
+      -- there is room for step i
+      pub write-room : i < length a / 2 → (2 * i + 2 < length a) × (2 * i + 2 < length b) × (3 * i + 4 < length out)
+      write-room h = omega (arith, x .odd, match-long, join-length, write-kept)
+
+      -- step i is written
+      pub write-on : i < length a / 2 → (out′ : List ℕ) → out′ ≡ putJointStep k a b i out → Joining k a b (begunBy a b first) out′ (i + 1)
+      unfolding putJointStep
+      write-on h out′ o =
+          let (c, l, n) = written-next i h in
+          let s : 3 * (i + 1) + 2 ≡ 3 * i + 2 + 3 = omega arith in
+          let e : out′ ≡ put out (3 * i + 2) c (getD a (2 * i + 2) 0) (getD b (2 * i + 2) 0) = o ∙ rw l in
+          record {
+            within = omega arith;
+            kept = ap length e ∙ length-put out (3 * i + 2) c (getD a (2 * i + 2) 0) (getD b (2 * i + 2) 0) ∙ w .kept;
+            same = e ∙ rw (w .same, s, n) (put-three (runBytes (joinedTo k a b i)) (begunBy a b first) (3 * i + 2) c (getD a (2 * i + 2) 0) (getD b (2 * i + 2) 0) (written-size i (omega arith)) (omega (arith, w .kept, write-kept, room, join-length)));
+          }
+
+      -- all steps are written, and what stood behind them is kept
+      pub write-end : length a / 2 ≤ i → out ≡ wholeRun k a b first
+      unfolding wholeRun joinBytes
+      write-end h =
+          let e : i ≡ length a / 2 = omega (arith, w .within) in
+          let n = 3 * (length a / 2) + 2 in
+          w .same ∙ rw (e, joined-whole k a b x y match-long, join-length, drop-set-lt n (set first 0 (getD a 0 0)) 1 (getD b 0 0) (omega arith), drop-set-lt n first 0 (getD a 0 0) (omega arith))

@@ -1,0 +1,63 @@
+-- The pairs, the tables and halves, then whether the halves match.
+use borrow.Author.Needs.{needs}
+use Rattle.joining.proofs.join.check_halves.Statement.{statement}
+use Rattle.joining.proofs.join.check_halves.Tie as tie
+use mathlib.Core.Path.{sym, _∙_}
+use Rattle.joining.proofs.JoinCalls.{runs-bytes, pairs-refuse, runs-refuse, halves-sound, halves-refused}
+
+check-pairs-requires : tie.Need-check-pairs-requires
+check-pairs-requires c κs = search needs
+
+enum-told : tie.Need-enum-told
+enum-told c = search needs
+
+enum-known-refusal : tie.Need-enum-known-refusal
+enum-known-refusal c = search needs
+
+returns : tie.Need-returns
+returns c = pairs-refuse _ _ _ _ _ _ (sym (c .before .before .before .check-pairs .ensures) ∙ c .before .refusal .given .1)
+
+check-runs-requires : tie.Need-check-runs-requires
+check-runs-requires c κs = search needs
+
+enum-told-2 : tie.Need-enum-told-2
+enum-told-2 c = search needs
+
+enum-known-refusal-2 : tie.Need-enum-known-refusal-2
+enum-known-refusal-2 c = search needs
+
+returns-2 : tie.Need-returns-2
+returns-2 c =
+    let pairs = sym (c .before .before .before .before .before .before .check-pairs .ensures) ∙ c .before .before .before .before .enum-told .given .1 in
+    runs-refuse _ _ _ _ _ pairs _ (sym (c .before .before .before .check-runs .ensures) ∙ c .before .refusal2 .given .1)
+
+halves-match-requires : tie.Need-halves-match-requires
+halves-match-requires c κs = runs-bytes _ _ _ _ _ (sym (c .before .before .check-runs .ensures) ∙ c .enum-told2 .given .1)
+
+returns-3 : tie.Need-returns-3
+returns-3 c =
+    let pairs = sym (c .before .before .before .before .before .before .before .check-pairs .ensures) ∙ c .before .before .before .before .before .enum-told .given .1 in
+    let runs = sym (c .before .before .before .before .check-runs .ensures) ∙ c .before .before .enum-told2 .given .1 in
+    halves-sound _ _ _ _ _ pairs runs (sym (c .before .halves-match .ensures) ∙ c .if1 .taken)
+
+returns-4 : tie.Need-returns-4
+returns-4 c =
+    let pairs = sym (c .before .before .before .before .before .before .before .check-pairs .ensures) ∙ c .before .before .before .before .before .enum-told .given .1 in
+    let runs = sym (c .before .before .before .before .check-runs .ensures) ∙ c .before .before .enum-told2 .given .1 in
+    halves-refused _ _ _ _ _ pairs runs (sym (c .before .halves-match .ensures) ∙ c .if1 .left)
+
+pub check-halves-spec : {M : Type 1} → statement M
+check-halves-spec =
+    tie.close
+    (tie.spec
+    check-pairs-requires
+    enum-told
+    enum-known-refusal
+    returns
+    check-runs-requires
+    enum-told-2
+    enum-known-refusal-2
+    returns-2
+    halves-match-requires
+    returns-3
+    returns-4)

@@ -1,0 +1,2 @@
+pub mod Joinings
+pub mod Matching

@@ -1,0 +1,181 @@
+// Joining two halves to the joint run that they split.
+use halves::half::check_half;
+use labels::label::Label;
+use labels::label::Labels;
+use labels::label::Partner;
+use labels::label::check_pairs;
+use labels::refusal::Check;
+use labels::refusal::Refusal;
+use tables::check::check_table;
+ghost use mathlib.Core.Path.{_≡_};
+ghost use mathlib.Core.Bool.{true};
+ghost use Prim.Native.Nat.{_+_, _*_, _≤_, _<_};
+ghost use lib.ListN.{length, getD};
+ghost use Rattle.labels.specs.Labels.{pairing};
+ghost use Rattle.joining.specs.Joinings.{halvesMatch, joinBytes, checkHalves, joiningOf, joinOutput};
+ghost use Rattle.joining.specs.Matching.{HalfBytes, checkRuns, jointLabel, labelFound, putJointStep, wholeRun};
+
+// The length of the joint run, in bytes.
+pub enum Joining {
+    Joined(usize),
+    Refused(Refusal),
+}
+
+// Writes the joint run that two halves give: the tables' numbers, then 15, 16 and 18.
+pub fn join(
+    k: u8,
+    left: &[u8],
+    right: &[u8],
+    left_half: &[u8],
+    right_half: &[u8],
+    out: &mut [u8],
+) -> Joining
+    ensures { λ r. ⌜ r ≡ joiningOf k (now (left .entry)) (now (right .entry)) (now («left_half» .entry)) (now («right_half» .entry)) (length (now (out .entry))) ⌝ }
+    ensures { λ r. ⌜ now (out .exit) ≡ joinOutput k (now (left .entry)) (now (right .entry)) (now («left_half» .entry)) (now («right_half» .entry)) (now (out .entry)) ⌝ }
+{
+    let labels = Labels { pairs: k };
+    match check_halves(labels, left, right, left_half, right_half) {
+        Check::Sound => {}
+        Check::Refused(refusal) => return Joining::Refused(refusal),
+    }
+    let steps = left_half.len() / 2;
+    let len = 3 * steps + 2;
+    if out.len() < len {
+        return Joining::Refused(Refusal::OutputTooShort);
+    }
+    write_run(labels, left_half, right_half, out);
+    Joining::Joined(len)
+}
+
+// What a call judges that takes halves: the tables' numbers, then 15 for either half, then 16.
+fn check_halves(
+    labels: Labels,
+    left: &[u8],
+    right: &[u8],
+    left_half: &[u8],
+    right_half: &[u8],
+) -> Check
+    ensures { λ r. ⌜ r ≡ checkHalves (labels .pairs) (now (left .entry)) (now (right .entry)) (now («left_half» .entry)) (now («right_half» .entry)) ⌝ }
+{
+    match check_pairs(labels.pairs) {
+        Check::Sound => {}
+        Check::Refused(refusal) => return Check::Refused(refusal),
+    }
+    match check_runs(labels, left, right, left_half, right_half) {
+        Check::Sound => {}
+        Check::Refused(refusal) => return Check::Refused(refusal),
+    }
+    if halves_match(labels, left_half, right_half) {
+        return Check::Sound;
+    }
+    Check::Refused(Refusal::HalvesDoNotMatch)
+}
+
+// Both tables, then both halves. Where nothing is refused each table is judged once.
+fn check_runs(
+    labels: Labels,
+    left: &[u8],
+    right: &[u8],
+    left_half: &[u8],
+    right_half: &[u8],
+) -> Check
+    ensures { λ r. ⌜ r ≡ checkRuns (labels .pairs) (now (left .entry)) (now (right .entry)) (now («left_half» .entry)) (now («right_half» .entry)) ⌝ }
+{
+    match check_half(labels, left, left_half) {
+        Check::Sound => check_half(labels, right, right_half),
+        Check::Refused(refusal) => check_table(labels, left)
+            .then(check_table(labels, right))
+            .then(Check::Refused(refusal)),
+    }
+}
+
+// 16: are the halves equally long, and does each step match?
+fn halves_match(labels: Labels, left: &[u8], right: &[u8]) -> bool
+    requires { ⌜ HalfBytes (now left) × HalfBytes (now right) ⌝ }
+    ensures { λ r. ⌜ r ≡ halvesMatch (labels .pairs) (now (left .entry)) (now (right .entry)) ⌝ }
+{
+    if left.len() != right.len() {
+        return false;
+    }
+    let steps = left.len() / 2;
+    let mut i: usize = 0;
+    while i < steps {
+        match label_at(labels, left, right, i) {
+            JointLabel::Label(_) => {}
+            JointLabel::NoMatch => return false,
+        }
+        i += 1;
+    }
+    true
+}
+
+// The label of the joint step that two steps form, if they match.
+enum JointLabel {
+    Label(Label),
+    NoMatch,
+}
+
+// The label of joint step i.
+fn label_at(labels: Labels, left: &[u8], right: &[u8], i: usize) -> JointLabel
+    requires { ⌜ (2 * i + 2 < length (now left)) × (2 * i + 2 < length (now right)) ⌝ }
+    ensures { λ r. ⌜ r ≡ labelFound (jointLabel (pairing labels) (getD (now (left .entry)) (2 * i + 1) 0) (getD (now (right .entry)) (2 * i + 1) 0)) ⌝ }
+{
+    let at = 2 * i + 1;
+    joint_label(labels, Label(left[at]), Label(right[at]))
+}
+
+// Two idles form an idle, a move and an idle that move, two moves a silent step if their labels shake hands.
+fn joint_label(labels: Labels, left: Label, right: Label) -> JointLabel
+    ensures { λ r. ⌜ r ≡ labelFound (jointLabel (pairing labels) (left .0) (right .0)) ⌝ }
+{
+    if left.is_idle() {
+        return JointLabel::Label(right);
+    }
+    if right.is_idle() {
+        return JointLabel::Label(left);
+    }
+    match labels.partner(left) {
+        Partner::Label(partner) => {
+            if partner.0 == right.0 {
+                return JointLabel::Label(Label::SILENT);
+            }
+            JointLabel::NoMatch
+        }
+        Partner::Nobody => JointLabel::NoMatch,
+    }
+}
+
+// Writes the joint run of halves that match.
+fn write_run(labels: Labels, left: &[u8], right: &[u8], out: &mut [u8])
+    requires { ⌜ HalfBytes (now left) × HalfBytes (now right) ⌝ }
+    requires { ⌜ halvesMatch (labels .pairs) (now left) (now right) ≡ true ⌝ }
+    requires { ⌜ length (joinBytes (labels .pairs) (now left) (now right)) ≤ length (now out) ⌝ }
+    ensures { λ r. ⌜ now (out .exit) ≡ wholeRun (labels .pairs) (now (left .entry)) (now (right .entry)) (now (out .entry)) ⌝ }
+{
+    out[0] = left[0];
+    out[1] = right[0];
+    let steps = left.len() / 2;
+    let mut i: usize = 0;
+    while i < steps {
+        put_joint_step(labels, left, right, i, out);
+        i += 1;
+    }
+}
+
+// Writes joint step i: its label and both targets. An idle's target is the state that it keeps.
+fn put_joint_step(labels: Labels, left: &[u8], right: &[u8], i: usize, out: &mut [u8])
+    requires { ⌜ (2 * i + 2 < length (now left)) × (2 * i + 2 < length (now right)) ⌝ }
+    requires { ⌜ 3 * i + 4 < length (now out) ⌝ }
+    ensures { λ r. ⌜ now (out .exit) ≡ putJointStep (labels .pairs) (now (left .entry)) (now (right .entry)) i (now (out .entry)) ⌝ }
+{
+    match label_at(labels, left, right, i) {
+        JointLabel::Label(label) => {
+            let from = 2 * i + 2;
+            let to = 3 * i + 2;
+            out[to] = label.0;
+            out[to + 1] = left[from];
+            out[to + 2] = right[from];
+        }
+        JointLabel::NoMatch => {}
+    }
+}

@@ -1,0 +1,2 @@
+pub mod RowWays
+pub mod Options
