@@ -18,9 +18,15 @@ use Rattle.casebook.specs.declared.read.Reading.{Reading}
 use Rattle.casebook.specs.declared.read.Reading.the-variants as reading
 use Rattle.casebook.specs.declared.write.Writing.{Writing}
 use Rattle.casebook.specs.declared.write.Writing.the-variants as writing
+use Rattle.splitting.specs.declared.count.Counted.{Counted}
+use Rattle.splitting.specs.declared.count.Counted.the-variants as counted
+use Rattle.splitting.specs.declared.split.Splitting.{Splitting}
+use Rattle.splitting.specs.declared.split.Splitting.the-variants as splitting
+use Rattle.joining.specs.declared.join.Joining.{Joining}
+use Rattle.joining.specs.declared.join.Joining.the-variants as joining
 use Rattle.casebook.proofs.RecordLaws.{Bytes}
 use Rattle.casebook.proofs.RoundTrip.{placing}
-use Rattle.engine.specs.Answers.{refusedAs, readAnswer, placeOf, placeIn, partAnswer, writeAnswer, sideOf, cutAnswer}
+use Rattle.engine.specs.Answers.{refusedAs, readAnswer, placeOf, placeIn, partAnswer, writeAnswer, sideOf, cutAnswer, countAnswer, splitAnswer, joinAnswer}
 use Rattle.engine.specs.Working.{Placed}
 
 -- a is the answer of reading
@@ -116,3 +122,31 @@ module _ (l r x : List ℕ) (s : Side) (b point : ℕ) (e : x ≡ cutOf l r s po
       go : (t : Bool) → beyond (knownHalf l r (knownOf (sideOf b))) point ≡ t → length x ≡ cutAnswer l r b point
       go true h = absurd (n (ap length (part-is ∙ refused-empty (knownHalf l r (knownOf (sideOf b))) point .0 h)))
       go false h = rw h (ap length (e ∙ ap (λ z. cutOf l r z point) f))
+
+-- a is the answer of a count, of a split, of a join
+module _ (a r : Counted) (e : a ≡ r) where
+  pub count-done : (n : ℕ) → a ≡ counted.Splittings n → n ≡ countAnswer r
+  unfolding countAnswer
+  count-done n f = rw (← e, f)
+
+  pub count-refused : (x : Refusal) (n : ℕ) → a ≡ counted.Refused x → n ≡ refusedAs x → n ≡ countAnswer r
+  unfolding countAnswer
+  count-refused x n f g = rw (← e, f) g
+
+module _ (a r : Splitting) (e : a ≡ r) where
+  pub split-done : (n : ℕ) → a ≡ splitting.Halves n → n ≡ splitAnswer r
+  unfolding splitAnswer
+  split-done n f = rw (← e, f)
+
+  pub split-refused : (x : Refusal) (n : ℕ) → a ≡ splitting.Refused x → n ≡ refusedAs x → n ≡ splitAnswer r
+  unfolding splitAnswer
+  split-refused x n f g = rw (← e, f) g
+
+module _ (a r : Joining) (e : a ≡ r) where
+  pub join-done : (n : ℕ) → a ≡ joining.Joined n → n ≡ joinAnswer r
+  unfolding joinAnswer
+  join-done n f = rw (← e, f)
+
+  pub join-refused : (x : Refusal) (n : ℕ) → a ≡ joining.Refused x → n ≡ refusedAs x → n ≡ joinAnswer r
+  unfolding joinAnswer
+  join-refused x n f g = rw (← e, f) g

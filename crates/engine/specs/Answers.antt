@@ -16,6 +16,12 @@ use Rattle.casebook.specs.declared.read.Reading.{Reading}
 use Rattle.casebook.specs.declared.read.Reading.the-variants as reading
 use Rattle.casebook.specs.declared.write.Writing.{Writing}
 use Rattle.casebook.specs.declared.write.Writing.the-variants as writing
+use Rattle.splitting.specs.declared.count.Counted.{Counted}
+use Rattle.splitting.specs.declared.count.Counted.the-variants as counted
+use Rattle.splitting.specs.declared.split.Splitting.{Splitting}
+use Rattle.splitting.specs.declared.split.Splitting.the-variants as splitting
+use Rattle.joining.specs.declared.join.Joining.{Joining}
+use Rattle.joining.specs.declared.join.Joining.the-variants as joining
 use Rattle.verdict.specs.declared.answer.Verdict.{Verdict}
 use Rattle.verdict.specs.declared.answer.Verdict.the-variants as verdict
 
@@ -62,3 +68,18 @@ unfoldable pub verdictAnswer : Verdict → ℕ
 verdictAnswer verdict.Holds = 1
 verdictAnswer verdict.Fails = 0
 verdictAnswer (verdict.Refused x) = refusedAs x
+
+-- a count: value how many splittings there are
+unfoldable pub countAnswer : Counted → ℕ
+countAnswer (counted.Splittings n) = n
+countAnswer (counted.Refused x) = refusedAs x
+
+-- a splitting that was written: value length of each half
+unfoldable pub splitAnswer : Splitting → ℕ
+splitAnswer (splitting.Halves n) = n
+splitAnswer (splitting.Refused x) = refusedAs x
+
+-- a joint run that was written: value its length
+unfoldable pub joinAnswer : Joining → ℕ
+joinAnswer (joining.Joined n) = n
+joinAnswer (joining.Refused x) = refusedAs x

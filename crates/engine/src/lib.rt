@@ -8,7 +8,13 @@ use casebook::write::Writing;
 use casebook::write::write;
 use halves::side::Side;
 use halves::side::cut;
+use joining::join::Joining;
+use joining::join::join;
 use labels::refusal::Refusal;
+use splitting::count::Counted;
+use splitting::count::count;
+use splitting::split::Splitting;
+use splitting::split::split;
 use verdict::answer::Verdict;
 use verdict::half::half;
 use verdict::joint::joint;
@@ -18,7 +24,9 @@ ghost use lib.ListN.{length};
 ghost use Rattle.casebook.specs.Reading.{readOf};
 ghost use Rattle.casebook.specs.Writing.{writeOf, writtenOf};
 ghost use Rattle.verdict.specs.Verdicts.{jointVerdict, halfVerdict};
-ghost use Rattle.engine.specs.Answers.{refusedAs, readAnswer, placeOf, placeIn, partAnswer, writeAnswer, sideOf, cutAnswer, verdictAnswer};
+ghost use Rattle.splitting.specs.Splittings.{countOf, splitOf, leftOutput, rightOutput};
+ghost use Rattle.joining.specs.Joinings.{joiningOf, joinOutput};
+ghost use Rattle.engine.specs.Answers.{refusedAs, readAnswer, placeOf, placeIn, partAnswer, writeAnswer, sideOf, cutAnswer, verdictAnswer, countAnswer, splitAnswer, joinAnswer};
 ghost use Rattle.engine.specs.Working.{Placed};
 
 fn refused(refusal: Refusal) -> u64
@@ -163,4 +171,55 @@ pub extern "C" fn yenuslap_half_verdict(
     ensures { λ r. ⌜ r ≡ verdictAnswer (halfVerdict k (now (table .entry)) (now («half_run» .entry)) (now (formula .entry)) point) ⌝ }
 {
     verdict_value(half(k, table, half_run, formula, point))
+}
+
+// How many splittings a joint run has: value count.
+#[no_mangle]
+pub extern "C" fn yenuslap_count_splittings(k: u8, left: &[u8], right: &[u8], run: &[u8]) -> u64
+    ensures { λ r. ⌜ r ≡ countAnswer (countOf k (now (left .entry)) (now (right .entry)) (now (run .entry))) ⌝ }
+{
+    match count(k, left, right, run) {
+        Counted::Splittings(n) => n as u64,
+        Counted::Refused(refusal) => refused(refusal),
+    }
+}
+
+// Writes the halves of the splitting of a number: value length of each half.
+#[no_mangle]
+pub extern "C" fn yenuslap_split(
+    k: u8,
+    left: &[u8],
+    right: &[u8],
+    run: &[u8],
+    number: usize,
+    left_out: &mut [u8],
+    right_out: &mut [u8],
+) -> u64
+    ensures { λ r. ⌜ r ≡ splitAnswer (splitOf k (now (left .entry)) (now (right .entry)) (now (run .entry)) number (length (now («left_out» .entry))) (length (now («right_out» .entry)))) ⌝ }
+    ensures { λ r. ⌜ now («left_out» .exit) ≡ leftOutput k (now (left .entry)) (now (right .entry)) (now (run .entry)) number (now («left_out» .entry)) (length (now («right_out» .entry))) ⌝ }
+    ensures { λ r. ⌜ now («right_out» .exit) ≡ rightOutput k (now (left .entry)) (now (right .entry)) (now (run .entry)) number (length (now («left_out» .entry))) (now («right_out» .entry)) ⌝ }
+{
+    match split(k, left, right, run, number, left_out, right_out) {
+        Splitting::Halves(n) => n as u64,
+        Splitting::Refused(refusal) => refused(refusal),
+    }
+}
+
+// Writes the joint run that two halves give: value its length.
+#[no_mangle]
+pub extern "C" fn yenuslap_join(
+    k: u8,
+    left: &[u8],
+    right: &[u8],
+    left_half: &[u8],
+    right_half: &[u8],
+    out: &mut [u8],
+) -> u64
+    ensures { λ r. ⌜ r ≡ joinAnswer (joiningOf k (now (left .entry)) (now (right .entry)) (now («left_half» .entry)) (now («right_half» .entry)) (length (now (out .entry)))) ⌝ }
+    ensures { λ r. ⌜ now (out .exit) ≡ joinOutput k (now (left .entry)) (now (right .entry)) (now («left_half» .entry)) (now («right_half» .entry)) (now (out .entry)) ⌝ }
+{
+    match join(k, left, right, left_half, right_half, out) {
+        Joining::Joined(n) => n as u64,
+        Joining::Refused(refusal) => refused(refusal),
+    }
 }

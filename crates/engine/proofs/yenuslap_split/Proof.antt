@@ -1,0 +1,50 @@
+-- The split's two cases; the lent outputs are what it left.
+use borrow.Author.Needs.{needs}
+use Rattle.engine.proofs.yenuslap_split.Statement.{statement}
+use Rattle.engine.proofs.yenuslap_split.Tie as tie
+use Rattle.engine.proofs.Answers.{split-done, split-refused}
+
+split-requires : tie.Need-split-requires
+split-requires c κs = search needs
+
+enum-known-n : tie.Need-enum-known-n
+enum-known-n c = search needs
+
+enum-known-refusal : tie.Need-enum-known-refusal
+enum-known-refusal c = search needs
+
+refused-requires : tie.Need-refused-requires
+refused-requires c κs = search needs
+
+same-length : tie.Need-same-length
+same-length c = search needs
+
+same-length-2 : tie.Need-same-length-2
+same-length-2 c = search needs
+
+returns : tie.Need-returns
+returns c = (split-done _ _ (c .before .before .before .before .before .before .before .split .ensures .0) _ (c .before .n .given .1), c .before .before .before .before .before .before .before .split .ensures .1)
+
+same-length-3 : tie.Need-same-length-3
+same-length-3 c = search needs
+
+same-length-4 : tie.Need-same-length-4
+same-length-4 c = search needs
+
+returns-2 : tie.Need-returns-2
+returns-2 c = (split-refused _ _ (c .before .before .before .before .before .before .before .before .split .ensures .0) _ _ (c .before .before .refusal .given .1) (c .refused .ensures), c .before .before .before .before .before .before .before .before .split .ensures .1)
+
+pub yenuslap-split-spec : {M : Type 1} → statement M
+yenuslap-split-spec =
+    tie.close
+    (tie.spec
+    split-requires
+    enum-known-n
+    enum-known-refusal
+    refused-requires
+    same-length
+    same-length-2
+    returns
+    same-length-3
+    same-length-4
+    returns-2)
