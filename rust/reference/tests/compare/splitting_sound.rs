@@ -57,9 +57,9 @@ fn every_number_of_short_logs() {
 fn every_number_of_large_counts() {
     let mut tally = Tally::new("splittings of logs with many, every number");
     let mut random = Random::new(112);
-    for seed in 0..24 {
+    for seed in 0..48 {
         let mut shape = large_shape(&mut random, seed);
-        shape.steps = random.from_to(8, 24);
+        shape.steps = random.from_to(8, 40);
         let most = *random.pick(&[500, 2000, 8000]);
         let log = many_ways(&mut random, shape, most);
         every_splitting(&log).iter().for_each(|_| tally.note(0));
