@@ -2,8 +2,8 @@
 
 use crate::half::{read_half, HalfRun, HalfStep};
 use crate::label::{check_k, partner, IDLE, SILENT};
-use crate::run::{read_run, ways, JointRun, JointStep, Way};
-use crate::table::{read_table, Table};
+use crate::run::{read_run_and_ways, JointRun, JointStep, Way};
+use crate::table::read_table;
 use crate::Refusal;
 
 /// The largest number of splittings that are counted and named by number.
@@ -11,8 +11,8 @@ pub const MOST_SPLITTINGS: usize = 65_535;
 
 /// How many splittings a joint run has, or the first of 4; left; right; run; 13.
 pub fn count(k: u8, left: &[u8], right: &[u8], run: &[u8]) -> Result<usize, Refusal> {
-    let choices = read_choices(k, left, right, run)?;
-    Ok(counts_from(&choices.steps)?[0])
+    let (_, ways) = read_log(k, left, right, run)?;
+    Ok(counts_from(&ways)?[0])
 }
 
 /// The left and the right half of the splitting of this number, for outputs of `room` bytes, or the first of 4; left;
@@ -25,17 +25,18 @@ pub fn split(
     number: usize,
     room: [usize; 2],
 ) -> Result<[Vec<u8>; 2], Refusal> {
-    let choices = read_choices(k, left, right, run)?;
-    let counts = counts_from(&choices.steps)?;
+    let (run, ways) = read_log(k, left, right, run)?;
+    let counts = counts_from(&ways)?;
     if number >= counts[0] {
         return Err(14);
     }
     // A half is its start state and two bytes a step.
-    let length = 1 + 2 * choices.steps.len();
+    let length = 1 + 2 * run.steps.len();
     if room.iter().any(|room| *room < length) {
         return Err(18);
     }
-    Ok(choices.halves(&counts, number).map(|half| half.to_bytes()))
+    let halves = halves_by(&run, &chosen(&ways, &counts, number));
+    Ok(halves.map(|half| half.to_bytes()))
 }
 
 /// The joint run of two halves, for an output of `room` bytes, or the first of 4; left; right; 15; 16; 18.
@@ -59,48 +60,25 @@ pub fn join(
     Ok(bytes)
 }
 
-/// One step of a log: where it starts, what it is, and all ways in which it may have come about.
-struct Choice {
-    from: (u8, u8),
-    step: JointStep,
-    ways: Vec<Way>,
-}
-
-/// A log as a row of choices.
-struct Choices {
-    start: (u8, u8),
-    steps: Vec<Choice>,
-}
-
-/// Reads the parts of a call and lists the ways of each step, or gives the first of 4; left; right; run.
-fn read_choices(k: u8, left: &[u8], right: &[u8], run: &[u8]) -> Result<Choices, Refusal> {
+/// Reads the parts of a call, with the ways of each step of the log, or gives the first of 4; left; right; run.
+fn read_log(
+    k: u8,
+    left: &[u8],
+    right: &[u8],
+    run: &[u8],
+) -> Result<(JointRun, Vec<Vec<Way>>), Refusal> {
     check_k(k)?;
     let left = read_table(left, k)?;
     let right = read_table(right, k)?;
-    let run = read_run(run, &left, &right)?;
-    Ok(choices(&left, &right, &run))
-}
-
-/// The ways of each step of a sound log.
-fn choices(left: &Table, right: &Table, run: &JointRun) -> Choices {
-    let start = (run.left, run.right);
-    let mut from = start;
-    let mut steps = Vec::with_capacity(run.steps.len());
-    for step in &run.steps {
-        let ways = ways(left, right, from.0, from.1, *step);
-        let step = *step;
-        steps.push(Choice { from, step, ways });
-        from = (step.left, step.right);
-    }
-    Choices { start, steps }
+    read_run_and_ways(run, &left, &right)
 }
 
 /// How many splittings there are from each step on, and behind the last step one; 13 if over the limit. Every step has
 /// a way, so no count is above that of the whole log.
-fn counts_from(steps: &[Choice]) -> Result<Vec<usize>, Refusal> {
-    let mut counts = vec![1; steps.len() + 1];
-    for at in (0..steps.len()).rev() {
-        counts[at] = steps[at].ways.len() * counts[at + 1];
+fn counts_from(ways: &[Vec<Way>]) -> Result<Vec<usize>, Refusal> {
+    let mut counts = vec![1; ways.len() + 1];
+    for at in (0..ways.len()).rev() {
+        counts[at] = ways[at].len() * counts[at + 1];
         if counts[at] > MOST_SPLITTINGS {
             return Err(13);
         }
@@ -108,50 +86,53 @@ fn counts_from(steps: &[Choice]) -> Result<Vec<usize>, Refusal> {
     Ok(counts)
 }
 
-impl Choices {
-    /// The halves of the splitting of this number, which is below the count of all.
-    fn halves(&self, counts: &[usize], number: usize) -> [HalfRun; 2] {
-        let [mut left, mut right] = [self.start.0, self.start.1].map(|start| HalfRun {
-            start,
-            steps: Vec::with_capacity(self.steps.len()),
+/// The way that the splitting of this number, which is below the count, takes at each step. The ways of a step are
+/// passed over in order, each with all splittings of the later steps, up to the one with the splitting that is sought.
+fn chosen(ways: &[Vec<Way>], counts: &[usize], number: usize) -> Vec<Way> {
+    let mut before = number;
+    let mut chosen = Vec::with_capacity(ways.len());
+    for (ways, later) in ways.iter().zip(&counts[1..]) {
+        let mut at = 0;
+        while before >= *later {
+            before -= later;
+            at += 1;
+        }
+        chosen.push(ways[at]);
+    }
+    chosen
+}
+
+/// The left and the right half of a log whose steps came about in these ways.
+fn halves_by(run: &JointRun, chosen: &[Way]) -> [HalfRun; 2] {
+    let [mut left, mut right] = [run.left, run.right].map(|start| HalfRun {
+        start,
+        steps: Vec::with_capacity(run.steps.len()),
+    });
+    for (step, way) in run.steps.iter().zip(chosen) {
+        let [own, other] = half_labels(step.label, *way);
+        // Who idles keeps the state, and so the step's target is right for both in every way.
+        left.steps.push(HalfStep {
+            label: own,
+            to: step.left,
         });
-        // The splittings that are still to be passed over.
-        let mut before = number;
-        for (choice, later) in self.steps.iter().zip(&counts[1..]) {
-            let way = pass_over(&choice.ways, *later, &mut before);
-            let [own, other] = half_steps(choice, way);
-            left.steps.push(own);
-            right.steps.push(other);
-        }
-        [left, right]
+        right.steps.push(HalfStep {
+            label: other,
+            to: step.right,
+        });
     }
+    [left, right]
 }
 
-/// Goes through the ways in order, each with all splittings of the later steps, and stops at the one with the splitting
-/// that is sought.
-fn pass_over(ways: &[Way], later: usize, before: &mut usize) -> Way {
-    for way in ways {
-        if *before < later {
-            return *way;
-        }
-        *before -= later;
-    }
-    unreachable!("a number below the count has a way at each step")
-}
-
-/// What the left and the right machine do in a step by this way.
-fn half_steps(choice: &Choice, way: Way) -> [HalfStep; 2] {
-    let (p, q) = choice.from;
-    let step = choice.step;
-    let takes = |label, to| HalfStep { label, to };
+/// The labels of the left and the right half of a step of this label that came about in this way.
+fn half_labels(label: u8, way: Way) -> [u8; 2] {
     match way {
-        Way::LeftAlone => [takes(step.label, step.left), takes(IDLE, q)],
-        Way::RightAlone => [takes(IDLE, p), takes(step.label, step.right)],
-        Way::Handshake(label) => {
-            let answer = partner(label).expect("only labels with a partner shake hands");
-            [takes(label, step.left), takes(answer, step.right)]
+        Way::LeftAlone => [label, IDLE],
+        Way::RightAlone => [IDLE, label],
+        Way::Handshake(own) => {
+            let answer = partner(own).expect("only labels with a partner shake hands");
+            [own, answer]
         }
-        Way::JointIdle => [takes(IDLE, p), takes(IDLE, q)],
+        Way::JointIdle => [IDLE, IDLE],
     }
 }
 

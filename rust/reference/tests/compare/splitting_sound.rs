@@ -86,12 +86,15 @@ fn many_numbers_of_long_logs() {
             joins_back(&log, &halves);
             tally.note(0);
         }
-        beyond_is_refused(&log, count, &mut tally);
+        for number in [count, *random.pick(&numbers_beyond(count))] {
+            assert_eq!(split_exactly(&log, number), Err(14), "{number}");
+            tally.note(14);
+        }
         counts.push(count);
     }
     let large = counts.iter().filter(|count| **count > 20_000).count();
     assert!(large > 200, "{large} logs with over 20,000 splittings");
-    tally.at_least(10_000, &[0, 14]);
+    tally.at_least(3000, &[0, 14]);
 }
 
 /// Logs that go on past 65,535 splittings: 13 by count and by every number, and halves still join to them.
