@@ -69,10 +69,10 @@ uint64_t yenuslap_count_splittings(uint8_t k,
                                    const uint8_t *right, size_t right_len,
                                    const uint8_t *run, size_t run_len);
 
-/* Writes the two halves of the splitting of a number, counted from 0, into left_out and right_out:
- * value length of each half, or refused as by yenuslap_count_splittings; 14; 18 last, if either output
- * is shorter than a half; when refused no byte of either output changes, after an answer the bytes of
- * each past its half keep their values, and the parts are only read. */
+/* Writes the two halves of the splitting that has this number, counted from 0, into left_out and
+ * right_out: value length of each half, or refused as by yenuslap_count_splittings; 14; 18 last, if
+ * either output is shorter than a half; when refused no byte of either output changes, after an answer
+ * the bytes of each past its half keep their values, and the parts are only read. */
 uint64_t yenuslap_split(uint8_t k,
                         const uint8_t *left, size_t left_len,
                         const uint8_t *right, size_t right_len,

@@ -112,9 +112,9 @@ pub fn large_shape(random: &mut Random, seed: usize) -> Shape {
 /// The label by which the chain of `looping_log` goes on; only one machine has it.
 const ON: u8 = 30;
 
-/// A log that loops so often in turn at steps with so many ways, 1 to 9 of them (9 only last). One machine has one state
-/// with silent loops and loops of one label of each pair; the other goes from state to state by one-way steps. Joint
-/// idles are put in until the log has at least `steps` steps.
+/// A log that loops in turn so often at steps with so many ways, 1 to 9 of them (9 only last), given as (ways, times).
+/// One machine has one state, with a silent loop and loops of one label of seven pairs; the other goes from state to
+/// state by one-way steps. Joint idles are put in until the log has at least `steps` steps.
 pub fn looping_log(random: &mut Random, counts: &[(usize, usize)], steps: usize) -> Log {
     let still: Vec<Row> = [0, 1, 3, 5, 7, 9, 11, 13]
         .map(|label| loop_row(0, label))
@@ -188,7 +188,7 @@ fn put_idles_in(random: &mut Random, labels: &mut Vec<(u8, u8)>, steps: usize) {
     assert!(labels.len() <= MOST_STEPS);
 }
 
-/// A log in which both machines go on at each step by handshakes in so many ways, 1 to 8, past 63 steps at most.
+/// A log in which both machines go on at each step by handshakes in so many ways, 1 to 8; 63 steps at most.
 pub fn handshake_log(random: &mut Random, counts: &[usize]) -> Log {
     let (mut left, mut right, mut steps) = (Vec::new(), Vec::new(), Vec::new());
     for (state, count) in (0u8..).zip(counts) {

@@ -227,7 +227,7 @@ impl Flaw {
             Flaw::Shorter(side) => drop_steps(random, &mut call.halves[side]),
             _ => {
                 damage_half(self, call, random);
-                !matches!(self, Flaw::HalfStep(_)) || call.halves.iter().any(|h| h.len() > 1)
+                true
             }
         }
     }
@@ -314,42 +314,49 @@ fn add_idles(random: &mut Random, half: &mut Vec<u8>) {
     half.extend([IDLE, last].repeat(more));
 }
 
-/// Makes two moves meet that are no partners, by rows that the machines have at a step of the halves; false if there are
-/// none. Both machines come to that step's end by other rows, so all later steps are cut off.
+/// Makes two moves meet that are no partners, by rows that the machines have where the halves come to some step, with
+/// idles behind them; false if there are none.
 fn unmatch(random: &mut Random, call: &mut Call) -> bool {
     let steps = (call.halves[0].len() - 1) / 2;
-    let at = 2 * random.from_to(0, steps.min(199));
-    let rows = [0, 1].map(|side| {
-        let state = call.halves[side][at];
-        let body = &call.book.records[1 + side].body;
-        let leaving = body[1..].chunks(3).filter(|row| row[0] == state);
-        leaving.map(<[u8]>::to_vec).collect::<Vec<_>>()
-    });
+    let at = random.from_to(0, steps.min(199));
+    let rows = [0, 1].map(|side| leaving(call, side, call.halves[side][2 * at]));
     if rows.iter().any(Vec::is_empty) {
         return false;
     }
     let [own, other] = [random.pick(&rows[0]), random.pick(&rows[1])];
-    let lower = own[1].min(other[1]);
-    if lower % 2 == 1 && own[1].max(other[1]) == lower + 1 {
+    let lower = own[0].min(other[0]);
+    if lower % 2 == 1 && own[0].max(other[0]) == lower + 1 {
         return false;
     }
-    for (side, row) in [own, other].into_iter().enumerate() {
-        call.halves[side].truncate(at + 1);
-        call.halves[side].extend(&row[1..]);
+    let idles = random.from_to(0, 199 - at);
+    for (half, [label, to]) in call.halves.iter_mut().zip([own, other]) {
+        half.truncate(1 + 2 * at);
+        half.extend([*label, *to]);
+        half.extend([IDLE, *to].repeat(idles));
     }
     true
 }
 
-/// A call with all these flaws, given in the order judged; later arguments are damaged first.
+/// Label and target of each row of one of the tables that leaves a state.
+fn leaving(call: &Call, side: usize, state: u8) -> Vec<[u8; 2]> {
+    let rows = call.book.records[1 + side].body[1..].chunks(3);
+    let leaving = rows.filter(|row| row[0] == state);
+    leaving.map(|row| [row[1], row[2]]).collect()
+}
+
+/// A call with all these flaws, given in the order judged; later arguments are damaged first, and a join's output is
+/// made too short last, when it is known what it should hold.
 fn flawed(random: &mut Random, flaws: &[Flaw]) -> Call {
     let size = match flaws.contains(&Flaw::TooMany) {
         true => Size::TooMany,
         false => Size::Numbered,
     };
+    let is_room = |flaw: &&Flaw| **flaw == Flaw::JoinRoom;
+    let others = flaws.iter().rev().filter(|flaw| !is_room(flaw));
+    let in_turn: Vec<&Flaw> = others.chain(flaws.iter().filter(is_room)).collect();
     loop {
         let mut call = Call::random(random, size);
-        let mut made = flaws.iter().rev();
-        if made.all(|flaw| flaw.make(&mut call, random)) {
+        if in_turn.iter().all(|flaw| flaw.make(&mut call, random)) {
             return call;
         }
     }

@@ -50,7 +50,7 @@ fn one_step_longer(table: &Table, half: &HalfRun) -> Vec<HalfRun> {
     rows.chain([(IDLE, last)]).map(longer).collect()
 }
 
-/// The machines of a log, and the half runs of so many steps from its two starts.
+/// The half runs of so many steps from the starts of a log, of the left machine and of the right one.
 fn all_halves(log: &Log, steps: usize) -> [Vec<Vec<u8>>; 2] {
     [(&log.left, 0), (&log.right, 1)].map(|(table, side)| {
         let table = read_table(table, log.k).unwrap();
@@ -59,7 +59,8 @@ fn all_halves(log: &Log, steps: usize) -> [Vec<Vec<u8>>; 2] {
     })
 }
 
-/// Joins every pair of halves as long as the log; those that give the log are its splittings, all of them and no others.
+/// Joins every pair of halves as long as the log; those that give the log are its splittings, all of them and no
+/// others.
 fn splittings_are_complete(log: &Log, tally: &mut Tally) {
     let [left, right] = all_halves(log, log.steps());
     let mut found = HashSet::new();

@@ -175,7 +175,7 @@ fn every_room_for_a_short_log() {
     tally.saw_exactly(&[0, 18]);
 }
 
-/// One table lent as both, and one slice lent as table twice.
+/// A machine beside itself, also with one slice lent as both tables.
 #[test]
 fn one_table_lent_as_both() {
     let mut tally = Tally::new("splittings of a machine beside itself");
