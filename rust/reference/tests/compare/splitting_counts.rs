@@ -24,15 +24,15 @@ fn counts(log: &Log, product: Option<usize>, tally: &mut Tally) {
             }
         }
         Err(_) => {
-            for number in [0, 1, 65_534, 65_535, 65_536, usize::MAX] {
+            for number in [0, 65_535, usize::MAX] {
                 assert_eq!(split_exactly(log, number), Err(13), "{number}");
             }
         }
     }
 }
 
-/// Every power of 1 to 9 up to 9^200, in logs of just so many steps and of 200: over 65,535 always 13, though 2^16,
-/// 2^32, 4^32 and 8^64 leave nothing of themselves in 16, 32 or 64 bits.
+/// Every power of 1 to 9 up to 9^200: over 65,535 always 13, though 2^16, 2^32, 4^32 and 8^64 leave nothing of
+/// themselves in 16, 32 or 64 bits.
 #[test]
 fn every_power() {
     let mut tally = Tally::new("counts of every power of 1 to 9");
@@ -40,7 +40,13 @@ fn every_power() {
     for ways in 1..=9usize {
         for times in 0..=200 {
             let power = ways.checked_pow(times as u32);
-            for steps in [times, 200] {
+            // Beside the shortest log now and then one of 200 steps, the others idles.
+            let longest = if times < 20 || times % 10 == 0 {
+                200
+            } else {
+                times
+            };
+            for steps in [times, longest] {
                 let log = looping_log(&mut random, &[(ways, times)], steps);
                 assert_eq!(log.steps(), steps);
                 counts(&log, power, &mut tally);
