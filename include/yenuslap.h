@@ -2,7 +2,7 @@
  *
  * Each call returns one number: the refusal's number of document 01 times 2^32 (0 if not refused),
  * plus the value, which is 0 when refused. Bytes are lent as a pointer and a length; a pointer is
- * never null, also where the length is 0, and `out` overlaps nothing else that is lent. A table is
+ * never null, also where the length is 0, and an output overlaps nothing else that is lent. A table is
  * n and its rows, a joint run two start states and its steps, a half run its state and its steps,
  * a question or other formula its nodes: each as in the body of its casebook record. No call keeps a
  * pointer.
@@ -61,6 +61,36 @@ uint64_t yenuslap_half_verdict(uint8_t k,
                                const uint8_t *half, size_t half_len,
                                const uint8_t *formula, size_t formula_len,
                                size_t point);
+
+/* Counts the splittings of the joint run: value how many (1 to 65,535), or refused 4; 3, 5 to 7 (left,
+ * then right); 3, 8 (run); 13; the lent bytes are only read. */
+uint64_t yenuslap_count_splittings(uint8_t k,
+                                   const uint8_t *left, size_t left_len,
+                                   const uint8_t *right, size_t right_len,
+                                   const uint8_t *run, size_t run_len);
+
+/* Writes the two halves of the splitting that has this number, counted from 0, into left_out and
+ * right_out: value length of each half, or refused as by yenuslap_count_splittings; 14; 18 last, if
+ * either output is shorter than a half; when refused no byte of either output changes, after an answer
+ * the bytes of each past its half keep their values, and the parts are only read. */
+uint64_t yenuslap_split(uint8_t k,
+                        const uint8_t *left, size_t left_len,
+                        const uint8_t *right, size_t right_len,
+                        const uint8_t *run, size_t run_len,
+                        size_t number,
+                        uint8_t *left_out, size_t left_out_len,
+                        uint8_t *right_out, size_t right_out_len);
+
+/* Writes the joint run of two matching halves into out: value bytes written, or refused 4; 3, 5 to 7
+ * (left, then right); 15 (either half); 16 (unequal lengths included); 18 last, and never 13; when
+ * refused no byte of out changes, after an answer the bytes of out past it keep their values, and the
+ * parts are only read. */
+uint64_t yenuslap_join(uint8_t k,
+                       const uint8_t *left, size_t left_len,
+                       const uint8_t *right, size_t right_len,
+                       const uint8_t *left_half, size_t left_half_len,
+                       const uint8_t *right_half, size_t right_half_len,
+                       uint8_t *out, size_t out_len);
 
 /* Cuts the known half at a point: value length of the part, which is that half's beginning, or
  * refused 12; it looks at the known half alone, and the lent bytes are only read. */

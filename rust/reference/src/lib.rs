@@ -9,6 +9,7 @@ pub mod half;
 pub mod label;
 pub mod random;
 pub mod run;
+pub mod splitting;
 pub mod table;
 pub mod verdict;
 

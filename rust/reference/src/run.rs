@@ -64,6 +64,27 @@ pub fn ways(left: &Table, right: &Table, p: u8, q: u8, step: JointStep) -> Vec<W
 
 /// Reads a joint run of two sound tables: 3 for its length, then 8 for a start or a step.
 pub fn read_run(bytes: &[u8], left: &Table, right: &Table) -> Result<JointRun, Refusal> {
+    read_each(bytes, left, right, |_| ())
+}
+
+/// Reads a joint run as `read_run` does and keeps the ways of each of its steps.
+pub fn read_run_and_ways(
+    bytes: &[u8],
+    left: &Table,
+    right: &Table,
+) -> Result<(JointRun, Vec<Vec<Way>>), Refusal> {
+    let mut kept = Vec::new();
+    let run = read_each(bytes, left, right, |ways| kept.push(ways))?;
+    Ok((run, kept))
+}
+
+/// Reads a joint run and hands on the ways of each step.
+fn read_each(
+    bytes: &[u8],
+    left: &Table,
+    right: &Table,
+    mut hand_on: impl FnMut(Vec<Way>),
+) -> Result<JointRun, Refusal> {
     if !fits(bytes.len() + 2) {
         return Err(3);
     }
@@ -82,9 +103,11 @@ pub fn read_run(bytes: &[u8], left: &Table, right: &Table) -> Result<JointRun, R
             right: step[2],
         };
         let (p, q) = run.last();
-        if ways(left, right, p, q, step).is_empty() {
+        let found = ways(left, right, p, q, step);
+        if found.is_empty() {
             return Err(8);
         }
+        hand_on(found);
         run.steps.push(step);
     }
     Ok(run)

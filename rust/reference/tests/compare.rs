@@ -25,6 +25,24 @@ mod order;
 mod pairs;
 #[path = "compare/sound.rs"]
 mod sound;
+#[path = "compare/splitting_both.rs"]
+mod splitting_both;
+#[path = "compare/splitting_counts.rs"]
+mod splitting_counts;
+#[path = "compare/splitting_damaged.rs"]
+mod splitting_damaged;
+#[path = "compare/splitting_document.rs"]
+mod splitting_document;
+#[path = "compare/splitting_join.rs"]
+mod splitting_join;
+#[path = "compare/splitting_logs.rs"]
+mod splitting_logs;
+#[path = "compare/splitting_refused.rs"]
+mod splitting_refused;
+#[path = "compare/splitting_small.rs"]
+mod splitting_small;
+#[path = "compare/splitting_sound.rs"]
+mod splitting_sound;
 #[path = "compare/verdict_both.rs"]
 mod verdict_both;
 #[path = "compare/verdict_damaged.rs"]

@@ -38,6 +38,42 @@ extern "C" {
         formula_len: usize,
         point: usize,
     ) -> u64;
+    fn yenuslap_count_splittings(
+        k: u8,
+        left: *const u8,
+        left_len: usize,
+        right: *const u8,
+        right_len: usize,
+        run: *const u8,
+        run_len: usize,
+    ) -> u64;
+    fn yenuslap_split(
+        k: u8,
+        left: *const u8,
+        left_len: usize,
+        right: *const u8,
+        right_len: usize,
+        run: *const u8,
+        run_len: usize,
+        number: usize,
+        left_out: *mut u8,
+        left_out_len: usize,
+        right_out: *mut u8,
+        right_out_len: usize,
+    ) -> u64;
+    fn yenuslap_join(
+        k: u8,
+        left: *const u8,
+        left_len: usize,
+        right: *const u8,
+        right_len: usize,
+        left_half: *const u8,
+        left_half_len: usize,
+        right_half: *const u8,
+        right_half_len: usize,
+        out: *mut u8,
+        out_len: usize,
+    ) -> u64;
     fn yenuslap_cut(
         left_half: *const u8,
         left_half_len: usize,
@@ -126,6 +162,79 @@ pub fn half_verdict(k: u8, table: &[u8], half: &[u8], formula: &[u8], point: usi
             formula.as_ptr(),
             formula.len(),
             point,
+        )
+    }
+}
+
+/// Counts the splittings of a joint run: value how many, or refusals 3 to 8 and 13.
+pub fn count_splittings(k: u8, left: &[u8], right: &[u8], run: &[u8]) -> u64 {
+    // SAFETY: each pointer and length are one live slice, which the engine only reads.
+    unsafe {
+        yenuslap_count_splittings(
+            k,
+            left.as_ptr(),
+            left.len(),
+            right.as_ptr(),
+            right.len(),
+            run.as_ptr(),
+            run.len(),
+        )
+    }
+}
+
+/// Writes the halves of the splitting of a number into `left_out` and `right_out`: value the length of each, or
+/// refusals 3 to 8, 13, 14 and 18.
+pub fn split(
+    k: u8,
+    left: &[u8],
+    right: &[u8],
+    run: &[u8],
+    number: usize,
+    left_out: &mut [u8],
+    right_out: &mut [u8],
+) -> u64 {
+    // SAFETY: each pointer and length are one live slice; only the outputs, lent to us alone, are written.
+    unsafe {
+        yenuslap_split(
+            k,
+            left.as_ptr(),
+            left.len(),
+            right.as_ptr(),
+            right.len(),
+            run.as_ptr(),
+            run.len(),
+            number,
+            left_out.as_mut_ptr(),
+            left_out.len(),
+            right_out.as_mut_ptr(),
+            right_out.len(),
+        )
+    }
+}
+
+/// Writes the joint run of two matching halves into `out`: value bytes written, or refusals 3 to 7, 15, 16 and 18.
+pub fn join(
+    k: u8,
+    left: &[u8],
+    right: &[u8],
+    left_half: &[u8],
+    right_half: &[u8],
+    out: &mut [u8],
+) -> u64 {
+    // SAFETY: each pointer and length are one live slice; only `out`, lent to us alone, is written.
+    unsafe {
+        yenuslap_join(
+            k,
+            left.as_ptr(),
+            left.len(),
+            right.as_ptr(),
+            right.len(),
+            left_half.as_ptr(),
+            left_half.len(),
+            right_half.as_ptr(),
+            right_half.len(),
+            out.as_mut_ptr(),
+            out.len(),
         )
     }
 }

@@ -4,9 +4,11 @@ pub mod bare;
 mod casebook;
 mod cut;
 mod refusal;
+mod splitting;
 mod verdict;
 
 pub use casebook::{read_casebook, write_casebook, Casebook};
 pub use cut::{cut, Side};
 pub use refusal::Refusal;
+pub use splitting::{count_splittings, join, split};
 pub use verdict::{half_verdict, joint_verdict};

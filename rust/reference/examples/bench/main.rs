@@ -4,6 +4,7 @@
 //! Words given as arguments choose the benches whose group or text holds one of them.
 
 mod inputs;
+mod splittings;
 mod timing;
 mod verdicts;
 
@@ -14,7 +15,9 @@ use timing::Group;
 
 /// Every group of benches, in the order printed.
 fn all_groups() -> Vec<Group> {
-    verdicts::groups()
+    let mut groups = verdicts::groups();
+    groups.extend(splittings::groups());
+    groups
 }
 
 fn main() {

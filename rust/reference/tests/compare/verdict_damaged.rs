@@ -125,7 +125,7 @@ fn every_change_of_one_byte_of_half_calls() {
 }
 
 /// Damages one argument: bytes changed, cut off, added, taken out, or all of it random.
-fn damage(random: &mut Random, bytes: &mut Vec<u8>) {
+pub fn damage(random: &mut Random, bytes: &mut Vec<u8>) {
     let at = random.below(bytes.len() + 1);
     match random.below(6) {
         0 => bytes.truncate(at),
@@ -216,7 +216,7 @@ fn changed_large_calls() {
 }
 
 /// Changes one byte of one of these by a little.
-fn change_one<const N: usize>(random: &mut Random, bytes: [&mut Vec<u8>; N]) {
+pub fn change_one<const N: usize>(random: &mut Random, bytes: [&mut Vec<u8>; N]) {
     let (argument, change) = (random.below(N), *random.pick(&[1, 2, 255]));
     let at = random.below(bytes[argument].len());
     bytes[argument][at] = bytes[argument][at].wrapping_add(change);

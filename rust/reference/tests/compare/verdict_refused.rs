@@ -185,7 +185,7 @@ fn unfit_formula(random: &mut Random, formula: &[u8]) -> Vec<u8> {
 }
 
 /// Takes a byte from a half or adds one.
-fn change_parity(random: &mut Random, half: &mut Vec<u8>) {
+pub fn change_parity(random: &mut Random, half: &mut Vec<u8>) {
     if random.once_in(2) {
         half.pop();
     } else {
@@ -194,7 +194,7 @@ fn change_parity(random: &mut Random, half: &mut Vec<u8>) {
 }
 
 /// A half of 201 or more idles.
-fn long_half(random: &mut Random, start: u8) -> Vec<u8> {
+pub fn long_half(random: &mut Random, start: u8) -> Vec<u8> {
     let steps = *random.pick(&[201, 202, 300, 32_768]);
     [vec![start], [255, start].repeat(steps)].concat()
 }
