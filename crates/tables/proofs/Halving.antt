@@ -6,7 +6,7 @@ use native.Mathlib.Omega.{arith}
 use lib.ListN.{length, getD}
 use Rattle.tables.specs.Tables.{rowsOf, Rising}
 use Rattle.tables.specs.Working.{rowOf, below}
-use Rattle.tables.proofs.Rows.{froms-rise, below-point, rows-at}
+use Rattle.tables.proofs.Rows.{froms-rise, below-point, before-count, rows-at}
 
 -- in rows that rise, those before `low` leave a state below p, and those from `high` on do not
 pub record Halving (t : List ℕ) (p low high : ℕ) : Type 0 where
@@ -18,6 +18,15 @@ pub record Halving (t : List ℕ) (p low high : ℕ) : Type 0 where
 module _ (t : List ℕ) (p : ℕ) where
   pub halving-start : (n : ℕ) → n ≡ length (rowsOf t) → Halving t p 0 n
   halving-start n e = record { ordered = omega arith; within = omega (arith, e); lower = λ s j h. absurd (omega arith); upper = λ s j h k. absurd (omega (arith, e)) }
+
+  -- where the rows below p end, those that are not below p + 1 are still ahead
+  pub halving-from : (start n : ℕ) → n ≡ length (rowsOf t) → start ≤ n → (Rising (rowsOf t) → start ≡ below p (rowsOf t)) → Halving t (p + 1) start n
+  halving-from start n e h f = record {
+    ordered = h;
+    within = omega (arith, e);
+    lower = λ s j k. omega (arith, before-count s p j (omega (arith, f s)));
+    upper = λ s j k l. absurd (omega (arith, e));
+  }
 
   module _ (low high : ℕ) (g : Halving t p low high) where
     pub halving-end : high ≤ low → Rising (rowsOf t) → low ≡ below p (rowsOf t)

@@ -103,7 +103,7 @@ none-below : (p : ℕ) {r : Row} {rows : List Row} → Rising (r ∷ rows) → p
 none-below p {r} {rows} s h = sym (below-point p 0 rows (omega arith) (λ i k. absurd (omega arith)) (λ i k l. omega (arith, head-least s (suc i) (omega arith))))
 
 -- the rows before the count leave a state below p
-before-count : {rows : List Row} → Rising rows → (p i : ℕ) → i < below p rows → getD rows i (0, 0, 0) .0 < p
+pub before-count : {rows : List Row} → Rising rows → (p i : ℕ) → i < below p rows → getD rows i (0, 0, 0) .0 < p
 unfolding below
 before-count {rows = []} s p i h = absurd (omega arith)
 before-count {rows = r ∷ rows} s p i h = go (ltb (r .0) p) refl i h (before-count (rising-tail s) p)

@@ -4,7 +4,7 @@ use crate::row::row_count;
 use labels::label::Label;
 ghost use mathlib.Core.Path.{_≡_};
 ghost use mathlib.Core.Bool.{_&&_};
-ghost use Prim.Native.Nat.{_≤_, _%_};
+ghost use Prim.Native.Nat.{_+_, _≤_, _%_};
 ghost use lib.ListN.{length, getD};
 ghost use lib.Dec.{eqb};
 ghost use Rattle.tables.specs.Tables.{rowsOf, rowsFrom, bytesOf, tableOf, movesIn, among, hasMove, Rising};
@@ -18,7 +18,7 @@ pub fn rows_leaving<'a>(table: &'a [u8], state: u8) -> &'a [u8]
 {
     let state = state as usize;
     let start = rows_below(table, state);
-    let end = rows_below(table, state + 1);
+    let end = rows_end(table, state, start);
     if end <= start {
         return &table[..0];
     }
@@ -43,6 +43,24 @@ fn rows_below(table: &[u8], state: usize) -> usize
         }
     }
     low
+}
+
+// Where the rows end that leave a state, from the first of them on: at most eight rows on, where no check refuses the table. In rows
+// that do not rise the answer is left open: some number of rows.
+fn rows_end(table: &[u8], state: usize, start: usize) -> usize
+    requires { ⌜ (start ≤ length (rowsOf (now table))) × (Rising (rowsOf (now table)) → start ≡ below state (rowsOf (now table))) ⌝ }
+    ensures within { λ r. ⌜ r ≤ length (rowsOf (now (table .entry))) ⌝ }
+    ensures exact { λ r. ⌜ (Rising (rowsOf (now (table .entry))) → r ≡ below (state + 1) (rowsOf (now (table .entry)))) ⌝ }
+{
+    let rows = row_count(table);
+    let mut end = start;
+    while end < rows {
+        if state < from_at(table, end) {
+            return end;
+        }
+        end += 1;
+    }
+    end
 }
 
 // Is there a row from this state with this label and target? In rows that do not rise the answer is left open.

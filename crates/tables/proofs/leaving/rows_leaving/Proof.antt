@@ -1,26 +1,22 @@
--- The two counts are where the rows of the state begin and end.
-use native.Mathlib.Omega.{arith}
-use mathlib.Core.Path.{sym, _∙_}
-use lib.ListN.{length-take, length-drop}
-use Rattle.tables.proofs.Rows.{length-rows, empty-span, whole-span, part-whole}
+-- The first of the rows is found by halving, and their end from there on.
 use borrow.Author.Needs.{needs}
 use Rattle.tables.proofs.leaving.rows_leaving.Statement.{statement}
 use Rattle.tables.proofs.leaving.rows_leaving.Tie as tie
+use native.Mathlib.Omega.{arith}
+use Rattle.tables.proofs.Rows.{length-rows, empty-span, whole-span, part-whole}
+use borrow.Author.Needs.{needs}
 
 rows-below-requires : tie.Need-rows-below-requires
 rows-below-requires c κs = search needs
 
-add-rows-below : tie.Need-add-rows-below
-add-rows-below c = search needs
-
-rows-below-requires-2 : tie.Need-rows-below-requires-2
-rows-below-requires-2 c κs = search needs
+rows-end-requires : tie.Need-rows-end-requires
+rows-end-requires c κs = search needs
 
 slice-aggregate-result : tie.Need-slice-aggregate-result
 slice-aggregate-result c = search needs
 
 returns : tie.Need-returns
-returns c = (omega arith, empty-span _ _ _ _ (c .before .before .before .rows-below .ensures .1) (c .before .before .rows-below2 .ensures .1) (c .before .if1 .taken))
+returns c = (omega arith, empty-span _ _ _ _ (c .before .before .before .rows-below .ensures .1) (c .before .before .rows-end .ensures .1) (c .before .if1 .taken))
 
 mul-from : tie.Need-mul-from
 mul-from c = omega (arith, length-rows (c .before .before .before .before .args .table .now), c .before .before .rows-below .ensures .0)
@@ -29,10 +25,10 @@ add-from : tie.Need-add-from
 add-from c = omega (arith, length-rows (c .before .before .before .before .args .table .now), c .before .before .rows-below .ensures .0)
 
 mul-to : tie.Need-mul-to
-mul-to c = omega (arith, length-rows (c .before .before .before .before .args .table .now), c .before .rows-below2 .ensures .0)
+mul-to c = omega (arith, length-rows (c .before .before .before .before .args .table .now), c .before .rows-end .ensures .0)
 
 add-to : tie.Need-add-to
-add-to c = omega (arith, length-rows (c .before .before .before .before .args .table .now), c .before .rows-below2 .ensures .0)
+add-to c = omega (arith, length-rows (c .before .before .before .before .args .table .now), c .before .rows-end .ensures .0)
 
 sub-result : tie.Need-sub-result
 sub-result c = search needs
@@ -41,18 +37,17 @@ part-result-start : tie.Need-part-result-start
 part-result-start c = search needs
 
 part-result-end : tie.Need-part-result-end
-part-result-end c = omega (arith, length-rows (c .before .before .before .before .args .table .now), c .before .rows-below2 .ensures .0)
+part-result-end c = omega (arith, length-rows (c .before .before .before .before .args .table .now), c .before .rows-end .ensures .0)
 
 returns-2 : tie.Need-returns-2
-returns-2 c = (part-whole _ _ _ (c .before .before .rows-below2 .ensures .0) (c .before .if1 .left), whole-span _ _ _ _ (c .before .before .before .rows-below .ensures .1) (c .before .before .rows-below2 .ensures .1) (c .before .if1 .left))
+returns-2 c = (part-whole _ _ _ (c .before .before .rows-end .ensures .0) (c .before .if1 .left), whole-span _ _ _ _ (c .before .before .before .rows-below .ensures .1) (c .before .before .rows-end .ensures .1) (c .before .if1 .left))
 
 pub rows-leaving-spec : {M : Type 1} → statement M
 rows-leaving-spec =
     tie.close
     (tie.spec
     rows-below-requires
-    add-rows-below
-    rows-below-requires-2
+    rows-end-requires
     slice-aggregate-result
     returns
     mul-from
