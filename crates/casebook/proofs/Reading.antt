@@ -8,7 +8,7 @@ use native.Mathlib.Omega.{arith}
 use lib.ListN.{length, getD}
 use borrow.Author.Tests.{lt-ltb, le-ltb, ltb-false}
 use Rattle.hml.specs.Tests.{apart}
-use Rattle.labels.specs.Refusals.{thenOf, firstOf}
+use Rattle.labels.specs.Refusals.{firstOf}
 use Rattle.labels.specs.Labels.{checkPairs}
 use Rattle.labels.specs.declared.refusal.Refusal.{Refusal}
 use Rattle.labels.specs.declared.refusal.Refusal.the-variants.{BytesAfter, Truncated, WrongKind, WrongLength}

@@ -1,11 +1,10 @@
 -- Records written one after the other, each into the rest of the output that the one before left.
-use Prim.Native.Nat.{ℕ, _+_, _-_, _*_, _/_, _%_, _≤_, _<_}
+use Prim.Native.Nat.{ℕ, _+_, _-_, _/_, _%_, _≤_, _<_}
 use mathlib.Core.Path.{_≡_, refl, sym, _∙_, ap}
 use mathlib.Core.List.{List, [], _∷_, _++_, append-assoc, append-nil}
 use native.Mathlib.Omega.{arith}
 use lib.ListN.{length, take, drop, set, length-append, length-take, length-drop, drop-of-length-le}
 use lib.Seq.{take-length, take-append-seam, drop-append-seam, drop-drop}
-use lib.Dec.{ltb}
 use borrow.Rule.Slice.PartMut.{putMid}
 use borrow.Author.Tests.{lt-ltb, le-ltb}
 use Rattle.labels.proofs.Slices.{rest, rest-of}
@@ -15,16 +14,16 @@ use Rattle.labels.specs.declared.refusal.Refusal.{Refusal}
 use Rattle.labels.specs.declared.refusal.Refusal.the-variants.{OutputTooShort}
 use Rattle.labels.specs.declared.refusal.Check.{Check}
 use Rattle.labels.specs.declared.refusal.Check.the-variants as check
-use Rattle.labels.proofs.Refusals.{then-assoc, then-sound}
+use Rattle.labels.proofs.Refusals.{then-sound}
 use Rattle.tables.specs.Tables.{checkTable}
 use Rattle.machines.specs.Joints.{checkJoint, checkTablesAndJoint}
 use Rattle.formulas.specs.Formulas.{checkFormula}
 use Rattle.casebook.specs.Records.{recordBytes}
 use Rattle.casebook.specs.Writing.{casebookBytes, checkParts, checkWrite, writeOf, writtenOf}
-use Rattle.casebook.specs.Working.{over, Fitting}
+use Rattle.casebook.specs.Working.{over}
 use Rattle.casebook.specs.declared.write.Writing.the-variants as writing
 use Rattle.casebook.proofs.RecordLaws.{record-length, table-fits, joint-fits, question-fits}
-use Rattle.casebook.proofs.RoundTrip.{casebook-length, SoundParts, sound-parts}
+use Rattle.casebook.proofs.RoundTrip.{casebook-length, sound-parts}
 
 pub length-over : (b xs : List ℕ) → length b ≤ length xs → length (over b xs) ≡ length xs
 length-over b xs h = omega (arith, length-append b (drop (length b) xs), length-drop (length b) xs)

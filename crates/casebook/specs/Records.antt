@@ -1,12 +1,11 @@
 -- Records: document 01, "The casebook". "A record is a two-byte length, a two-byte kind, then the body; both little-endian. The
 -- length counts kind and body. A reading position steps over one record and yields the next position."
 use Prim.Native.Nat.{ℕ, _+_, _-_, _*_, _/_, _%_}
-use mathlib.Core.Bool.{Bool, true, false, cond, _&&_, _||_, not}
+use mathlib.Core.Bool.{Bool, false, cond, _&&_, _||_, not}
 use mathlib.Core.List.{List, [], _∷_, _++_}
 use lib.ListN.{length, getD, take, drop}
 use lib.Dec.{eqb, leb, ltb}
 use Rattle.labels.specs.declared.refusal.Refusal.the-variants.{Truncated, WrongKind, WrongLength}
-use Rattle.casebook.specs.declared.record.Cursor.{Cursor}
 use Rattle.casebook.specs.declared.record.Record.{Record}
 use Rattle.casebook.specs.declared.record.Next.{Next}
 use Rattle.casebook.specs.declared.record.Next.the-variants as next

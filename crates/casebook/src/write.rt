@@ -6,7 +6,6 @@ use labels::refusal::Check;
 use labels::refusal::Refusal;
 use machines::joint::check_joint;
 ghost use mathlib.Core.Path.{_≡_};
-ghost use mathlib.Core.List.{[], _∷_};
 ghost use Prim.Native.Nat.{_+_, _≤_, _<_};
 ghost use lib.ListN.{length};
 ghost use Rattle.casebook.specs.Records.{recordBytes};

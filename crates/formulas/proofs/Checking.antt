@@ -1,15 +1,14 @@
 -- The cases of the check of a formula, and what it accepts: exactly the bytes that spell one tree within the limits.
-use Prim.Native.Nat.{ℕ, zero, suc, _+_, _*_, _/_, _≤_, _<_}
+use Prim.Native.Nat.{ℕ, _*_, _/_, _≤_, _<_}
 use mathlib.Core.Path.{_≡_, refl, sym, _∙_, ap}
-use mathlib.Core.Logic.{_↔_}
-use mathlib.Core.Bool.{Bool, true, false, _&&_, and-false, and-true, false≢true}
+use mathlib.Core.Bool.{true, false, and-false, and-true, false≢true}
 use mathlib.Core.List.{List, [], _∷_}
 use mathlib.Core.Option.{Option, none, some}
 use native.Mathlib.Omega.{arith}
 use lib.ListN.{length}
 use lib.Dec.{leb}
 use borrow.Author.Tests.{le-leb, lt-leb, leb-true}
-use Rattle.hml.specs.Tests.{apart, Decides, decides, decided-by, both-true, decided-true}
+use Rattle.hml.specs.Tests.{apart, both-true, decided-true}
 use Rattle.hml.specs.Lists.{present}
 use Rattle.hml.specs.Formula.{Formula, size, nesting, labelled}
 use Rattle.hml.specs.Labels.{count}

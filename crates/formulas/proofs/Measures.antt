@@ -1,16 +1,15 @@
 -- The measure of a tree by its first node: the second operand begins where the first one ends.
-use Prim.Native.Nat.{ℕ, zero, suc, _+_, _-_, _*_, _≤_, _<_, max}
+use Prim.Native.Nat.{ℕ, _+_, _-_, _*_, _≤_, max}
 use mathlib.Core.Path.{_≡_, refl, sym, _∙_, ap}
 use mathlib.Core.Bool.{cond, _||_}
 use mathlib.Core.List.{List, [], _∷_, _++_}
-use mathlib.Core.Option.{some}
 use native.Mathlib.Omega.{arith}
 use lib.ListN.{length, getD, drop}
 use lib.Seq.{drop-at}
 use lib.Dec.{eqb}
 use Rattle.labels.proofs.Slices.{rest, rest-of}
 use Rattle.hml.specs.Formula.{Formula, top, bottom, not, and, or, fwd, back, fwdIdle, backIdle, size, nesting}
-use Rattle.hml.specs.Spell.{spell, length-spell, parse, parse-spell}
+use Rattle.hml.specs.Spell.{spell, length-spell, parse-spell}
 use Rattle.formulas.specs.Formulas.{nodeOf, operandsOf}
 use Rattle.formulas.specs.Working.{Tree, measuredAs, measureOf, operandsIn}
 use Rattle.formulas.specs.declared.tree.Measure.{Measure}

@@ -1,10 +1,8 @@
 -- The cases of the table of operators, each from what the code knows at its return.
 use Prim.Native.Nat.{ℕ, zero, suc, _≤_, _<_}
-use mathlib.Core.Path.{_≡_, refl, sym, _∙_, ap}
-use mathlib.Core.List.{List}
+use mathlib.Core.Path.{_≡_, refl}
 use native.Mathlib.Omega.{arith}
-use lib.ListN.{getD}
-use Rattle.hml.specs.Spell.{Shape, bad, operators, shape}
+use Rattle.hml.specs.Spell.{bad, shape}
 use Rattle.formulas.specs.Formulas.{operandsOf, nodeOf}
 use Rattle.formulas.specs.declared.node.Node.the-variants as node
 

@@ -1,18 +1,15 @@
 -- Where a tree ends: each node takes the place of one that is due, and asks for its operands.
-use Prim.Native.Nat.{ℕ, zero, suc, _+_, _-_, _*_, _≤_, _<_}
-use mathlib.Core.Path.{_≡_, refl, sym, _∙_, ap}
+use Prim.Native.Nat.{ℕ, zero, suc, _+_, _-_, _≤_, _<_}
+use mathlib.Core.Path.{_≡_, refl, _∙_, ap}
 use mathlib.Core.List.{List, [], _∷_}
 use mathlib.Core.Option.{Option, none, some}
 use native.Mathlib.Omega.{arith}
-use native.Mathlib.Numerals.{add-one}
-use native.Mathlib.Nat.{add-zero}
 use lib.ListN.{length, getD, drop, length-drop}
 use lib.Seq.{drop-cons}
 use Rattle.hml.specs.Tests.{apart}
-use Rattle.hml.specs.Formula.{Formula, size}
+use Rattle.hml.specs.Formula.{Formula}
 use Rattle.hml.specs.Spell.{spell, length-spell, Shape, leaf, unary, binary, bad, shape, Read, build0, build1, build2, next, trees, single, parse, parse-sound}
 use Rattle.formulas.specs.Formulas.{operandsOf, nodeOf, endOf, treeEnd}
-use Rattle.formulas.specs.declared.node.Node.{Node}
 use Rattle.formulas.specs.declared.node.Node.the-variants as node
 use Rattle.formulas.specs.declared.tree.TreeEnd.the-variants as end
 

@@ -1,16 +1,15 @@
 -- The laws of runs as they are written, for half runs and joint runs alike: reading, lengthening, stopping, and the test that
 -- written steps go on from a state.
-use Prim.Native.Nat.{ℕ, zero, suc, _+_, _-_, _*_, _/_, _%_, _≤_, _<_}
+use Prim.Native.Nat.{ℕ, zero, suc, _+_, _-_, _*_, _/_, _%_}
 use mathlib.Core.Path.{_≡_, refl, sym, _∙_, ap}
 use mathlib.Core.Logic.{_⊎_, inl, inr}
-use mathlib.Core.Bool.{Bool, true, false, _&&_, false≢true, and-assoc}
-use mathlib.Core.List.{List, [], _∷_, _++_, map, append-nil, append-assoc}
-use native.Mathlib.Nat.{zero-sub, mul-zero, mul-suc, zero-mul, suc-mul, add-comm, mul-add-mod-self-right, mod-eq-of-lt, mul-add-div-right, div-eq-of-lt}
+use mathlib.Core.Bool.{Bool, true, false, _&&_, and-assoc}
+use mathlib.Core.List.{List, [], _∷_, _++_, append-nil, append-assoc}
+use native.Mathlib.Nat.{zero-sub, zero-mul, suc-mul}
 use native.Mathlib.Omega.{arith}
-use lib.ListN.{length, take, drop, length-append, length-take, length-drop, take-append-drop, getD}
-use lib.Seq.{take-nil, take-append-add, drop-append-add, append-snoc, getD-drop}
-use lib.Dec.{leb, ltb}
-use borrow.Author.Tests.{eq-eqb, ne-eqb, leb-true, ltb-true, le-leb, lt-ltb}
+use lib.ListN.{length, take, drop, length-append, length-drop, take-append-drop, getD}
+use lib.Seq.{drop-append-add, append-snoc, getD-drop}
+use borrow.Author.Tests.{eq-eqb, ne-eqb}
 use Rattle.hml.specs.Tests.{Decides, decides, decided-by, both-true}
 use Rattle.hml.specs.Lists.{_∈_, each, length-each}
 use Rattle.hml.specs.System.{System, move, idle, Run, start, _▸_, first, last, steps, undo, stop, Allowed, moves, idles, RunOf, begins, goes}

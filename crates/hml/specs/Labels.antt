@@ -1,12 +1,12 @@
 -- Document 01's labels: "With k handshake pairs, k from 0 to 15, the labels are 0 to 2k; the partner of an odd label is the
 -- next number, of an even one (from 2) the number before." This is one `Pairing` for each k; the theory asks no more of it.
-use mathlib.Core.Path.{_≡_, refl, sym, _∙_, ap}
+use mathlib.Core.Path.{_≡_, refl, _∙_, ap}
 use mathlib.Core.Bool.{Bool, true, false, cond}
 use mathlib.Core.Option.{Option, none, some}
 use Prim.Native.Nat.{ℕ, zero, suc, _+_, _-_, _*_, _%_, _≤_, _<_, min}
 use native.Mathlib.Omega.{arith}
 use lib.Dec.{eqb, leb}
-use borrow.Author.Tests.{eq-eqb, ne-eqb, eqb-true, eqb-false, le-leb, lt-leb, leb-true, leb-false}
+use borrow.Author.Tests.{eq-eqb, ne-eqb, eqb-true, eqb-false, le-leb, leb-true}
 use Rattle.hml.specs.Tests.{apart}
 use Rattle.hml.specs.System.{Pairing}
 

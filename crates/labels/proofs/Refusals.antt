@@ -1,5 +1,5 @@
 -- Laws of checks that follow one another.
-use mathlib.Core.Path.{_≡_, refl, sym, _∙_, ap}
+use mathlib.Core.Path.{_≡_, refl}
 use mathlib.Core.Logic.{_↔_}
 use mathlib.Core.Bool.{Bool, true, false, not}
 use Rattle.hml.specs.Tests.{apart, Decides, proves, refutes}

@@ -1,8 +1,8 @@
 -- The cases of judging a joint run, each from what the code knows at its return.
 use Prim.Native.Nat.{ℕ, suc, _+_, _*_, _/_, _%_, _≤_, _<_}
 use mathlib.Core.Path.{_≡_, refl, sym, _∙_, ap, ap₂}
-use mathlib.Core.Bool.{Bool, true, false, cond, _&&_, _||_}
-use mathlib.Core.List.{List, [], _∷_, map}
+use mathlib.Core.Bool.{Bool, true, false, cond, _&&_}
+use mathlib.Core.List.{List, [], _∷_}
 use mathlib.Core.Option.{Option, none, some}
 use native.Mathlib.Omega.{arith}
 use lib.ListN.{length, getD, drop, drop-of-length-le}
@@ -14,12 +14,11 @@ use Rattle.hml.specs.Lists.{any, any-cong, present, guard}
 use Rattle.hml.specs.System.{System, Pairing}
 use Rattle.hml.specs.Labels.{pairs}
 use Rattle.labels.specs.Refusals.{firstOf, thenOf}
-use Rattle.labels.specs.Labels.{pairing, partnerFound}
+use Rattle.labels.specs.Labels.{partnerFound}
 use Rattle.tables.specs.Tables.{statesOf, tableOf, threes, among, hasMove, checkTable, Ready}
 use Rattle.halves.specs.Runs.{goOn}
 use Rattle.machines.specs.Joints.{jointSteps, kept, shakesTo, answerTo, isLeftAlone, isRightAlone, isHandshake, isJointIdle, isReal, isRealStep, fitJoint, isJointRun, checkJoint, checkTablesAndJoint}
 use Rattle.labels.specs.declared.label.Label.{Label}
-use Rattle.labels.specs.declared.label.Labels.{Labels}
 use Rattle.labels.specs.declared.label.Partner.the-variants as partner
 use Rattle.labels.specs.declared.refusal.Refusal.{Refusal}
 use Rattle.labels.specs.declared.refusal.Refusal.the-variants.{WrongLength, NotReal}

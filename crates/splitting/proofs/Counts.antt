@@ -1,8 +1,8 @@
 -- Counting splittings step by step: the product of the steps' ways, capped; and what the count's checks let through.
-use Prim.Native.Nat.{ℕ, zero, suc, _+_, _-_, _*_, _/_, _%_, _≤_, _<_, min}
+use Prim.Native.Nat.{ℕ, zero, suc, _+_, _-_, _*_, _/_, _≤_, _<_, min}
 use mathlib.Core.Path.{_≡_, refl, sym, _∙_, ap}
 use mathlib.Core.Bool.{Bool, true, false}
-use mathlib.Core.List.{List, [], _∷_}
+use mathlib.Core.List.{List}
 use native.Mathlib.Omega.{arith}
 use native.Mathlib.Nat.{mul-zero, mul-suc, mul-le-mul}
 use lib.ListN.{length, getD, take}
@@ -12,7 +12,7 @@ use borrow.Author.Tests.{leb-true, leb-false}
 use Rattle.hml.specs.Tests.{tested-ℕ}
 use Rattle.hml.specs.System.{Run, start, _▸_, last}
 use Rattle.hml.specs.Labels.{pairs}
-use Rattle.hml.specs.Split.{splits, splits-count, options}
+use Rattle.hml.specs.Split.{splits, splits-count}
 use Rattle.labels.specs.Labels.{pairing}
 use Rattle.labels.specs.declared.label.Labels.{Labels}
 use Rattle.tables.specs.Tables.{tableOf, rowsOf, rowsFrom, bytesOf, movesIn}

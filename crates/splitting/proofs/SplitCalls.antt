@@ -1,23 +1,22 @@
 -- The cases of the calls of count and split, each from what the code knows at its return.
-use Prim.Native.Nat.{ℕ, _+_, _*_, _/_, _%_, _≤_, _<_, min}
-use mathlib.Core.Path.{_≡_, refl, sym, _∙_, ap}
+use Prim.Native.Nat.{ℕ, _+_, _*_, _/_, _≤_, _<_, min}
+use mathlib.Core.Path.{_≡_, refl, sym, ap}
 use mathlib.Core.Bool.{Bool, true, false, _||_, false≢true}
 use mathlib.Core.List.{List}
 use native.Mathlib.Omega.{arith}
 use lib.ListN.{length}
-use lib.Dec.{leb, ltb}
+use lib.Dec.{ltb}
 use borrow.Author.Tests.{lt-ltb, le-ltb, le-leb, lt-leb, ltb-false}
 use Rattle.hml.specs.Tests.{apart}
-use Rattle.hml.specs.System.{steps}
-use Rattle.labels.specs.Refusals.{firstOf, thenOf, refusedIf}
+use Rattle.labels.specs.Refusals.{firstOf, refusedIf}
 use Rattle.labels.specs.Labels.{checkPairs}
 use Rattle.labels.specs.declared.refusal.Refusal.{Refusal}
 use Rattle.labels.specs.declared.refusal.Refusal.the-variants.{TooManySplittings, NoSuchSplitting, OutputTooShort}
 use Rattle.labels.specs.declared.refusal.Check.{Check}
 use Rattle.labels.specs.declared.refusal.Check.the-variants.{Sound, Refused}
 use Rattle.labels.proofs.Refusals.{both-sound, unrefused}
-use Rattle.machines.specs.Joints.{jointOf, checkTablesAndJoint}
-use Rattle.splitting.specs.Splittings.{splittingsOf, checkLog, splittingLimit, checkCount, checkNumber, checkSplit, halfLength, leftHalf, rightHalf, counted, countOf, splitOf, leftOutput, rightOutput}
+use Rattle.machines.specs.Joints.{checkTablesAndJoint}
+use Rattle.splitting.specs.Splittings.{splittingsOf, checkLog, splittingLimit, checkCount, checkNumber, checkSplit, halfLength, counted, countOf, splitOf, leftOutput, rightOutput}
 use Rattle.splitting.specs.Working.{Log, wholeLeft, wholeRight}
 use Rattle.splitting.specs.declared.count.Counted.the-variants as count
 use Rattle.splitting.specs.declared.split.Splitting.the-variants as splitting

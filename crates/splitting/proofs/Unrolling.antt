@@ -1,21 +1,21 @@
 -- Writing the halves of a splitting from the last step to the first: "the first step varies slowest".
 use Prim.Native.Nat.{ℕ, zero, suc, _+_, _-_, _*_, _/_, _%_, _≤_, _<_}
-use mathlib.Core.Path.{_≡_, refl, sym, _∙_, ap, ap₂}
+use mathlib.Core.Path.{_≡_, refl, sym, _∙_, ap}
 use mathlib.Core.List.{List, [], _∷_, _++_, append-assoc}
 use native.Mathlib.Omega.{arith}
 use native.Mathlib.Nat.{mul-zero, div-lt-iff-lt-mul}
-use lib.ListN.{length, getD, take, drop, set, length-set}
+use lib.ListN.{length, getD, drop, set, length-set}
 use Rattle.hml.specs.Tests.{tested-ℕ}
-use Rattle.hml.specs.Lists.{each, each-append}
+use Rattle.hml.specs.Lists.{each-append}
 use Rattle.hml.specs.System as theory
 use Rattle.hml.specs.System.{Run, start, _▸_, first, last, move, idle}
 use Rattle.hml.specs.Compose.{paired, last-join}
 use Rattle.hml.specs.Labels.{pairs}
-use Rattle.hml.specs.Split.{grown, options, splits, splits-sound}
+use Rattle.hml.specs.Split.{grown, splits, splits-sound}
 use Rattle.hml.specs.Indexed.{element}
 use Rattle.hml.specs.Numbered.{splits-at}
 use Rattle.tables.specs.Tables.{tableOf}
-use Rattle.halves.specs.Runs.{written, stepOf}
+use Rattle.halves.specs.Runs.{written}
 use Rattle.halves.specs.Halves.{halfBytes}
 use Rattle.halves.specs.Steps.{stepStruct}
 use Rattle.halves.specs.declared.step.Step.{Step}

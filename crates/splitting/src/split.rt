@@ -13,7 +13,7 @@ use ways::count::count_ways;
 ghost use mathlib.Core.Path.{_≡_};
 ghost use Prim.Native.Nat.{_+_, _*_, _/_, _≤_, _<_};
 ghost use lib.ListN.{length, getD};
-ghost use Rattle.splitting.specs.Splittings.{splittingsOf, checkSplit, splitOf, leftHalf, rightHalf, leftOutput, rightOutput, halfLength};
+ghost use Rattle.splitting.specs.Splittings.{splittingsOf, checkSplit, splitOf, leftOutput, rightOutput, halfLength};
 ghost use Rattle.splitting.specs.Working.{Log, Tables, optionsAt, wayAt, stepMeant, putStep, wholeLeft, wholeRight};
 
 // The length of each half, in bytes.

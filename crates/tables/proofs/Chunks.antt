@@ -1,5 +1,5 @@
 -- Bytes read in chunks of a fixed size, such as the rows of a table and the steps of a run.
-use Prim.Native.Nat.{ℕ, zero, suc, _+_, _*_, _/_, _%_, _≤_, _<_}
+use Prim.Native.Nat.{ℕ, zero, suc, _+_, _*_, _/_, _%_, _<_}
 use mathlib.Core.Path.{_≡_, refl, sym, _∙_, ap}
 use mathlib.Core.List.{List, [], _∷_, _++_, map, append-nil, append-assoc}
 use native.Mathlib.Nat.{mul-zero, mul-suc, add-comm, mul-add-mod-self-right, mod-eq-of-lt, mul-add-div-right, div-eq-of-lt}

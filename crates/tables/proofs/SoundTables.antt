@@ -3,23 +3,21 @@ use Prim.Native.Nat.{ℕ, _+_, _-_, _%_, _≤_, _<_}
 use native.Mathlib.Omega.{arith}
 use mathlib.Core.Path.{_≡_, refl, sym, _∙_, ap}
 use mathlib.Core.Logic.{_↔_, _⊎_, inl, inr}
-use mathlib.Core.Bool.{Bool, true, false, cond, not, _||_, _&&_, false≢true}
+use mathlib.Core.Bool.{Bool, true, false, cond, _||_, _&&_}
 use mathlib.Core.List.{List, [], _∷_, _++_}
 use mathlib.Core.List.{List·Memᴰ·head as here, List·Memᴰ·tail as there, List·Memᴰ·not-nil as nowhere, List·Memᴰ·cases-cons as ∈-cons, Memᴰ·cast as ∈-cast}
 use lib.ListN.{length}
-use lib.Dec.{eqb, leb, ltb}
-use borrow.Author.Tests.{ltb-true, ltb-false, eqb-true, leb-true, leb-false}
-use Rattle.labels.proofs.Refusals.{Judges, accepts, rejects, judges, judged-unless, judged-fault, judged-iff, judged-then}
-use Rattle.hml.specs.Tests.{apart, same, Decides, proves, refutes, decides, decided-lt, decided-le, decided-true, decided-iff, decided-and, decided-or, decided-same, same-refl}
+use lib.Dec.{eqb, ltb}
+use borrow.Author.Tests.{eqb-true}
+use Rattle.labels.proofs.Refusals.{Judges, accepts, judges, judged-unless, judged-fault, judged-iff, judged-then}
+use Rattle.hml.specs.Tests.{same, Decides, decides, decided-lt, decided-le, decided-true, decided-iff, decided-and, decided-or, decided-same, same-refl}
 use Rattle.hml.specs.Lists.{_∈_, only, ∈-only, ∈-each, each-∈}
 use Rattle.hml.specs.Machine.{Row, machine}
 use Rattle.hml.specs.Labels.{count}
 use Rattle.hml.specs.Distinct.{Distinct, distinct-only, distinct-each}
-use Rattle.labels.specs.Refusals.{refusedIf, thenOf, firstOf}
-use Rattle.labels.specs.declared.refusal.Refusal.{Refusal}
+use Rattle.labels.specs.Refusals.{firstOf}
 use Rattle.labels.specs.declared.refusal.Refusal.the-variants.{WrongLength, OutOfRange, RowNotAbove, NinthRow}
-use Rattle.labels.specs.declared.refusal.Check.{Check}
-use Rattle.labels.specs.declared.refusal.Check.the-variants.{Sound, Refused}
+use Rattle.labels.specs.declared.refusal.Check.the-variants.{Sound}
 use Rattle.tables.specs.Tables.{statesOf, rowsOf, tableOf, fitTable, fitStates, inRange, rowBelow, aboveLast, leaving, checkRow, checkRows, checkTable, Rising, none, one, more, Ready}
 
 -- a row in range

@@ -9,7 +9,7 @@ use native.Mathlib.Nat.{add-zero}
 use lib.ListN.{length, getD, drop}
 use lib.Seq.{getD-drop, drop-drop}
 use borrow.Author.Tests.{eq-eqb, ne-eqb, eqb-true}
-use Rattle.hml.specs.Tests.{same, apart, decides, denied, decided-same, decided-alike, and-cong}
+use Rattle.hml.specs.Tests.{same, apart, denied, decided-same, decided-alike, and-cong}
 use Rattle.hml.specs.Lists.{any, present, any-cong, any-false}
 use Rattle.hml.specs.System.{Run, _▸_, move, last, Pairing}
 use Rattle.hml.specs.Formula.{Formula, fwd, holds}

@@ -10,7 +10,7 @@ use lib.Seq.{drop-drop}
 use lib.Dec.{eqb, leb}
 use borrow.Author.Tests.{leb-true}
 use Rattle.hml.specs.Tests.{same, both-true, Decides, decides, decided-or, decided-same}
-use Rattle.hml.specs.System.{Run, _▸_, move, idle, last}
+use Rattle.hml.specs.System.{Run, _▸_, move, idle}
 use Rattle.hml.specs.Formula.{Formula, not, and, or, fwd, back, fwdIdle, backIdle, size, nesting, labelled, holds}
 use Rattle.hml.specs.Labels.{count}
 use Rattle.labels.specs.declared.label.Labels.{Labels}

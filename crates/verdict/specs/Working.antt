@@ -7,7 +7,7 @@ use lib.ListN.{length, getD, drop}
 use lib.Dec.{eqb}
 use Rattle.hml.specs.Tests.{same}
 use Rattle.hml.specs.Lists.{any, present}
-use Rattle.hml.specs.System.{System, Run, last, Pairing}
+use Rattle.hml.specs.System.{System, Run, Pairing}
 use Rattle.hml.specs.Formula.{Formula, holds, nesting, labelled}
 use Rattle.hml.specs.Compose.{beside}
 use Rattle.hml.specs.Labels.{count}

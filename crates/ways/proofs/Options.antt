@@ -1,14 +1,14 @@
 -- The ways of a step as document 01 lists them are the options of the theory, in the same order. Needs tables without repetition.
 use Prim.Native.Nat.{ℕ}
-use mathlib.Core.Path.{_≡_, refl, sym, _∙_, ap, ap₂}
+use mathlib.Core.Path.{_≡_, refl, sym, _∙_, ap₂}
 use mathlib.Core.Bool.{Bool, true, false, cond, _&&_}
 use mathlib.Core.List.{List, [], _∷_, _++_, map}
 use mathlib.Core.Option.{Option, none, some}
 use lib.Dec.{eqb}
 use borrow.Author.Tests.{eqb-true}
-use Rattle.hml.specs.Tests.{apart, same, same-refl, Decides, decides, denied, decided-same, decided-alike, both-true, tested-ℕ}
-use Rattle.hml.specs.Lists.{only, each, given, guard, any, each-append, each-cong, each-none, each-only, each-map, each-each}
-use Rattle.hml.specs.System.{System, Step, Pairing, move, idle}
+use Rattle.hml.specs.Tests.{apart, same, denied, decided-same, decided-alike, both-true, tested-ℕ}
+use Rattle.hml.specs.Lists.{only, each, given, guard, each-append, each-cong, each-none, each-only, each-map, each-each}
+use Rattle.hml.specs.System.{System, Pairing, move, idle}
 use Rattle.hml.specs.Compose.{Way, left, right, both, joint, ways, shakes, decided-shakes}
 use Rattle.hml.specs.Compose as compose
 use Rattle.hml.specs.Real.{halves}

@@ -2,7 +2,7 @@
 -- order in which splittings are numbered: "left alone, right alone, then handshakes by rising left label". A joint idle is the one way of
 -- its step. The moves that leave the two states are given; that these are the theory's options is `options-listed` in proofs/Options.
 use Prim.Native.Nat.{ℕ}
-use mathlib.Core.Bool.{Bool, true, cond, _&&_}
+use mathlib.Core.Bool.{cond, _&&_}
 use mathlib.Core.List.{List, [], _∷_, _++_}
 use mathlib.Core.Option.{Option, none, some}
 use lib.ListN.{getD}

@@ -65,11 +65,12 @@ fn nth_handshake(labels: Labels, left: &[u8], right: &[u8], step: JointStep, n: 
 {
     let after = step.after;
     let label = step.label;
+    let still = Way {
+        left: Step::Idle,
+        right: Step::Idle,
+    };
     if !label.is_silent() {
-        return Way {
-            left: Step::Idle,
-            right: Step::Idle,
-        };
+        return still;
     }
     let mut rows = left;
     let mut passed = n;
@@ -96,8 +97,5 @@ fn nth_handshake(labels: Labels, left: &[u8], right: &[u8], step: JointStep, n: 
             Partner::Nobody => {}
         }
     }
-    Way {
-        left: Step::Idle,
-        right: Step::Idle,
-    }
+    still
 }

@@ -2,9 +2,6 @@
 use borrow.Author.Needs.{needs}
 use Rattle.engine.proofs.verdict_value.Statement.{statement}
 use Rattle.engine.proofs.verdict_value.Tie as tie
-use Rattle.engine.proofs.verdict_value.Lts as lts
-use Rattle.engine.proofs.refused.Reads as refused-reads
-use mathlib.Core.Path.{_∙_}
 use Rattle.engine.specs.Answers.{verdictAnswer}
 
 enum-told : tie.Need-enum-told

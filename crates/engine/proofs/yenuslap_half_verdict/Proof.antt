@@ -2,9 +2,6 @@
 use borrow.Author.Needs.{needs}
 use Rattle.engine.proofs.yenuslap_half_verdict.Statement.{statement}
 use Rattle.engine.proofs.yenuslap_half_verdict.Tie as tie
-use Rattle.engine.proofs.yenuslap_half_verdict.Lts as lts
-use Rattle.engine.proofs.verdict_value.Reads as verdict-value-reads
-use Rattle.verdict.proofs.half.half.Reads as half-reads
 use mathlib.Core.Path.{_∙_, ap}
 use Rattle.engine.specs.Answers.{verdictAnswer}
 

@@ -1,6 +1,5 @@
 -- At each return the tests say which case of `checkFormula` holds.
 use mathlib.Core.Path.{sym, _∙_}
-use native.Mathlib.Omega.{arith}
 use borrow.Author.Tests.{not-true, not-false}
 use Rattle.formulas.proofs.Checking.{over-limit, no-formula, no-tree, more-than-tree, one-tree, tree-of, label-refused, nested-refused, formula-sound}
 use borrow.Author.Needs.{needs}

@@ -2,8 +2,8 @@
 use borrow.Author.Needs.{needs}
 use native.Mathlib.Omega.{arith}
 use mathlib.Core.Path.{sym, _∙_}
-use lib.ListN.{length, take, drop, length-take, length-drop}
-use Rattle.formulas.proofs.Measures.{tree-room, leaf-measure, body-tree, one-made, body-room, later-tree, later-room, two-made, body, later}
+use lib.ListN.{length, drop, length-take, length-drop}
+use Rattle.formulas.proofs.Measures.{tree-room, leaf-measure, body-tree, one-made, body-room, later-tree, later-room, two-made, body}
 use Prim.Native.Nat.{ℕ, _-_, _<_}
 use borrow.Fn.Kinds.{In}
 use borrow.Fn.PlainCycle.{Measures, is, falls, and}

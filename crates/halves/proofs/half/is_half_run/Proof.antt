@@ -1,5 +1,4 @@
 -- The steps before step i fit, and those from it on decide; the measure is the steps that are left.
-use borrow.Author.Needs.{needs}
 use native.Mathlib.Omega.{arith}
 use mathlib.Core.Path.{sym, _∙_}
 use Prim.Native.Nat.{_-_, _/_}

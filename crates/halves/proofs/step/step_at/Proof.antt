@@ -1,6 +1,5 @@
 -- At each return the tests say which case of `stepRead` holds.
 use mathlib.Core.Path.{sym, _∙_}
-use native.Mathlib.Omega.{arith}
 use Rattle.halves.proofs.Steps.{even-length, beyond-steps, idle-step, move-step}
 use borrow.Author.Needs.{needs}
 use Rattle.halves.proofs.step.step_at.Statement.{statement}

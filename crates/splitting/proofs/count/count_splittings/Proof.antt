@@ -2,9 +2,8 @@
 use Rattle.splitting.proofs.count.count_splittings.Statement.{statement}
 use Rattle.splitting.proofs.count.count_splittings.Tie as tie
 use native.Mathlib.Omega.{arith}
-use Prim.Native.Nat.{_-_, _/_, _≤_, _*_}
+use Prim.Native.Nat.{_-_, _/_, _≤_}
 use lib.ListN.{length}
-use mathlib.Core.Path.{refl}
 use borrow.Author.Needs.{needs}
 use Rattle.splitting.proofs.Counts.{Counted, counted-start, counted-on, counted-small, counted-end, product-small}
 

@@ -3,8 +3,6 @@ use borrow.Author.Needs.{needs}
 use Rattle.splitting.proofs.split.put_way.Statement.{statement}
 use Rattle.splitting.proofs.split.put_way.Tie as tie
 use native.Mathlib.Omega.{arith}
-use mathlib.Core.Path.{sym, _∙_}
-use lib.ListN.{length-set}
 use Rattle.splitting.proofs.Counts.{ways-options}
 use Rattle.splitting.proofs.Unrolling.{ways-some, number-before, left-put, right-put}
 

@@ -1,5 +1,4 @@
 -- At each return the tests say which case of `checkRow` holds.
-use mathlib.Core.Path.{sym, _∙_}
 use borrow.Author.Tests.{not-true, not-false}
 use Rattle.tables.proofs.Judging.{out-judged, first-judged, low-judged, new-judged, more-judged, ninth-judged, seen-range, seen-below, seen-from, unseen-from}
 use borrow.Author.Needs.{needs}

@@ -1,10 +1,8 @@
 -- The rows before row i are sound, and `leaving` of them leave the state of the last; the measure is the rows that are left.
 use borrow.Author.Needs.{needs}
 use native.Mathlib.Omega.{arith}
-use mathlib.Core.Path.{_≡_, sym, _∙_}
+use mathlib.Core.Path.{sym, _∙_}
 use Prim.Native.Nat.{_-_}
-use lib.ListN.{length}
-use Rattle.tables.specs.Tables.{rowsOf}
 use Rattle.tables.proofs.Judging.{Going, going-start, going-end, going-stopped, going-on}
 use Rattle.tables.proofs.check.check_rows.Statement.{statement}
 use Rattle.tables.proofs.check.check_rows.Tie as tie

@@ -1,5 +1,4 @@
 -- At each return the tests say which case of `checkTable` holds.
-use native.Mathlib.Omega.{arith}
 use Rattle.tables.proofs.Judging.{misfit-table, long-table, no-states, many-states, rows-decide}
 use borrow.Author.Needs.{needs}
 use Rattle.tables.proofs.check.check_table.Statement.{statement}

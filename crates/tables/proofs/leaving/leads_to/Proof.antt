@@ -1,7 +1,6 @@
 -- The rows are tried one after the other; the measure is the bytes that are left.
 use Rattle.tables.proofs.leaving.leads_to.Statement.{statement}
 use Rattle.tables.proofs.leaving.leads_to.Tie as tie
-use borrow.Author.Needs.{needs}
 use native.Mathlib.Omega.{arith}
 use mathlib.Core.Path.{sym, _∙_}
 use mathlib.Core.Bool.{Bool, _&&_}

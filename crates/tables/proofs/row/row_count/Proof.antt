@@ -1,6 +1,5 @@
 -- Three bytes a row, behind the number of states.
 use native.Mathlib.Omega.{arith}
-use mathlib.Core.Path.{sym, _∙_}
 use Rattle.tables.proofs.Rows.{length-rows}
 use borrow.Author.Needs.{needs}
 use Rattle.tables.proofs.row.row_count.Statement.{statement}

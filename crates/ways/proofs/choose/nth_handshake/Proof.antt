@@ -13,10 +13,10 @@ use Rattle.tables.specs.Tables.{movesIn}
 use Rattle.ways.proofs.RowWays.{Seeking, seeking-start, seeking-miss, seeking-hit, seeking-end, seeking-found, no-handshake-chosen}
 
 abbrev Inv-loop : tie.InvT-loop
-Inv-loop labels left right n after rows₀ passed₀ rows passed = Seeking (pairing labels) (movesIn right) after left n rows passed
+Inv-loop labels left right n after still rows₀ passed₀ rows passed = Seeking (pairing labels) (movesIn right) after left n rows passed
 
 abbrev μ-loop : tie.MeasureT-loop
-μ-loop labels left right n after rows₀ passed₀ rows passed = length rows
+μ-loop labels left right n after still rows₀ passed₀ rows passed = length rows
 
 is-silent-requires : tie.Need-is-silent-requires Inv-loop μ-loop
 is-silent-requires c κs = search needs
@@ -30,11 +30,11 @@ loop-holds c = seeking-start _ _ _ _ _
 first-answer-requires : tie.Need-first-answer-requires Inv-loop μ-loop
 first-answer-requires c κs = omega arith
 
-shared-slice-read-t20 : tie.Need-shared-slice-read-t20 Inv-loop μ-loop
-shared-slice-read-t20 c = omega arith
+shared-slice-read-t21 : tie.Need-shared-slice-read-t21 Inv-loop μ-loop
+shared-slice-read-t21 c = omega arith
 
-shared-slice-read-t23 : tie.Need-shared-slice-read-t23 Inv-loop μ-loop
-shared-slice-read-t23 c = omega arith
+shared-slice-read-t24 : tie.Need-shared-slice-read-t24 Inv-loop μ-loop
+shared-slice-read-t24 c = omega arith
 
 sub-rows : tie.Need-sub-rows Inv-loop μ-loop
 sub-rows c = omega arith
@@ -82,8 +82,8 @@ nth-handshake-spec =
     returns
     loop-holds
     first-answer-requires
-    shared-slice-read-t20
-    shared-slice-read-t23
+    shared-slice-read-t21
+    shared-slice-read-t24
     sub-rows
     part-rows-start
     part-rows-end

@@ -2,7 +2,6 @@
 use borrow.Author.Needs.{needs}
 use Rattle.ways.proofs.choose.nth_right_way.Statement.{statement}
 use Rattle.ways.proofs.choose.nth_right_way.Tie as tie
-use native.Mathlib.Omega.{arith}
 use mathlib.Core.Path.{sym, _∙_}
 use borrow.Author.Tests.{not-true, not-false}
 use Rattle.ways.proofs.RowWays.{right-chosen, right-passed, no-right-chosen}

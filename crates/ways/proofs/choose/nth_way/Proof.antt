@@ -2,7 +2,6 @@
 use borrow.Author.Needs.{needs}
 use Rattle.ways.proofs.choose.nth_way.Statement.{statement}
 use Rattle.ways.proofs.choose.nth_way.Tie as tie
-use native.Mathlib.Omega.{arith}
 use mathlib.Core.Path.{sym, _∙_}
 use borrow.Author.Tests.{not-true, not-false}
 use Rattle.ways.proofs.RowWays.{idle-chosen, left-chosen, left-passed, no-left-chosen}
