@@ -2,28 +2,30 @@
 use Prim.Native.Nat.{ℕ, zero, suc, _+_, _-_, _*_, _/_, _%_, _≤_, _<_}
 use mathlib.Core.Path.{_≡_, refl, sym, _∙_, ap}
 use mathlib.Core.Bool.{Bool, true, false, cond, false≢true}
-use mathlib.Core.List.{List, [], _∷_, _++_, append-nil, append-assoc}
+use mathlib.Core.List.{List, [], _∷_, _++_}
 use mathlib.Core.Option.{Option, none, some}
 use native.Mathlib.Omega.{arith}
-use lib.ListN.{length, getD, take, drop, set, length-append, length-drop, length-set}
-use lib.Seq.{take-add, take-all, take-at, drop-cons, drop-at, drop-drop, drop-set-lt, length-take-le, sets-eq}
+use lib.ListN.{length, getD, take, drop, set, length-set}
+use lib.Seq.{take-all, drop-set-lt, length-take-le}
 use lib.Dec.{eqb}
 use borrow.Author.Tests.{eqb-true}
 use Rattle.hml.specs.Tests.{apart, decides, denied}
-use Rattle.hml.specs.Lists.{guard, present, each, length-each}
+use Rattle.hml.specs.Lists.{guard, present, each-append, length-each}
 use Rattle.hml.specs.System.{Step, move, idle, Run, start, _▸_, last, steps, Pairing}
-use Rattle.hml.specs.Compose.{shakes, decided-shakes, paired, Join, starts, _▹_, last-join}
-use Rattle.hml.specs.Joining.{joinStep, extend, join, join-sound}
+use Rattle.hml.specs.Compose.{shakes, decided-shakes, paired, starts, last-join}
+use Rattle.hml.specs.Joining.{joinStep, extend, join, join-sound, join-steps}
 use Rattle.hml.specs.Labels.{pairs}
 use Rattle.labels.specs.Labels.{partnerFound}
 use Rattle.labels.specs.declared.label.Label.{Label}
 use Rattle.labels.specs.declared.label.Partner.the-variants as partner
 use Rattle.halves.specs.Runs.{written, stepOf, lengthened}
 use Rattle.halves.specs.Halves.{twos, halfOf}
-use Rattle.halves.proofs.Runs.{steps-lengthened, length-written}
+use Rattle.halves.proofs.Runs.{steps-lengthened, length-written, stepBytes}
 use Rattle.halves.proofs.HalfRuns.{twos-chunks, half-more}
 use Rattle.tables.proofs.Chunks.{chunks-length}
 use Rattle.machines.specs.Joints.{jointBytes}
+use Rattle.labels.proofs.Slices.{take-two, written-behind}
+use Rattle.machines.proofs.JointRuns.{stateBytes}
 use Rattle.machines.proofs.Buffers.{put, length-put}
 use Rattle.machines.proofs.Joints.{found-some, found-none}
 use Rattle.joining.specs.Joinings.{joinOf, halvesMatch, runBytes, joinBytes}
@@ -90,12 +92,6 @@ unfolding halfOf twos lengthened
 half-start [] h = absurd (omega arith)
 half-start (p ∷ a) h = refl
 
--- a part with two bytes more
-take-two : (l : List ℕ) (n : ℕ) → n + 2 ≤ length l → take (n + 2) l ≡ take n l ++ getD l n 0 ∷ getD l (n + 1) 0 ∷ []
-take-two l n h =
-    let e : n + 1 ≡ suc n = omega arith in
-    rw (take-add, drop-cons l n 0 (omega arith), drop-cons l (suc n) 0 (omega arith), e)
-
 -- with its next step
 half-next : (a : List ℕ) (i : ℕ) → 2 * i + 2 < length a → upTo a (i + 1) ≡ upTo a i ▸ stepOf (getD a (2 * i + 1) 0) (getD a (2 * i + 2) 0)
 half-next a i h =
@@ -144,11 +140,6 @@ step-joined P l r a p b q h g = go (eqb a 255) (eqb b 255) refl refl h g
     go false true e f h g = rw (e, g)
     go false false e f h g = shaken (shakes P a b)
 
--- runs that join have the steps of the run that they give
-joined-steps : {P : Pairing} {l r : Run ℕ} {j : Run (ℕ × ℕ)} → Join P paired l r j → (steps l ≡ steps j) × (steps r ≡ steps j)
-joined-steps starts = (refl, refl)
-joined-steps (m ▹ w) = let (x, y) = joined-steps m in (ap suc x, ap suc y)
-
 -- is there a run?
 abbrev pub matched : Option (Run (ℕ × ℕ)) → Bool
 matched o = present (λ j. true) o
@@ -192,7 +183,7 @@ module _ (k : ℕ) (a b : List ℕ) (x : HalfBytes a) (y : HalfBytes b) where
     where
       go : (o : Option (Run (ℕ × ℕ))) → join (pairs k) paired (halfOf a) (halfOf b) ≡ o → matched o ≡ true → length a ≡ length b
       go none e m = absurd (false≢true m)
-      go (some j) e m = let (u, v) = joined-steps (join-sound (pairs k) paired (halfOf a) (halfOf b) j e) in omega (arith, u, v, half-steps a (x .odd), half-steps b (y .odd), x .odd, y .odd)
+      go (some j) e m = let (u, v) = join-steps (pairs k) paired (join-sound (pairs k) paired (halfOf a) (halfOf b) j e) in omega (arith, u, v, half-steps a (x .odd), half-steps b (y .odd), x .odd, y .odd)
 
   -- 16 for halves that are not
   pub match-uneven : (length a ≡ length b → ⊥) → false ≡ halvesMatch k a b
@@ -241,19 +232,14 @@ module _ (k : ℕ) (a b : List ℕ) (x : HalfBytes a) (y : HalfBytes b) where
                 let m′ = matched-before n (i + 1) (omega (arith, x .odd)) (omega (arith, x .odd)) (rw (s, joined-whole) e) in
                 absurd (stopped (joinedTo k a b i) (rw (joined-next i (omega arith) (omega arith), label-none (labelHere k a b i) f) at m′))
 
--- the bytes of a list of steps and one more
-each-more : {A : Type 0} (f : A → List ℕ) (xs : List A) (x : A) → each f (xs ++ x ∷ []) ≡ each f xs ++ f x
-each-more f [] x = append-nil (f x)
-each-more f (y ∷ xs) x = ap (f y ++_) (each-more f xs x) ∙ sym (append-assoc (f y) (each f xs) (f x))
-
 -- the bytes of a joint run with one more step, which ends in the targets that are written with it
 bytes-more : (j : Run (ℕ × ℕ)) (c p q : ℕ) → last (j ▸ stepOf c (p, q)) ≡ (p, q) → jointBytes (j ▸ stepOf c (p, q)) ≡ jointBytes j ++ c ∷ p ∷ q ∷ []
 unfolding jointBytes stepOf written
 bytes-more j c p q h = go (eqb c 255) refl h
   where
     go : (t : Bool) → eqb c 255 ≡ t → last (j ▸ cond t idle (move c (p, q))) ≡ (p, q) → jointBytes (j ▸ cond t idle (move c (p, q))) ≡ jointBytes j ++ c ∷ p ∷ q ∷ []
-    go true e h = rw (h, each-more _ (written j) (255, (p, q)), eqb-true c 255 e)
-    go false e h = rw (each-more _ (written j) (c, (p, q)))
+    go true e h = rw (h, each-append (stepBytes stateBytes) (written j) ((255, (p, q)) ∷ []), eqb-true c 255 e)
+    go false e h = rw (each-append (stepBytes stateBytes) (written j) ((c, (p, q)) ∷ []))
 
 -- two start states, and three bytes a step
 bytes-length : (j : Run (ℕ × ℕ)) → length (jointBytes j) ≡ 3 * steps j + 2
@@ -265,8 +251,7 @@ put-three : (b xs : List ℕ) (n c p q : ℕ) → length b ≡ n → n + 3 ≤ l
 put-three b xs n c p q e h =
     let second : n + 1 ≡ suc n = omega arith in
     let third : n + 2 ≡ suc (suc n) = omega arith in
-    rw (second, third) (sets-eq (c ∷ p ∷ q ∷ []) (b ++ drop n xs) n (omega (arith, length-append b (drop n xs), length-drop n xs))
-    ∙ rw (take-at b (drop n xs) n e, ← drop-drop 3 n (b ++ drop n xs), drop-at b (drop n xs) n e, drop-drop 3 n xs, append-assoc))
+    rw (second, third) (written-behind b (c ∷ p ∷ q ∷ []) xs n e h)
 
 -- the output when the loop begins: the two start states
 abbrev pub begunBy : List ℕ → List ℕ → List ℕ → List ℕ
@@ -299,7 +284,7 @@ module _ (k : ℕ) (a b : List ℕ) (x : HalfBytes a) (y : HalfBytes b) (m : hal
       go : (o : Option (Run (ℕ × ℕ))) → joinedTo k a b i ≡ o → matched o ≡ true → (j : Run (ℕ × ℕ)) × (o ≡ some j) × (length (jointBytes j) ≡ 3 * i + 2)
       go none e t = absurd (false≢true t)
       go (some j) e t =
-          let (u, v) = joined-steps (join-sound (pairs k) paired (upTo a i) (upTo b i) j e) in
+          let (u, v) = join-steps (pairs k) paired (join-sound (pairs k) paired (upTo a i) (upTo b i) j e) in
           (j, refl, omega (arith, bytes-length j, u, up-to-steps a i (omega (arith, x .odd))))
 
   -- the whole run

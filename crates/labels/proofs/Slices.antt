@@ -1,10 +1,10 @@
 -- Parts of slices, as the goals of proofs have them.
-use Prim.Native.Nat.{ℕ, _-_, _≤_, _<_}
+use Prim.Native.Nat.{ℕ, suc, _+_, _-_, _≤_, _<_}
 use mathlib.Core.Path.{_≡_, ap, _∙_}
-use mathlib.Core.List.{List}
+use mathlib.Core.List.{List, [], _∷_, _++_, append-assoc}
 use native.Mathlib.Omega.{arith}
-use lib.ListN.{length, take, drop, length-take, length-drop}
-use lib.Seq.{take-all}
+use lib.ListN.{length, getD, take, drop, length-append, length-take, length-drop}
+use lib.Seq.{take-all, take-add, take-at, drop-cons, drop-at, drop-drop, sets, sets-eq}
 
 -- the part from k on
 abbrev pub rest : ℕ → List ℕ → List ℕ
@@ -21,3 +21,14 @@ rest-length k l = ap length (rest-of k l) ∙ length-drop k l
 -- and is shorter than the whole
 pub rest-fewer : (k : ℕ) (l : List ℕ) → 1 ≤ k → k ≤ length l → length (rest k l) < length l
 rest-fewer k l h i = simp (length-take, length-drop) (omega arith)
+
+-- a front with two bytes more
+pub take-two : (l : List ℕ) (n : ℕ) → n + 2 ≤ length l → take (n + 2) l ≡ take n l ++ getD l n 0 ∷ getD l (n + 1) 0 ∷ []
+take-two l n h =
+    let e : n + 1 ≡ suc n = omega arith in
+    rw (take-add, drop-cons l n 0 (omega arith), drop-cons l (suc n) 0 (omega arith), e)
+
+-- bytes d written behind the bytes b
+pub written-behind : (b d xs : List ℕ) (n : ℕ) → length b ≡ n → n + length d ≤ length xs → sets (b ++ drop n xs) n d ≡ (b ++ d) ++ drop (n + length d) xs
+written-behind b d xs n e h = sets-eq d (b ++ drop n xs) n (omega (arith, length-append b (drop n xs), length-drop n xs))
+    ∙ rw (take-at b (drop n xs) n e, ← drop-drop (length d) n (b ++ drop n xs), drop-at b (drop n xs) n e, drop-drop (length d) n xs, append-assoc)

@@ -1,10 +1,11 @@
 -- The loop that writes a half run as a joint run: the first i steps stand, each turn adds one.
 use Prim.Native.Nat.{ℕ, suc, _+_, _*_, _%_, _≤_, _<_}
 use mathlib.Core.Path.{_≡_, refl, _∙_}
-use mathlib.Core.List.{List, [], _∷_, _++_, append-assoc}
+use mathlib.Core.List.{List, [], _∷_, _++_}
 use native.Mathlib.Omega.{arith}
-use lib.ListN.{length, getD, take, drop, set, length-append, length-take, length-drop, length-set}
-use lib.Seq.{take-add, take-at, drop-cons, drop-at, drop-drop, drop-set-lt, sets, sets-eq}
+use lib.ListN.{length, getD, take, drop, set, length-take, length-set}
+use lib.Seq.{drop-set-lt}
+use Rattle.labels.proofs.Slices.{take-two, written-behind}
 use Rattle.verdict.specs.Working.{widened, besideStill}
 use Rattle.verdict.proofs.Still.{still-length}
 
@@ -23,17 +24,6 @@ still-more (p ∷ bs) a q h = rw (widened-more bs a q (omega (arith, h)))
 -- the first i steps widened, written over the front of other bytes
 abbrev stillOver : List ℕ → ℕ → List ℕ → List ℕ
 stillOver half i run = besideStill (take (2 * i + 1) half) ++ drop (3 * i + 2) run
-
--- a part with two bytes more
-take-two : (l : List ℕ) (n : ℕ) → n + 2 ≤ length l → take (n + 2) l ≡ take n l ++ getD l n 0 ∷ getD l (n + 1) 0 ∷ []
-take-two l n h =
-    let e : n + 1 ≡ suc n = omega arith in
-    rw (take-add, drop-cons l n 0 (omega arith), drop-cons l (suc n) 0 (omega arith), e)
-
--- three bytes written behind the bytes b
-put-three : (b xs : List ℕ) (n a q : ℕ) → length b ≡ n → n + 3 ≤ length xs → sets (b ++ drop n xs) n (a ∷ q ∷ 0 ∷ []) ≡ (b ++ a ∷ q ∷ 0 ∷ []) ++ drop (n + 3) xs
-put-three b xs n a q e h = sets-eq (a ∷ q ∷ 0 ∷ []) (b ++ drop n xs) n (omega (arith, length-append b (drop n xs), length-drop n xs))
-    ∙ rw (take-at b (drop n xs) n e, ← drop-drop 3 n (b ++ drop n xs), drop-at b (drop n xs) n e, drop-drop 3 n xs, append-assoc)
 
 module _ (half : List ℕ) (i : ℕ) where
   -- the first i steps widened: two start states, and three bytes a step
@@ -80,7 +70,7 @@ module _ (half : List ℕ) (steps : ℕ) where
         record {
           within = omega arith;
           kept = rw (length-set, length-set, length-set) (w .kept);
-          same = rw (w .same, second, third, behind, still-next half i (omega arith)) (put-three (besideStill (take (2 * i + 1) half)) begun (3 * i + 2) (getD half (2 * i + 1) 0) (getD half (2 * i + 2) 0) (still-size half i (omega arith)) (omega arith));
+          same = rw (w .same, second, third, behind, still-next half i (omega arith)) (written-behind (besideStill (take (2 * i + 1) half)) (getD half (2 * i + 1) 0 ∷ getD half (2 * i + 2) 0 ∷ 0 ∷ []) begun (3 * i + 2) (still-size half i (omega arith)) (omega arith));
         }
 
   -- the output keeps the length that it had first

@@ -57,5 +57,7 @@ mod verdict_refused;
 mod verdict_small;
 #[path = "compare/verdict_sound.rs"]
 mod verdict_sound;
+#[path = "compare/worlds.rs"]
+mod worlds;
 #[path = "compare/writing.rs"]
 mod writing;

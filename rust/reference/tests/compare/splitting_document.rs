@@ -2,31 +2,7 @@
 
 use crate::both::unhex;
 use crate::splitting_both::{count_both, join_both, join_exactly, split_both, split_exactly, Log};
-
-/// Two machines with k pairs and a log, written in hexadecimal.
-#[derive(Clone, Copy)]
-struct World {
-    k: u8,
-    left: &'static str,
-    right: &'static str,
-    run: &'static str,
-}
-
-/// Case A.
-const CASE_A: World = World {
-    k: 2,
-    left: "02 000101 000301",
-    right: "02 000201 000401",
-    run: "0000 000101",
-};
-
-/// One state each, both with a looping row of label 1, and one step of label 1.
-const LOOPS: World = World {
-    k: 1,
-    left: "01 000100",
-    right: "01 000100",
-    run: "0000 010000",
-};
+use crate::worlds::{World, CASE_A, LOOPS};
 
 impl World {
     fn log(&self) -> Log {

@@ -5,7 +5,7 @@ use crate::both::{number_of, Tally};
 use crate::faults::Fault;
 use crate::splitting_both::{count_both, join_both, joint_length, split_both, Halves, Log};
 use crate::splitting_logs::{large_shape, many_ways, random_halves, small_shape};
-use crate::verdict_refused::{change_parity, long_half};
+use crate::verdict_refused::{change_parity, long_half, pairs};
 use reference::casebook::Parts;
 use reference::generate::Shape;
 use reference::label::{highest, IDLE};
@@ -424,17 +424,6 @@ fn each_flaw_alone() {
         }
     }
     tally.saw_exactly(&[3, 4, 5, 6, 7, 8, 13, 14, 15, 16, 18]);
-}
-
-/// All pairs of flaws in two arguments, in the order judged.
-fn pairs(arguments: &[Vec<Flaw>]) -> Vec<[Flaw; 2]> {
-    let mut pairs = Vec::new();
-    for (place, first) in arguments.iter().enumerate() {
-        for second in arguments[place + 1..].iter().flatten() {
-            pairs.extend(first.iter().map(|first| [*first, *second]));
-        }
-    }
-    pairs
 }
 
 /// Two flaws at once: the argument that is judged first gives the number.

@@ -284,7 +284,7 @@ fn each_flaw_alone() {
 }
 
 /// All pairs of flaws in two arguments, in the order judged.
-fn pairs(arguments: &[Vec<Flaw>]) -> Vec<[Flaw; 2]> {
+pub fn pairs<Flaw: Copy>(arguments: &[Vec<Flaw>]) -> Vec<[Flaw; 2]> {
     let mut pairs = Vec::new();
     for (place, first) in arguments.iter().enumerate() {
         for second in arguments[place + 1..].iter().flatten() {
