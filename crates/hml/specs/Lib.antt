@@ -19,6 +19,7 @@ pub mod Numbered
 -- table 1 and theorem 1: the quotient keeps the verdict, for two machines and for a line of any number
 pub mod Quotient
 pub mod Theorem
+pub mod Bounds
 pub mod Line
 -- a machine beside one that never moves: the verdict on its run is the joint one
 pub mod Alone

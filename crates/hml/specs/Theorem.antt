@@ -1,19 +1,16 @@
 -- The verdict on a joint run is the verdict on either half under the quotient by the other, at every point of the run.
-use mathlib.Core.Path.{_≡_, refl, ap}
+use mathlib.Core.Path.{_≡_}
 use Prim.Native.Nat.{ℕ, zero, suc, _-_}
 use Rattle.hml.specs.System.{System, Run, Pairing, steps, undo, stop}
 use Rattle.hml.specs.Formula.{Formula, holds}
 use Rattle.hml.specs.Compose.{paired, flipped, beside, beside-composed, composed-flip, Join, starts, _▹_, join-flip}
 use Rattle.hml.specs.Tests.{Tested}
 use Rattle.hml.specs.Lists.{_∈_}
+use Rattle.hml.specs.Joining.{join-steps}
 use Rattle.hml.specs.Split.{splits, splits-sound}
 use Rattle.hml.specs.Quotient.{quotient, quotient-sound}
 
 module _ (P : Pairing) {S T U : Type 0} (pair : S → T → U) where
-  join-steps : {l : Run S} {r : Run T} {j : Run U} → Join P pair l r j → (steps l ≡ steps j) × (steps r ≡ steps j)
-  join-steps starts = (refl, refl)
-  join-steps (m ▹ w) = let h = join-steps m in (ap suc (h .0), ap suc (h .1))
-
   join-undo : (n : ℕ) {l : Run S} {r : Run T} {j : Run U} → Join P pair l r j → Join P pair (undo n l) (undo n r) (undo n j)
   join-undo zero m = m
   join-undo (suc n) starts = starts
@@ -21,7 +18,7 @@ module _ (P : Pairing) {S T U : Type 0} (pair : S → T → U) where
 
   -- halves and joint run may be stopped together
   pub join-stop : (n : ℕ) {l : Run S} {r : Run T} {j : Run U} → Join P pair l r j → Join P pair (stop n l) (stop n r) (stop n j)
-  join-stop n {l} {r} {j} m = rw (join-steps m .0, join-steps m .1) (join-undo (steps j - n) m)
+  join-stop n {l} {r} {j} m = rw (join-steps P pair m .0, join-steps P pair m .1) (join-undo (steps j - n) m)
 
 module _ (P : Pairing) {S T : Type 0} (L : System S) (R : System T) (φ : Formula) {l : Run S} {r : Run T} {j : Run (S × T)} where
   pub by-right : Join P paired l r j → holds (beside P L R) φ j ≡ holds L (quotient P R φ r) l

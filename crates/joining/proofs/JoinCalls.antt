@@ -4,8 +4,7 @@ use mathlib.Core.Path.{_≡_, refl, sym, _∙_, ap}
 use mathlib.Core.Bool.{true, false, not}
 use mathlib.Core.List.{List}
 use native.Mathlib.Omega.{arith}
-use lib.ListN.{length, getD, take}
-use lib.Seq.{getD-take, length-take-le}
+use lib.ListN.{length}
 use borrow.Author.Tests.{lt-ltb, le-ltb}
 use Rattle.hml.specs.Tests.{apart}
 use Rattle.hml.specs.System.{last}
@@ -17,21 +16,12 @@ use Rattle.labels.specs.declared.refusal.Check.{Check}
 use Rattle.labels.specs.declared.refusal.Check.the-variants.{Sound, Refused}
 use Rattle.labels.proofs.Refusals.{then-sound, both-sound, passed}
 use Rattle.tables.specs.Tables.{checkTable}
-use Rattle.halves.specs.Halves.{halfOf, isHalfRun, checkHalf, checkTableAndHalf}
-use Rattle.halves.proofs.HalfRuns.{accepted-half, half-stopped}
+use Rattle.halves.specs.Halves.{isHalfRun, checkHalf, checkTableAndHalf}
+use Rattle.halves.proofs.HalfBuffers.{accepted-held}
 use Rattle.joining.specs.Joinings.{halvesMatch, joinBytes, checkHalves, checkJoin, joiningOf, joinOutput}
 use Rattle.joining.specs.Matching.{HalfBytes, checkRuns, wholeRun}
 use Rattle.joining.specs.declared.join.Joining.the-variants as joining
 use Rattle.joining.proofs.Joined.{join-length}
-
--- a half that is accepted ends, at each point, in the state that is written there
-half-bytes : (t a : List ℕ) → isHalfRun t a ≡ true → HalfBytes a
-half-bytes t a e = record { odd = accepted-half t a e .odd; kept = kept }
-  where
-    kept : (m : ℕ) → 2 * m + 1 ≤ length a → last (halfOf (take (2 * m + 1) a)) ≡ getD a (2 * m) 0
-    kept m i =
-        let n : length (take (2 * m + 1) a) - 1 ≡ 2 * m = omega (arith, length-take-le (2 * m + 1) a i) in
-        rw (accepted-half t (take (2 * m + 1) a) (half-stopped t a m e) .ends, n) (getD-take (2 * m + 1) a (2 * m) 0 (omega arith))
 
 module _ (k : ℕ) (l r a b : List ℕ) where
   -- both tables and both halves: the left half is sound with its table, or decides after both tables
@@ -60,7 +50,7 @@ module _ (k : ℕ) (l r a b : List ℕ) where
       let (_, d) = both-sound (checkTable k r) _ c in
       let (left, f) = both-sound (checkHalf l a) _ d in
       let (right, _) = both-sound (checkHalf r b) _ f in
-      (half-bytes l a (passed (isHalfRun l a) _ left), half-bytes r b (passed (isHalfRun r b) _ right))
+      (accepted-held l a (passed (isHalfRun l a) _ left), accepted-held r b (passed (isHalfRun r b) _ right))
 
   -- the checks of halves, as the code groups them
   halves-regroup : checkHalves k l r a b ≡ thenOf (checkPairs k) (thenOf (checkRuns k l r a b) (refusedIf (not (halvesMatch k a b)) HalvesDoNotMatch))

@@ -1,19 +1,19 @@
 -- What the functions of joining promise each other. No public promise cites this file.
-use Prim.Native.Nat.{ℕ, _+_, _*_, _%_, _≤_}
-use mathlib.Core.Path.{_≡_}
+use Prim.Native.Nat.{ℕ, _+_, _*_}
 use mathlib.Core.Bool.{cond}
 use mathlib.Core.List.{List, [], _∷_, _++_}
 use mathlib.Core.Option.{Option, none, some}
-use lib.ListN.{length, getD, take, drop}
+use lib.ListN.{length, getD, drop}
 use lib.Dec.{eqb}
 use Rattle.hml.specs.Lists.{guard}
-use Rattle.hml.specs.System.{Pairing, last}
+use Rattle.hml.specs.System.{Pairing}
 use Rattle.hml.specs.Compose.{shakes}
 use Rattle.hml.specs.Labels.{pairs}
 use Rattle.labels.specs.Refusals.{firstOf}
 use Rattle.labels.specs.declared.refusal.Check.{Check}
 use Rattle.tables.specs.Tables.{checkTable}
-use Rattle.halves.specs.Halves.{halfOf, checkHalf}
+use Rattle.halves.specs.Halves.{checkHalf}
+use Rattle.halves.proofs.HalfBuffers.{HeldHalf}
 use Rattle.machines.proofs.Buffers.{put}
 use Rattle.joining.specs.Joinings.{joinBytes}
 use Rattle.joining.specs.declared.join.JointLabel.{JointLabel}
@@ -24,9 +24,8 @@ unfoldable pub checkRuns : ℕ → List ℕ → List ℕ → List ℕ → List �
 checkRuns k l r a b = firstOf (checkTable k l ∷ checkTable k r ∷ checkHalf l a ∷ checkHalf r b ∷ [])
 
 -- bytes of a half run of some table: whole steps, and at each point the run ends in the state that is written there
-pub record HalfBytes (a : List ℕ) : Type 0 where
-  pub odd : length a % 2 ≡ 1
-  pub kept : (m : ℕ) → 2 * m + 1 ≤ length a → last (halfOf (take (2 * m + 1) a)) ≡ getD a (2 * m) 0
+abbrev pub HalfBytes : List ℕ → Type 0
+HalfBytes a = HeldHalf a (length a)
 
 -- the label of the joint step that two steps form, by the labels that they are written with
 unfoldable pub jointLabel : Pairing → ℕ → ℕ → Option ℕ
