@@ -1,18 +1,19 @@
 -- A half run in the first bytes of a buffer, which is lengthened by a step and shortened again.
 use Prim.Native.Nat.{ℕ, suc, _+_, _-_, _*_, _/_, _%_, _≤_, _<_}
 use mathlib.Core.Path.{_≡_, refl, _∙_, ap}
-use mathlib.Core.Bool.{Bool, true, false, cond}
+use mathlib.Core.Bool.{Bool, true, false}
 use mathlib.Core.List.{List, [], _∷_, _++_, append-assoc}
 use native.Mathlib.Omega.{arith}
 use native.Mathlib.Numerals.{add-one}
 use lib.ListN.{length, getD, take, set, length-set}
 use lib.Seq.{take-suc-set, take-set-le, set-comm, set-set, set-getD, getD-set-same, getD-set-other, length-take-le, getD-take}
-use lib.Dec.{eqb, leb}
-use borrow.Author.Tests.{eqb-true, leb-true, leb-false}
-use Rattle.hml.specs.System.{Run, start, _▸_, last, idle, move}
+use lib.Dec.{leb}
+use borrow.Author.Tests.{leb-true, leb-false}
+use Rattle.hml.specs.System.{start, _▸_, last}
 use Rattle.labels.proofs.Slices.{take-two}
 use Rattle.halves.specs.Runs.{stepOf, lengthened}
 use Rattle.halves.specs.Halves.{halfOf, twos, isHalfRun}
+use Rattle.halves.proofs.Runs.{ends-in}
 use Rattle.halves.proofs.HalfRuns.{accepted-half, half-more, half-stopped}
 
 -- the first n bytes of xs are a half run, and at each of its points it ends in the state that is written there
@@ -74,20 +75,11 @@ module _ (xs : List ℕ) (n a q : ℕ) where
     put-second : getD (putTwo xs n a q) (n + 1) 0 ≡ q
     put-second = getD-set-same (set xs n a) (n + 1) q 0 (omega (arith, length-set xs n a))
 
--- a step ends in its target, an idle in the state that it keeps
-ends-in : (r : Run ℕ) (a q : ℕ) → (a ≡ 255 → last r ≡ q) → last (r ▸ stepOf a q) ≡ q
-unfolding stepOf
-ends-in r a q k = go (eqb a 255) refl
-  where
-    go : (b : Bool) → eqb a 255 ≡ b → last (r ▸ cond b idle (move a q)) ≡ q
-    go true e = k (eqb-true a 255 e)
-    go false e = refl
-
 -- one byte is a run of no step
-first-one : (xs : List ℕ) → 1 ≤ length xs → halfOf (take 1 xs) ≡ start (getD xs 0 0)
+pub half-first : (xs : List ℕ) → 1 ≤ length xs → halfOf (take 1 xs) ≡ start (getD xs 0 0)
 unfolding halfOf twos lengthened
-first-one [] l = absurd (omega arith)
-first-one (p ∷ xs) l = refl
+half-first [] l = absurd (omega arith)
+half-first (p ∷ xs) l = refl
 
 module _ (xs : List ℕ) (n : ℕ) (h : HeldHalf xs n) where
   -- the run ends in the state that is written last
@@ -100,7 +92,7 @@ module _ (xs : List ℕ) (n : ℕ) (h : HeldHalf xs n) where
 
   -- a run of no step
   pub half-empty : n < 3 → halfOf (take n xs) ≡ start (getD xs 0 0)
-  half-empty l = let z : n ≡ 1 = omega (arith, h .odd) in rw z (first-one xs (omega (arith, h .within, h .odd)))
+  half-empty l = let z : n ≡ 1 = omega (arith, h .odd) in rw z (half-first xs (omega (arith, h .within, h .odd)))
 
   module _ (l : 3 ≤ n) where
     -- the run without its last step, and that step

@@ -3,13 +3,14 @@
 use Prim.Native.Nat.{ℕ, zero, suc, _+_, _-_, _*_, _/_, _%_}
 use mathlib.Core.Path.{_≡_, refl, sym, _∙_, ap}
 use mathlib.Core.Logic.{_⊎_, inl, inr}
-use mathlib.Core.Bool.{Bool, true, false, _&&_, and-assoc}
+use mathlib.Core.Bool.{Bool, true, false, cond, _&&_, and-assoc}
 use mathlib.Core.List.{List, [], _∷_, _++_, append-nil, append-assoc}
 use native.Mathlib.Nat.{zero-sub, zero-mul, suc-mul}
 use native.Mathlib.Omega.{arith}
 use lib.ListN.{length, take, drop, length-append, length-drop, take-append-drop, getD}
 use lib.Seq.{drop-append-add, append-snoc, getD-drop}
-use borrow.Author.Tests.{eq-eqb, ne-eqb}
+use lib.Dec.{eqb}
+use borrow.Author.Tests.{eq-eqb, ne-eqb, eqb-true}
 use Rattle.hml.specs.Tests.{Decides, decides, decided-by, both-true}
 use Rattle.hml.specs.Lists.{_∈_, each, length-each}
 use Rattle.hml.specs.System.{System, move, idle, Run, start, _▸_, first, last, steps, undo, stop, Allowed, moves, idles, RunOf, begins, goes}
@@ -51,6 +52,15 @@ module _ {S : Type 0} where
   pub lengthened-more : (r : Run S) (es : List (ℕ × S)) (a : ℕ) (q : S) → lengthened r (es ++ (a, q) ∷ []) ≡ lengthened r es ▸ stepOf a q
   unfolding lengthened
   lengthened-more r es a q = lengthened-append r es ((a, q) ∷ [])
+
+  -- a written step ends in its target, an idle in the state that it keeps
+  pub ends-in : (r : Run S) (a : ℕ) (q : S) → (a ≡ 255 → last r ≡ q) → last (r ▸ stepOf a q) ≡ q
+  unfolding stepOf
+  ends-in r a q k = go (eqb a 255) refl
+    where
+      go : (b : Bool) → eqb a 255 ≡ b → last (r ▸ cond b idle (move a q)) ≡ q
+      go true e = k (eqb-true a 255 e)
+      go false e = refl
 
   -- each written step is a step
   pub steps-lengthened : (r : Run S) (es : List (ℕ × S)) → steps (lengthened r es) ≡ steps r + length es

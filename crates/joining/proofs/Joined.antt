@@ -18,10 +18,11 @@ use Rattle.hml.specs.Labels.{pairs}
 use Rattle.labels.specs.Labels.{partnerFound}
 use Rattle.labels.specs.declared.label.Label.{Label}
 use Rattle.labels.specs.declared.label.Partner.the-variants as partner
-use Rattle.halves.specs.Runs.{written, stepOf, lengthened}
+use Rattle.halves.specs.Runs.{written, stepOf}
 use Rattle.halves.specs.Halves.{twos, halfOf}
 use Rattle.halves.proofs.Runs.{steps-lengthened, length-written, stepBytes}
 use Rattle.halves.proofs.HalfRuns.{twos-chunks, half-more}
+use Rattle.halves.proofs.HalfBuffers.{half-first}
 use Rattle.tables.proofs.Chunks.{chunks-length}
 use Rattle.machines.specs.Joints.{jointBytes}
 use Rattle.labels.proofs.Slices.{take-two, written-behind}
@@ -86,13 +87,7 @@ module _ (k : ℕ) (a b : List ℕ) (i : ℕ) (out : List ℕ) where
 abbrev pub upTo : List ℕ → ℕ → Run ℕ
 upTo a i = halfOf (take (2 * i + 1) a)
 
--- its start state
-half-start : (a : List ℕ) → 1 ≤ length a → upTo a 0 ≡ start (getD a 0 0)
-unfolding halfOf twos lengthened
-half-start [] h = absurd (omega arith)
-half-start (p ∷ a) h = refl
-
--- with its next step
+-- it with its next step
 half-next : (a : List ℕ) (i : ℕ) → 2 * i + 2 < length a → upTo a (i + 1) ≡ upTo a i ▸ stepOf (getD a (2 * i + 1) 0) (getD a (2 * i + 2) 0)
 half-next a i h =
     let e : 2 * (i + 1) + 1 ≡ 2 * i + 1 + 2 = omega arith in
@@ -156,7 +151,7 @@ joinedTo k a b i = join (pairs k) paired (upTo a i) (upTo b i)
 module _ (k : ℕ) (a b : List ℕ) (x : HalfBytes a) (y : HalfBytes b) where
   joined-start : joinedTo k a b 0 ≡ some (start (getD a 0 0, getD b 0 0))
   unfolding join
-  joined-start = rw (half-start a (omega (arith, x .odd)), half-start b (omega (arith, y .odd)))
+  joined-start = rw (half-first a (omega (arith, x .odd)), half-first b (omega (arith, y .odd)))
 
   -- the next joint step
   joined-next : (i : ℕ) → 2 * i + 2 < length a → 2 * i + 2 < length b

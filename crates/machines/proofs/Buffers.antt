@@ -1,18 +1,18 @@
 -- A joint run in the first bytes of a buffer, which is lengthened by a step and shortened again.
 use Prim.Native.Nat.{ℕ, suc, _+_, _-_, _*_, _/_, _%_, _≤_, _<_}
 use mathlib.Core.Path.{_≡_, refl, _∙_, ap}
-use mathlib.Core.Bool.{Bool, true, false, cond}
+use mathlib.Core.Bool.{Bool, true, false}
 use mathlib.Core.List.{List, [], _∷_, _++_, append-assoc}
 use native.Mathlib.Omega.{arith}
 use native.Mathlib.Numerals.{add-one}
 use lib.ListN.{length, getD, take, set, length-set}
 use lib.Seq.{take-suc-set, take-set-le, set-comm, set-set, set-getD, getD-set-same, getD-set-other, length-take-le, take-suc, getD-take}
-use lib.Dec.{eqb, leb}
-use borrow.Author.Tests.{eqb-true, leb-true, leb-false}
-use Rattle.hml.specs.System.{Run, start, _▸_, last, idle, move}
+use lib.Dec.{leb}
+use borrow.Author.Tests.{leb-true, leb-false}
+use Rattle.hml.specs.System.{start, _▸_, last}
 use Rattle.tables.specs.Tables.{threes, tableOf}
 use Rattle.halves.specs.Runs.{stepOf, lengthened}
-use Rattle.halves.proofs.Runs.{NoIdleLabel}
+use Rattle.halves.proofs.Runs.{NoIdleLabel, ends-in}
 use Rattle.machines.specs.Joints.{jointOf, jointSteps, fitJoint, isJointRun}
 use Rattle.machines.proofs.JointRuns.{accepted-joint, joint-more, joint-stopped}
 
@@ -97,15 +97,6 @@ module _ (xs : List ℕ) (n a p q : ℕ) where
 
     put-third : getD (put xs n a p q) (n + 2) 0 ≡ q
     put-third = getD-set-same (set (set xs n a) (n + 1) p) (n + 2) q 0 (omega (arith, length-set (set xs n a) (n + 1) p, length-set xs n a))
-
--- a step ends in its targets, an idle in the states that it keeps
-ends-in : (r : Run (ℕ × ℕ)) (a : ℕ) (u : ℕ × ℕ) → (a ≡ 255 → last r ≡ u) → last (r ▸ stepOf a u) ≡ u
-unfolding stepOf
-ends-in r a u k = go (eqb a 255) refl
-  where
-    go : (b : Bool) → eqb a 255 ≡ b → last (r ▸ cond b idle (move a u)) ≡ u
-    go true e = k (eqb-true a 255 e)
-    go false e = refl
 
 -- two bytes are a run of no step
 first-two : (xs : List ℕ) → 2 ≤ length xs → jointOf (take 2 xs) ≡ start (getD xs 0 0, getD xs 1 0)

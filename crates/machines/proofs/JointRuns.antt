@@ -94,6 +94,11 @@ tablesOf k l r = beside (pairs k) (tableOf l) (tableOf r)
 abbrev realFits : ℕ → List ℕ → List ℕ → ℕ × ℕ → ℕ → ℕ × ℕ → Bool
 realFits k l r = isRealStep (pairs k) (tableOf l) (tableOf r)
 
+-- two tables that no check refuses
+pub record Tables (k : ℕ) (l r : List ℕ) : Type 0 where
+  pub left : SoundTable k l
+  pub right : SoundTable k r
+
 -- what an accepted joint run is
 pub record AcceptedJoint (k : ℕ) (l r s : List ℕ) : Type 0 where
   pub run : RunOf (tablesOf k l r) (jointOf s)

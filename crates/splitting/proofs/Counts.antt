@@ -1,4 +1,4 @@
--- Counting splittings step by step: the product of the steps' ways, capped; and what the count's checks let through.
+-- Counting splittings step by step: the product of the steps' ways, capped.
 use Prim.Native.Nat.{ℕ, zero, suc, _+_, _-_, _*_, _/_, _≤_, _<_, min}
 use mathlib.Core.Path.{_≡_, refl, sym, _∙_, ap}
 use mathlib.Core.Bool.{Bool, true, false}
@@ -20,10 +20,11 @@ use Rattle.tables.proofs.SoundTables.{moves-distinct, moves-few}
 use Rattle.tables.proofs.Searching.{leaving-moves}
 use Rattle.halves.specs.Runs.{stepOf}
 use Rattle.machines.specs.Joints.{jointOf}
+use Rattle.machines.proofs.JointRuns.{Tables}
 use Rattle.machines.proofs.Buffers.{Held, held-empty, held-step}
 use Rattle.splitting.specs.Splittings.{splittingsOf}
 use Rattle.ways.specs.StepWays.{waysHere}
-use Rattle.splitting.specs.Working.{Tables, Log, stepHere, optionsAt}
+use Rattle.splitting.specs.Working.{Log, stepHere, optionsAt}
 use Rattle.ways.specs.declared.step.JointStep.{JointStep}
 use Rattle.ways.proofs.RowWays.{ways-few}
 use Rattle.ways.proofs.Options.{options-listed}
@@ -67,8 +68,8 @@ module _ (k : ℕ) (l r s : List ℕ) where
   splitsUpTo i = splits (pairs k) tested-ℕ tested-ℕ (tableOf l) (tableOf r) (upTo i)
 
   -- so many splittings have the steps before step i, or 65,536 if there are more
-  unfoldable pub Counted : ℕ → ℕ → Type 0
-  Counted i n = n ≡ min (length (splitsUpTo i)) 65536
+  unfoldable pub CountedTo : ℕ → ℕ → Type 0
+  CountedTo i n = n ≡ min (length (splitsUpTo i)) 65536
 
 -- the steps of a log
 module _ {k : ℕ} {l r s : List ℕ} (g : Log k l r s) where
@@ -98,20 +99,20 @@ module _ {k : ℕ} {l r s : List ℕ} (g : Log k l r s) where
     unfolding optionsAt
     step-splits = rw one-step (splits-count (pairs k) tested-ℕ tested-ℕ (tableOf l) (tableOf r) (upTo k l r s i) _ ∙ rw states-before)
 
-  pub counted-start : Counted k l r s 0 1
-  unfolding Counted splits
+  pub counted-start : CountedTo k l r s 0 1
+  unfolding CountedTo splits
   counted-start = rw up-to-start
 
-  pub counted-on : (i n w m : ℕ) → i < length s / 3 → Counted k l r s i n → w ≡ length (optionsAt k l r s i) → m ≡ min (n * w) 65536 → Counted k l r s (i + 1) m
-  unfolding Counted
+  pub counted-on : (i n w m : ℕ) → i < length s / 3 → CountedTo k l r s i n → w ≡ length (optionsAt k l r s i) → m ≡ min (n * w) 65536 → CountedTo k l r s (i + 1) m
+  unfolding CountedTo
   counted-on i n w m h c e f = rw (f, step-splits i h, c, e) (product-capped (length (splitsUpTo k l r s i)) (length (optionsAt k l r s i)) 65536)
 
-  pub counted-small : (i n : ℕ) → Counted k l r s i n → n ≤ 65536
-  unfolding Counted
+  pub counted-small : (i n : ℕ) → CountedTo k l r s i n → n ≤ 65536
+  unfolding CountedTo
   counted-small i n c = omega (arith, c)
 
-  pub counted-end : (i n : ℕ) → Counted k l r s i n → i ≡ length s / 3 → n ≡ min (length (splittingsOf k l r s)) 65536
-  unfolding Counted splittingsOf
+  pub counted-end : (i n : ℕ) → CountedTo k l r s i n → i ≡ length s / 3 → n ≡ min (length (splittingsOf k l r s)) 65536
+  unfolding CountedTo splittingsOf
   counted-end i n c e = rw (← up-to-end, ← e) c
 
 -- a capped number times a few ways

@@ -8,20 +8,14 @@ use Rattle.hml.specs.System.{move, idle}
 use Rattle.hml.specs.Split.{options}
 use Rattle.hml.specs.Labels.{pairs}
 use Rattle.tables.specs.Tables.{tableOf}
-use Rattle.tables.proofs.SoundTables.{SoundTable}
 use Rattle.halves.specs.Runs.{stepOf}
 use Rattle.halves.specs.declared.step.Step.{Step}
 use Rattle.halves.specs.declared.step.Step.the-variants as step
-use Rattle.machines.proofs.JointRuns.{AcceptedJoint}
+use Rattle.machines.proofs.JointRuns.{Tables, AcceptedJoint}
 use Rattle.machines.proofs.Buffers.{Held}
 use Rattle.splitting.specs.Splittings.{leftHalf, rightHalf}
 use Rattle.ways.specs.StepWays.{Steps, chosen}
 use Rattle.ways.specs.declared.step.JointStep.{JointStep}
-
--- two tables that no check refuses
-pub record Tables (k : ℕ) (l r : List ℕ) : Type 0 where
-  pub left : SoundTable k l
-  pub right : SoundTable k r
 
 -- two tables and a joint run of them that no check refuses
 pub record Log (k : ℕ) (l r s : List ℕ) : Type 0 where

@@ -10,8 +10,9 @@ use ways::count::count_ways;
 ghost use mathlib.Core.Path.{_≡_};
 ghost use Prim.Native.Nat.{_+_, _*_, _≤_, _<_, min};
 ghost use lib.ListN.{length};
+ghost use Rattle.machines.proofs.JointRuns.{Tables};
 ghost use Rattle.splitting.specs.Splittings.{splittingsOf, checkLog, countOf};
-ghost use Rattle.splitting.specs.Working.{Log, Tables, optionsAt};
+ghost use Rattle.splitting.specs.Working.{Log, optionsAt};
 
 // How many splittings there are, at most 65,535.
 pub enum Counted {
@@ -60,6 +61,7 @@ fn count_splittings(labels: Labels, left: &[u8], right: &[u8], run: &[u8]) -> us
     splittings
 }
 
+// 65,536 stands for every number from there on.
 fn capped(n: usize) -> usize
     ensures { λ r. ⌜ r ≡ min n 65536 ⌝ }
 {

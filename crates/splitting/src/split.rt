@@ -13,8 +13,9 @@ use ways::count::count_ways;
 ghost use mathlib.Core.Path.{_≡_};
 ghost use Prim.Native.Nat.{_+_, _*_, _/_, _≤_, _<_};
 ghost use lib.ListN.{length, getD};
+ghost use Rattle.machines.proofs.JointRuns.{Tables};
 ghost use Rattle.splitting.specs.Splittings.{splittingsOf, checkSplit, splitOf, leftOutput, rightOutput, halfLength};
-ghost use Rattle.splitting.specs.Working.{Log, Tables, optionsAt, wayAt, stepMeant, putStep, wholeLeft, wholeRight};
+ghost use Rattle.splitting.specs.Working.{Log, optionsAt, wayAt, stepMeant, putStep, wholeLeft, wholeRight};
 
 // The length of each half, in bytes.
 pub enum Splitting {

@@ -30,8 +30,8 @@ use Rattle.halves.specs.Halves.{halfOf, isHalfRun, checkHalf, checkTableAndHalf
 use Rattle.halves.specs.Cuts.{beyond}
 use Rattle.halves.proofs.HalfRuns.{AcceptedHalf, accepted-half, half-stop}
 use Rattle.machines.specs.Joints.{jointOf, fitJoint, isJointRun, checkJoint, checkTablesAndJoint}
-use Rattle.machines.proofs.JointRuns.{AcceptedJoint, accepted-joint, joint-stop, joint-stopped}
-use Rattle.machines.proofs.Buffers.{Held}
+use Rattle.machines.proofs.JointRuns.{Tables, AcceptedJoint, accepted-joint, joint-stop}
+use Rattle.machines.proofs.Buffers.{Held, accepted-held}
 use Rattle.formulas.specs.Formulas.{formulaOf, Legal, checkFormula}
 use Rattle.formulas.specs.Sizes.{sizesOver}
 use Rattle.formulas.specs.Working.{Tree, treeOf}
@@ -39,7 +39,7 @@ use Rattle.formulas.proofs.Checking.{judged-formula, formula-spell, formula-len
 use Rattle.formulas.proofs.Operators.{tree-spell}
 use Rattle.formulas.proofs.TreeSizes.{sizes-over, length-over}
 use Rattle.verdict.specs.Verdicts.{nodeLimit, jointHolds, halfHolds, checkJointCall, checkHalfCall, verdictOf, answered, jointVerdict, halfVerdict}
-use Rattle.verdict.specs.Working.{Tables, Ready, gridOf, judged, tablesHold, besideStill}
+use Rattle.verdict.specs.Working.{Ready, gridOf, judged, tablesHold, besideStill}
 use Rattle.verdict.specs.declared.answer.Verdict.{Verdict}
 use Rattle.verdict.specs.declared.answer.Verdict.the-variants as verdict
 use Rattle.verdict.proofs.Still.{still-read, still-length, still-take, still-ends}
@@ -147,12 +147,8 @@ module _ (k : ℕ) (l r s f : List ℕ) where
           where
             kept : (m : ℕ) → 3 * m + 2 ≤ 3 * p + 2 → last (jointOf (take (3 * m + 2) xs)) ≡ (getD xs (3 * m) 0, getD xs (3 * m + 1) 0)
             kept m i =
-                let (fit, real) = joint-stopped k l r s m (call .fit) (call .real) in
-                let a = accepted-joint k l r (no-idle-label (call .tables .left)) (no-idle-label (call .tables .right)) (take (3 * m + 2) s) fit real in
-                let n : length (take (3 * m + 2) s) ≡ 3 * m + 2 = length-take-le (3 * m + 2) s (omega (arith, joint-room)) in
-                let u : length (take (3 * m + 2) s) - 2 ≡ 3 * m = omega (arith, n) in
-                let v : length (take (3 * m + 2) s) - 1 ≡ 3 * m + 1 = omega (arith, n) in
-                rw (front (3 * m + 2) i, a .ends, u, v, getD-take (3 * m + 2) s (3 * m) 0 (omega arith), getD-take (3 * m + 2) s (3 * m + 1) 0 (omega arith), front-at (3 * m) (omega arith), front-at (3 * m + 1) (omega arith))
+                let held = accepted-held k l r (no-idle-label (call .tables .left)) (no-idle-label (call .tables .right)) s (call .fit) (call .real) in
+                rw (front (3 * m + 2) i, front-at (3 * m) (omega arith), front-at (3 * m + 1) (omega arith)) (held .kept m (omega (arith, i, joint-room)))
 
         pub joint-answer : checkJointCall k l r s f p ≡ Sound → (v : Verdict) → v ≡ verdictOf (present (λ φ. tablesHold (record { pairs = k }) l r φ (jointOf (take (3 * p + 2) xs))) (formulaOf f)) → v ≡ jointVerdict k l r s f p
         unfolding jointVerdict jointHolds answered tablesHold pairing

@@ -14,7 +14,6 @@ use Rattle.hml.specs.Labels.{count}
 use Rattle.labels.specs.Labels.{pairing}
 use Rattle.labels.specs.declared.label.Labels.{Labels}
 use Rattle.tables.specs.Tables.{tableOf}
-use Rattle.tables.proofs.SoundTables.{SoundTable}
 use Rattle.machines.proofs.Buffers.{Held}
 use Rattle.formulas.specs.Working.{Tree, treeOf}
 use Rattle.formulas.specs.Sizes.{Sized}
@@ -92,11 +91,7 @@ pub record Ready (k : ℕ) (sizes xs : List ℕ) (n more : ℕ) (f : List ℕ) :
 unfoldable pub judged : Labels → List ℕ → List ℕ → Formula → Run (ℕ × ℕ) → Bool
 judged labels l r φ j = holds (beside (pairing labels) (gridOf l) (gridOf r)) φ j
 
--- the tables of a call, which no check refuses, and their verdict
-pub record Tables (k : ℕ) (l r : List ℕ) : Type 0 where
-  pub left : SoundTable k l
-  pub right : SoundTable k r
-
+-- the verdict of two tables
 unfoldable pub tablesHold : Labels → List ℕ → List ℕ → Formula → Run (ℕ × ℕ) → Bool
 tablesHold labels l r φ j = holds (beside (pairing labels) (tableOf l) (tableOf r)) φ j
 

@@ -9,10 +9,11 @@ ghost use Prim.Native.Nat.{_≤_};
 ghost use lib.ListN.{length, take};
 ghost use Rattle.hml.specs.Lists.{present};
 ghost use Rattle.machines.specs.Joints.{jointOf};
+ghost use Rattle.machines.proofs.JointRuns.{Tables};
 ghost use Rattle.machines.proofs.Buffers.{Held};
 ghost use Rattle.formulas.specs.Formulas.{formulaOf, Legal};
 ghost use Rattle.verdict.specs.Verdicts.{nodeLimit, verdictOf};
-ghost use Rattle.verdict.specs.Working.{Tables, tablesHold};
+ghost use Rattle.verdict.specs.Working.{tablesHold};
 
 pub enum Verdict {
     Holds,

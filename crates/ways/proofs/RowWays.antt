@@ -48,9 +48,6 @@ behind : (x : Steps) (xs : List Steps) (n : ℕ) → (n ≡ 0 → ⊥) → chose
 behind x xs zero z = absurd (z refl)
 behind x xs (suc n) z = let p : suc n - 1 ≡ n = omega arith in rw p
 
-first-chosen : (x : Steps) (xs : List Steps) (n : ℕ) → n ≡ 0 → chosen (x ∷ xs) n ≡ x
-first-chosen x xs n z = rw z
-
 -- rows have three bytes each
 moves-bytes : (rows : List ℕ) → 3 * length (movesIn rows) ≤ length rows
 unfolding movesIn

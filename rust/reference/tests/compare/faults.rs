@@ -25,6 +25,14 @@ pub enum Fault {
     After,
 }
 
+/// The faults of a table's contents.
+pub const OF_TABLES: [Fault; 4] = [
+    Fault::States,
+    Fault::RowRange,
+    Fault::RowOrder,
+    Fault::NinthRow,
+];
+
 /// All faults.
 pub const ALL: [Fault; 13] = [
     Fault::Lost,

@@ -2,7 +2,7 @@
 
 use crate::book::{unfit_body, Book};
 use crate::both::{number_of, Tally};
-use crate::faults::Fault;
+use crate::faults::{Fault, OF_TABLES};
 use crate::splitting_both::{count_both, join_both, joint_length, split_both, Halves, Log};
 use crate::splitting_logs::{large_shape, many_ways, random_halves, small_shape};
 use crate::verdict_refused::{change_parity, long_half, pairs};
@@ -174,14 +174,8 @@ fn join_flaws() -> Vec<Vec<Flaw>> {
 
 /// The flaws of a table.
 fn table_flaws(record: usize) -> Vec<Flaw> {
-    let contents = [
-        Fault::States,
-        Fault::RowRange,
-        Fault::RowOrder,
-        Fault::NinthRow,
-    ];
     let mut flaws = vec![Flaw::Length(record)];
-    flaws.extend(contents.map(|fault| Flaw::Part(fault, record)));
+    flaws.extend(OF_TABLES.map(|fault| Flaw::Part(fault, record)));
     flaws
 }
 

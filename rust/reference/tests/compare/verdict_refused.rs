@@ -2,7 +2,7 @@
 
 use crate::book::{random_book, unfit_body, Book};
 use crate::both::Tally;
-use crate::faults::Fault;
+use crate::faults::{Fault, OF_TABLES};
 use crate::verdict_both::{half_both, joint_both, with_a_large_stack, HalfParts};
 use reference::casebook::Parts;
 use reference::formula::QUOTIENT_NODES;
@@ -104,14 +104,8 @@ fn half_flaws() -> [Vec<Flaw>; 5] {
 
 /// The flaws of a table.
 fn table_flaws(record: usize) -> Vec<Flaw> {
-    let contents = [
-        Fault::States,
-        Fault::RowRange,
-        Fault::RowOrder,
-        Fault::NinthRow,
-    ];
     let mut flaws = vec![Flaw::Length(record)];
-    flaws.extend(contents.map(|fault| Flaw::Part(fault, record)));
+    flaws.extend(OF_TABLES.map(|fault| Flaw::Part(fault, record)));
     flaws
 }
 

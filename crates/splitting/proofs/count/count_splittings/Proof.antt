@@ -5,10 +5,10 @@ use native.Mathlib.Omega.{arith}
 use Prim.Native.Nat.{_-_, _/_, _≤_}
 use lib.ListN.{length}
 use borrow.Author.Needs.{needs}
-use Rattle.splitting.proofs.Counts.{Counted, counted-start, counted-on, counted-small, counted-end, product-small}
+use Rattle.splitting.proofs.Counts.{CountedTo, counted-start, counted-on, counted-small, counted-end, product-small}
 
 abbrev Inv-loop : tie.InvT-loop
-Inv-loop labels left right run steps splittings₀ i₀ splittings i = (i ≤ length run / 3) × Counted (labels .pairs) left right run i splittings
+Inv-loop labels left right run steps splittings₀ i₀ splittings i = (i ≤ length run / 3) × CountedTo (labels .pairs) left right run i splittings
 
 abbrev μ-loop : tie.MeasureT-loop
 μ-loop labels left right run steps splittings₀ i₀ splittings i = length run / 3 - i
