@@ -8,7 +8,7 @@ use lib.ListN.{length}
 use borrow.Author.Tests.{ne-eqb}
 use Rattle.labels.specs.declared.refusal.Refusal.{Refusal}
 use Rattle.labels.specs.declared.refusal.Refusal.the-variants.{PointBeyond}
-use Rattle.halves.specs.Cuts.{beyond, prefixOf, cutOf, knownOf, knownHalf}
+use Rattle.halves.specs.Cuts.{beyond, prefixOf, cutOf, knownOf, knownPart}
 use Rattle.halves.specs.declared.side.Side.{Side}
 use Rattle.halves.specs.declared.side.Side.the-variants as side
 use Rattle.halves.proofs.Cuts.{refused-empty}
@@ -103,13 +103,13 @@ none-named b x y = rw (ne-eqb _ _ x, ne-eqb _ _ y)
 
 -- an empty part is a refusal, and no other is empty
 module _ (l r x : List ℕ) (s : Side) (b point : ℕ) (e : x ≡ cutOf l r s point) (f : s ≡ sideOf b) where
-  part-is : x ≡ prefixOf (knownHalf l r (knownOf (sideOf b))) point
+  part-is : x ≡ prefixOf (knownPart l r (knownOf (sideOf b))) point
   unfolding cutOf
-  part-is = e ∙ ap (λ z. prefixOf (knownHalf l r (knownOf z)) point) f
+  part-is = e ∙ ap (λ z. prefixOf (knownPart l r (knownOf z)) point) f
 
   pub cut-refused : length x ≡ 0 → (n : ℕ) → n ≡ refusedAs PointBeyond → n ≡ cutAnswer l r b point
   unfolding cutAnswer
-  cut-refused h n g = rw (refused-empty (knownHalf l r (knownOf (sideOf b))) point .1 (sym part-is ∙ empty x h)) g
+  cut-refused h n g = rw (refused-empty (knownPart l r (knownOf (sideOf b))) point .1 (sym part-is ∙ empty x h)) g
     where
       empty : (l : List ℕ) → length l ≡ 0 → l ≡ []
       empty [] h = refl
@@ -117,10 +117,10 @@ module _ (l r x : List ℕ) (s : Side) (b point : ℕ) (e : x ≡ cutOf l r s po
 
   pub cut-found : (length x ≡ 0 → ⊥) → length x ≡ cutAnswer l r b point
   unfolding cutAnswer
-  cut-found n = go (beyond (knownHalf l r (knownOf (sideOf b))) point) refl
+  cut-found n = go (beyond (knownPart l r (knownOf (sideOf b))) point) refl
     where
-      go : (t : Bool) → beyond (knownHalf l r (knownOf (sideOf b))) point ≡ t → length x ≡ cutAnswer l r b point
-      go true h = absurd (n (ap length (part-is ∙ refused-empty (knownHalf l r (knownOf (sideOf b))) point .0 h)))
+      go : (t : Bool) → beyond (knownPart l r (knownOf (sideOf b))) point ≡ t → length x ≡ cutAnswer l r b point
+      go true h = absurd (n (ap length (part-is ∙ refused-empty (knownPart l r (knownOf (sideOf b))) point .0 h)))
       go false h = rw h (ap length (e ∙ ap (λ z. cutOf l r z point) f))
 
 -- a is the answer of a count, of a split, of a join

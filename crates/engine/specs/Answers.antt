@@ -7,7 +7,7 @@ use lib.Dec.{eqb}
 use Rattle.labels.specs.Refusals.{numberOf}
 use Rattle.labels.specs.declared.refusal.Refusal.{Refusal}
 use Rattle.labels.specs.declared.refusal.Refusal.the-variants.{PointBeyond}
-use Rattle.halves.specs.Cuts.{beyond, cutOf, knownOf, knownHalf}
+use Rattle.halves.specs.Cuts.{beyond, cutOf, knownOf, knownPart}
 use Rattle.halves.specs.declared.side.Side.{Side}
 use Rattle.halves.specs.declared.side.Side.the-variants as side
 use Rattle.casebook.specs.declared.record.Record.{Record}
@@ -61,7 +61,7 @@ sideOf b = cond (eqb b 1) side.Left (cond (eqb b 2) side.Right side.Unnamed)
 
 -- a cut: value length of the part, or 12
 unfoldable pub cutAnswer : List ℕ → List ℕ → ℕ → ℕ → ℕ
-cutAnswer l r b point = cond (beyond (knownHalf l r (knownOf (sideOf b))) point) (refusedAs PointBeyond) (length (cutOf l r (sideOf b) point))
+cutAnswer l r b point = cond (beyond (knownPart l r (knownOf (sideOf b))) point) (refusedAs PointBeyond) (length (cutOf l r (sideOf b) point))
 
 -- a verdict: value 1 where it holds, 0 where it fails
 unfoldable pub verdictAnswer : Verdict → ℕ

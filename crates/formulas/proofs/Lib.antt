@@ -4,4 +4,5 @@ pub mod FormulaLabels
 pub mod Measures
 pub mod Operators
 pub mod TreeSizes
+pub mod Operands
 pub mod Checking

@@ -47,6 +47,10 @@ wholeOf (some (φ, b ∷ bytes)) = none
 unfoldable pub formulaOf : List ℕ → Option Formula
 formulaOf f = wholeOf (parse f)
 
+-- "A question has 1 to 64 nodes"
+abbrev pub questionLimit : ℕ
+questionLimit = 64
+
 -- what it is for bytes to be a formula of a call: they spell one tree, of at most `limit` nodes, whose labels are those of k pairs and
 -- whose forward modalities nest at most 4 deep
 unfoldable pub Legal : ℕ → ℕ → List ℕ → Type 0

@@ -12,7 +12,7 @@ use Rattle.hml.specs.Tests.{apart}
 use Rattle.hml.specs.System.{steps, stop}
 use Rattle.halves.specs.Halves.{halfOf, isHalfRun}
 use Rattle.halves.proofs.HalfRuns.{accepted-half, half-stop, half-stopped}
-use Rattle.halves.specs.Cuts.{beyond, prefixOf, cutOf, knownHalf, knownOf}
+use Rattle.halves.specs.Cuts.{beyond, prefixOf, cutOf, knownPart, knownOf}
 use Rattle.halves.specs.declared.side.Side.{Side}
 use Rattle.halves.specs.declared.side.Known.{Known}
 
@@ -30,7 +30,7 @@ module _ (s : List ℕ) (point : ℕ) where
   inner-prefix o h = rw (ne-eqb _ _ o, le-ltb _ _ h)
 
 -- the cut is the prefix of the half that the side stands for
-pub cut-prefix : (l r x : List ℕ) (side : Side) (known : Known) (point : ℕ) → known ≡ knownOf side → x ≡ prefixOf (knownHalf l r known) point → x ≡ cutOf l r side point
+pub cut-prefix : (l r x : List ℕ) (side : Side) (known : Known) (point : ℕ) → known ≡ knownOf side → x ≡ prefixOf (knownPart l r known) point → x ≡ cutOf l r side point
 unfolding cutOf
 cut-prefix l r x side known point e h = rw (← e) h
 

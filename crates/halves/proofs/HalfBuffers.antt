@@ -1,12 +1,12 @@
 -- A half run in the first bytes of a buffer, which is lengthened by a step and shortened again.
 use Prim.Native.Nat.{ℕ, suc, _+_, _-_, _*_, _/_, _%_, _≤_, _<_}
-use mathlib.Core.Path.{_≡_, refl, _∙_, ap}
+use mathlib.Core.Path.{_≡_, refl, sym, _∙_, ap}
 use mathlib.Core.Bool.{Bool, true, false}
 use mathlib.Core.List.{List, [], _∷_, _++_, append-assoc}
 use native.Mathlib.Omega.{arith}
 use native.Mathlib.Numerals.{add-one}
 use lib.ListN.{length, getD, take, set, length-set}
-use lib.Seq.{take-suc-set, take-set-le, set-comm, set-set, set-getD, getD-set-same, getD-set-other, length-take-le, getD-take}
+use lib.Seq.{take-take, take-suc-set, take-set-le, set-comm, set-set, set-getD, getD-set-same, getD-set-other, length-take-le, getD-take}
 use lib.Dec.{leb}
 use borrow.Author.Tests.{leb-true, leb-false}
 use Rattle.hml.specs.System.{start, _▸_, last}
@@ -34,6 +34,16 @@ accepted-held t a e = record { odd = accepted-half t a e .odd; within = omega ar
 -- a half held up to a point is held up to each before it
 pub held-to : (xs : List ℕ) (n m : ℕ) → HeldHalf xs n → m % 2 ≡ 1 → m ≤ n → HeldHalf xs m
 held-to xs n m h o l = record { odd = o; within = omega (arith, h .within, l); kept = λ i j. h .kept i (omega (arith, j, l)) }
+
+-- a half that is copied to the front of a buffer is held there
+pub held-copied : (a xs : List ℕ) (n : ℕ) → HeldHalf a n → take n xs ≡ take n a → n ≤ length xs → HeldHalf xs n
+held-copied a xs n h e i = record { odd = h .odd; within = i; kept = kept }
+  where
+    kept : (m : ℕ) → 2 * m + 1 ≤ n → last (halfOf (take (2 * m + 1) xs)) ≡ getD xs (2 * m) 0
+    kept m j =
+        let same = sym (take-take (2 * m + 1) n xs j) ∙ ap (take (2 * m + 1)) e ∙ take-take (2 * m + 1) n a j in
+        let at = sym (getD-take n xs (2 * m) 0 (omega arith)) ∙ ap (λ l. getD l (2 * m) 0) e ∙ getD-take n a (2 * m) 0 (omega arith) in
+        rw (same, at) (h .kept m j)
 
 -- two bytes in the place of those from n on
 abbrev pub putTwo : List ℕ → ℕ → ℕ → ℕ → List ℕ

@@ -23,11 +23,15 @@ beyond s point = eqb (length s % 2) 0 || ltb (length s / 2) point
 unfoldable pub prefixOf : List ℕ → ℕ → List ℕ
 prefixOf s point = cond (beyond s point) [] (take (2 * point + 1) s)
 
--- the half that is known
-abbrev pub knownHalf : List ℕ → List ℕ → Known → List ℕ
-knownHalf l r known.Left = l
-knownHalf l r known.Right = r
+-- of a left and a right part, that of the known side, and that of the other
+abbrev pub knownPart : List ℕ → List ℕ → Known → List ℕ
+knownPart l r known.Left = l
+knownPart l r known.Right = r
+
+abbrev pub otherPart : List ℕ → List ℕ → Known → List ℕ
+otherPart l r known.Left = r
+otherPart l r known.Right = l
 
 -- "A cut returns the known half as the part of whichever lent half it is, up to the point." It looks at that half alone
 unfoldable pub cutOf : List ℕ → List ℕ → Side → ℕ → List ℕ
-cutOf l r s point = prefixOf (knownHalf l r (knownOf s)) point
+cutOf l r s point = prefixOf (knownPart l r (knownOf s)) point

@@ -1,6 +1,6 @@
 -- A formula as bytes: two for each node, operator and label, in prefix order; and reading them back.
 use mathlib.Core.Path.{_≡_, refl, sym, _∙_, ap}
-use mathlib.Core.List.{List, [], _∷_}
+use mathlib.Core.List.{List, [], _∷_, _++_, append-assoc}
 use mathlib.Core.Option.{Option, none, some}
 use Prim.Native.Nat.{ℕ, zero, suc, _+_, _*_}
 use lib.ListN.{getD, length}
@@ -32,6 +32,24 @@ length-spell (fwd a φ) bs = omega (arith, length-spell φ bs)
 length-spell (back a φ) bs = omega (arith, length-spell φ bs)
 length-spell (fwdIdle φ) bs = omega (arith, length-spell φ bs)
 length-spell (backIdle φ) bs = omega (arith, length-spell φ bs)
+
+-- two formulas and the bytes behind them, from what holds of each
+spell-two : (φ ψ : Formula) (bs : List ℕ) → spell φ (spell ψ bs) ≡ spell φ [] ++ spell ψ bs → spell φ (spell ψ []) ≡ spell φ [] ++ spell ψ [] → spell ψ bs ≡ spell ψ [] ++ bs
+    → spell φ (spell ψ bs) ≡ spell φ (spell ψ []) ++ bs
+spell-two φ ψ bs a b c = a ∙ ap (spell φ [] ++_) c ∙ sym (append-assoc (spell φ []) (spell ψ []) bs) ∙ ap (_++ bs) (sym b)
+
+-- the bytes of a formula, then those behind it
+pub spell-append : (φ : Formula) (bs : List ℕ) → spell φ bs ≡ spell φ [] ++ bs
+unfolding spell
+spell-append top bs = refl
+spell-append bottom bs = refl
+spell-append (not φ) bs = ap (λ l. 2 ∷ 0 ∷ l) (spell-append φ bs)
+spell-append (and φ ψ) bs = ap (λ l. 3 ∷ 0 ∷ l) (spell-two φ ψ bs (spell-append φ (spell ψ bs)) (spell-append φ (spell ψ [])) (spell-append ψ bs))
+spell-append (or φ ψ) bs = ap (λ l. 4 ∷ 0 ∷ l) (spell-two φ ψ bs (spell-append φ (spell ψ bs)) (spell-append φ (spell ψ [])) (spell-append ψ bs))
+spell-append (fwd a φ) bs = ap (λ l. 5 ∷ a ∷ l) (spell-append φ bs)
+spell-append (back a φ) bs = ap (λ l. 6 ∷ a ∷ l) (spell-append φ bs)
+spell-append (fwdIdle φ) bs = ap (λ l. 7 ∷ 0 ∷ l) (spell-append φ bs)
+spell-append (backIdle φ) bs = ap (λ l. 8 ∷ 0 ∷ l) (spell-append φ bs)
 
 -- what an operator and its label make of the formulas behind them
 pub data Shape : Type 0 where

@@ -48,7 +48,7 @@ pub fn join(
 }
 
 // What a call judges that takes halves: the tables' numbers, then 15 for either half, then 16.
-fn check_halves(
+pub fn check_halves(
     labels: Labels,
     left: &[u8],
     right: &[u8],

@@ -5,8 +5,7 @@ use mathlib.Core.Logic.{_⊎_, inl, inr, ⊎-elim}
 use mathlib.Core.Bool.{Bool, true, false, cond, _&&_, _||_, not as negate, false≢true, Bool·beq}
 use mathlib.Core.List.{List}
 use native.Mathlib.Omega.{arith}
-use lib.ListN.{length, getD, take, drop, length-drop}
-use lib.Seq.{drop-drop}
+use lib.ListN.{length, getD, take, drop}
 use lib.Dec.{eqb, leb}
 use borrow.Author.Tests.{leb-true}
 use Rattle.hml.specs.Tests.{same, both-true, Decides, decides, decided-or, decided-same}
@@ -19,10 +18,8 @@ use Rattle.halves.specs.Runs.{stepOf}
 use Rattle.machines.specs.Joints.{jointOf}
 use Rattle.machines.proofs.Buffers.{Held, held-empty, held-shorter, held-step}
 use Rattle.formulas.specs.Working.{Tree, treeOf}
-use Rattle.formulas.specs.Sizes.{Sized, treeSize}
-use Rattle.formulas.proofs.Measures.{size-some}
-use Rattle.formulas.proofs.Operators.{At, Unary, Binary, at, tree-spell}
-use Rattle.formulas.proofs.TreeSizes.{size-spell, sized-room, sized-part, sized-first}
+use Rattle.formulas.proofs.Operators.{Unary, at}
+use Rattle.formulas.proofs.Operands.{Part, Connective, connected, operand-part, operand-is, first-part, second-part, size-read, second-room, operands-are, nesting-connected, labelled-connected}
 use Rattle.verdict.specs.declared.step.Step.the-variants as step
 use Rattle.verdict.specs.Working.{Ready, Shown, jointStep, grants, judged, statesOf}
 
@@ -35,10 +32,7 @@ five-up (suc (suc (suc zero))) a b c d = absurd (d .0 refl)
 five-up (suc (suc (suc (suc zero)))) a b c d = absurd (d .1 refl)
 five-up (suc (suc (suc (suc (suc o))))) a b c d = omega arith
 
--- an operator with two operands is "and" or "or"
-abbrev pub Connective : ℕ → Type 0
-Connective o = (o ≡ 3) ⊎ (o ≡ 4)
-
+-- is the operator "and" or "or"?
 binary-decides : (o : ℕ) → Decides (Connective o) (eqb o 3 || eqb o 4)
 binary-decides o = decided-or (decided-same o 3) (decided-same o 4)
 
@@ -54,22 +48,18 @@ first-true a b e = both-true {a = a} {b = b} e .0
 second-true : (a b : Bool) → (a && b) ≡ true → b ≡ true
 second-true a b e = both-true {a = a} {b = b} e .1
 
--- the size of the first tree
-tree-size : (f : List ℕ) → Tree f → treeSize f ≡ size (treeOf f)
-unfolding Tree
-tree-size f (φ, rest, e) = rw (e, size-spell φ rest, tree-spell φ rest)
-
 module _ (k : ℕ) (sizes xs : List ℕ) (n : ℕ) (f : List ℕ) (y : Ready k sizes xs n 0 f) where
-  sized-body : Sized sizes (drop 2 f)
-  sized-body = sized-part sizes f 1 (y .sized)
+  part : Part sizes f
+  part = record { tree = y .tree; sized = y .sized }
 
   -- what a call for the operand of a modality or of "not" may rely on
-  operand-ready : (g : Formula → Formula) → Unary f g → (m more : ℕ) → Held xs m → (labelled (count k) (g (treeOf (drop 2 f))) ≡ true → labelled (count k) (treeOf (drop 2 f)) ≡ true)
-      → m + 3 * (more + nesting (treeOf (drop 2 f))) ≤ n + 3 * nesting (g (treeOf (drop 2 f))) → Ready k sizes xs m more (rest 2 f)
+  operand-ready : (g : Formula → Formula) → Unary f g → (m more : ℕ) → Held xs m → (labelled (count k) (g (treeOf (rest 2 f))) ≡ true → labelled (count k) (treeOf (rest 2 f)) ≡ true)
+      → m + 3 * (more + nesting (treeOf (rest 2 f))) ≤ n + 3 * nesting (g (treeOf (rest 2 f))) → Ready k sizes xs m more (rest 2 f)
   operand-ready g u m more h l i =
-      let z = ap nesting (u .is) in
+      let e = operand-is sizes f part g u in
+      let p = operand-part sizes f part g u in
       let w = y .ranged in
-      rw (rest-of 2 f) (record { tree = u .operand; ranged = l (rw (u .is) at w); sized = sized-body; held = h; room = omega (arith, i, z, y .room); size = y .size; slots = y .slots })
+      record { tree = p .tree; ranged = l (rw e at w); sized = p .sized; held = h; room = omega (arith, i, ap nesting e, y .room); size = y .size; slots = y .slots }
 
   pub not-ready : getD f 0 0 ≡ 2 → Ready k sizes xs n 0 (rest 2 f)
   unfolding labelled nesting
@@ -80,7 +70,7 @@ module _ (k : ℕ) (sizes xs : List ℕ) (n : ℕ) (f : List ℕ) (y : Ready k s
   forward-ready e =
       let u = at f (y .tree) 5 e in
       let w = y .ranged in
-      (operand-ready (fwd (getD f 1 0)) u n 1 (y .held) (second-true (leb (getD f 1 0) (count k)) _) (omega arith), λ z. omega (arith, leb-true (getD f 1 0) (count k) (first-true _ (labelled (count k) (treeOf (drop 2 f))) (rw (u .is) at w))))
+      (operand-ready (fwd (getD f 1 0)) u n 1 (y .held) (second-true (leb (getD f 1 0) (count k)) _) (omega arith), λ z. omega (arith, leb-true (getD f 1 0) (count k) (first-true _ (labelled (count k) (treeOf (rest 2 f))) (rw (operand-is sizes f part (fwd (getD f 1 0)) u) at w))))
 
   pub idle-ready : getD f 0 0 ≡ 7 → Ready k sizes xs n 1 (rest 2 f)
   unfolding labelled nesting
@@ -91,62 +81,36 @@ module _ (k : ℕ) (sizes xs : List ℕ) (n : ℕ) (f : List ℕ) (y : Ready k s
   back-ready (inl e) l = operand-ready (back (getD f 1 0)) (at f (y .tree) 6 e) (n - 3) 0 (held-shorter xs n (y .held) l) (second-true (leb (getD f 1 0) (count k)) _) (omega arith)
   back-ready (inr e) l = operand-ready backIdle (at f (y .tree) 8 e) (n - 3) 0 (held-shorter xs n (y .held) l) (λ l. l) (omega arith)
 
-  -- the same for the operands of "and" and "or"
-  module _ (g : Formula → Formula → Formula) (u : Binary f g) (l : (φ ψ : Formula) → labelled (count k) (g φ ψ) ≡ (labelled (count k) φ && labelled (count k) ψ)) (d : (φ ψ : Formula) → nesting (g φ ψ) ≡ max (nesting φ) (nesting ψ)) where
-    both-ranged : (labelled (count k) (treeOf (drop 2 f)) ≡ true) × (labelled (count k) (treeOf (drop (2 * size (treeOf (drop 2 f))) (drop 2 f))) ≡ true)
-    both-ranged = both-true (sym (ap (labelled (count k)) (u .is) ∙ l _ _) ∙ y .ranged)
-
-    both-room : n + 3 * max (nesting (treeOf (drop 2 f))) (nesting (treeOf (drop (2 * size (treeOf (drop 2 f))) (drop 2 f)))) ≤ length xs
-    both-room = omega (arith, y .room, ap nesting (u .is) ∙ d _ _)
-
-    first-of : Ready k sizes xs n 0 (rest 2 f)
-    first-of = rw (rest-of 2 f) (record { tree = u .first; ranged = both-ranged .0; sized = sized-body; held = y .held; room = omega (arith, both-room); size = y .size; slots = y .slots })
-
-    second-of : Ready k sizes xs n 0 (drop (2 * size (treeOf (drop 2 f))) (drop 2 f))
-    second-of = record {
-      tree = u .second;
-      ranged = both-ranged .1;
-      sized = sized-part sizes (drop 2 f) (size (treeOf (drop 2 f))) sized-body;
-      held = y .held;
-      room = omega (arith, both-room);
-      size = y .size;
-      slots = y .slots;
-    }
-
-  -- the second operand begins where the first one ends, which the sizes tell
+  -- the same for the operands of "and" and "or": the second begins where the first one ends, which the sizes tell
   module _ (o : Connective (getD f 0 0)) where
-    pub first-ready : Ready k sizes xs n 0 (rest 2 f)
-    unfolding labelled nesting
-    first-ready = ⊎-elim
-        (λ e. first-of and (at f (y .tree) 3 e) (λ φ ψ. refl) (λ φ ψ. refl))
-        (λ e. first-of or (at f (y .tree) 4 e) (λ φ ψ. refl) (λ φ ψ. refl)) o
-
-    first-room : 2 + 2 * size (treeOf (drop 2 f)) + 2 ≤ length f
-    first-room = ⊎-elim (λ e. at f (y .tree) 3 e .room) (λ e. at f (y .tree) 4 e .room) o
-
-    pub size-read : (4 ≤ length f) × (length f / 2 - 2 < length sizes)
-    size-read = omega (arith, first-room, size-some (treeOf (drop 2 f)), sized-room sizes f (y .sized))
+    pub read-size : (4 ≤ length f) × (length f / 2 - 2 < length sizes)
+    read-size = size-read sizes f part o
 
     module _ (m : ℕ) (e : m ≡ getD sizes (length f / 2 - 2) 0) where
-      first-size : m ≡ size (treeOf (drop 2 f))
-      first-size =
-          let l = length-drop 2 f in
-          let i : length f / 2 - 2 ≡ length (drop 2 f) / 2 - 1 = omega (arith, l, size-read) in
-          e ∙ ap (λ i. getD sizes i 0) i ∙ sized-first sizes (drop 2 f) sized-body (omega (arith, l, size-read)) ∙ tree-size (drop 2 f) (rw (rest-of 2 f) at (first-ready .tree))
+      both : treeOf f ≡ connected (getD f 0 0) (treeOf (rest 2 f)) (treeOf (rest (2 * m + 2) f))
+      both = operands-are sizes f part o m e
 
-      second-part : rest (2 * m + 2) f ≡ drop (2 * size (treeOf (drop 2 f))) (drop 2 f)
-      second-part =
-          let i : 2 * m + 2 ≡ 2 + 2 * size (treeOf (drop 2 f)) = omega (arith, first-size) in
-          rest-of (2 * m + 2) f ∙ ap (λ i. drop i f) i ∙ sym (drop-drop (2 * size (treeOf (drop 2 f))) 2 f)
+      both-ranged : (labelled (count k) (treeOf (rest 2 f)) ≡ true) × (labelled (count k) (treeOf (rest (2 * m + 2) f)) ≡ true)
+      both-ranged = both-true (sym (ap (labelled (count k)) both ∙ labelled-connected (count k) (getD f 0 0) _ _) ∙ y .ranged)
 
-      pub second-room : 2 * m + 2 ≤ length f
-      second-room = omega (arith, first-room, first-size)
+      both-room : n + 3 * max (nesting (treeOf (rest 2 f))) (nesting (treeOf (rest (2 * m + 2) f))) ≤ length xs
+      both-room = omega (arith, y .room, ap nesting both ∙ nesting-connected (getD f 0 0) _ _)
+
+      first-of : Ready k sizes xs n 0 (rest 2 f)
+      first-of =
+          let p = first-part sizes f part o in
+          record { tree = p .tree; ranged = both-ranged .0; sized = p .sized; held = y .held; room = omega (arith, both-room); size = y .size; slots = y .slots }
+
+      pub second-begins : 2 * m + 2 ≤ length f
+      second-begins = second-room sizes f part o m e
 
       pub second-ready : Ready k sizes xs n 0 (rest (2 * m + 2) f)
-      unfolding labelled nesting
-      second-ready = rw second-part (⊎-elim
-          (λ e. second-of and (at f (y .tree) 3 e) (λ φ ψ. refl) (λ φ ψ. refl))
-          (λ e. second-of or (at f (y .tree) 4 e) (λ φ ψ. refl) (λ φ ψ. refl)) o)
+      second-ready =
+          let p = second-part sizes f part o m e in
+          record { tree = p .tree; ranged = both-ranged .1; sized = p .sized; held = y .held; room = omega (arith, both-room); size = y .size; slots = y .slots }
+
+    pub first-ready : Ready k sizes xs n 0 (rest 2 f)
+    first-ready = first-of (getD sizes (length f / 2 - 2) 0) refl
 
 -- the verdict from those of the operands
 module _ (labels : Labels) (l r f : List ℕ) (j : Run (ℕ × ℕ)) (t : Tree f) where
@@ -188,11 +152,12 @@ module _ (labels : Labels) (l r f : List ℕ) (j : Run (ℕ × ℕ)) (t : Tree f
         settled-or true c s = refl
         settled-or false c s = absurd (false≢true s)
 
-    judged-second : Bool·beq a (eqb (getD f 0 0) 4) ≡ false → judged labels l r (treeOf (drop (2 * size (treeOf (drop 2 f))) (drop 2 f))) j ≡ judged labels l r (treeOf f) j
+    judged-second : (sizes : List ℕ) → Part sizes f → (m : ℕ) → m ≡ getD sizes (length f / 2 - 2) 0 → Bool·beq a (eqb (getD f 0 0) 4) ≡ false
+        → judged labels l r (treeOf (rest (2 * m + 2) f)) j ≡ judged labels l r (treeOf f) j
     unfolding judged holds
-    judged-second s = ⊎-elim
-        (λ e. rw (at f t 3 e .is, ← first-judged, open-and a (rw e at s)))
-        (λ e. rw (at f t 4 e .is, ← first-judged, open-or a (rw e at s))) o
+    judged-second sizes q m e s = ⊎-elim
+        (λ z. rw (operands-are sizes f q o m e, z, ← p, open-and a (rw z at s)))
+        (λ z. rw (operands-are sizes f q o m e, z, ← p, open-or a (rw z at s))) o
       where
         open-and : (a : Bool) → Bool·beq a false ≡ false → a ≡ true
         open-and true s = refl
@@ -220,25 +185,10 @@ module _ (labels : Labels) (l r sizes xs : List ℕ) (n : ℕ) (f left : List �
   going-on s m e = record {
     ready = second-ready (labels .pairs) sizes xs n left (g .ready) o m e;
     shorter = omega (arith, g .shorter, rest-length (2 * m + 2) left);
-    same = ap (λ (b : List ℕ). judged labels l r (treeOf b) (jointOf (take n xs))) (second-part (labels .pairs) sizes xs n left (g .ready) o m e) ∙ judged-second labels l r left (jointOf (take n xs)) (g .ready .tree) o a p s ∙ g .same;
+    same = judged-second labels l r left (jointOf (take n xs)) (g .ready .tree) o a p sizes (part (labels .pairs) sizes xs n left (g .ready)) m e s ∙ g .same;
   }
 
 -- a back modality, on the run in the first n bytes of xs
-pub back-operator : (f : List ℕ) → Tree f → 5 ≤ getD f 0 0 → (getD f 0 0 ≡ 5 → ⊥) → (getD f 0 0 ≡ 7 → ⊥) → (getD f 0 0 ≡ 6) ⊎ (getD f 0 0 ≡ 8)
-back-operator f t a b c = go (getD f 0 0) a b c (λ o e. at f t o e)
-  where
-    go : (o : ℕ) → 5 ≤ o → (o ≡ 5 → ⊥) → (o ≡ 7 → ⊥) → ((x : ℕ) → o ≡ x → At x f) → (o ≡ 6) ⊎ (o ≡ 8)
-    go zero a b c w = absurd (omega arith)
-    go (suc zero) a b c w = absurd (omega arith)
-    go (suc (suc zero)) a b c w = absurd (omega arith)
-    go (suc (suc (suc zero))) a b c w = absurd (omega arith)
-    go (suc (suc (suc (suc zero)))) a b c w = absurd (omega arith)
-    go (suc (suc (suc (suc (suc zero))))) a b c w = absurd (b refl)
-    go (suc (suc (suc (suc (suc (suc zero)))))) a b c w = inl refl
-    go (suc (suc (suc (suc (suc (suc (suc zero))))))) a b c w = absurd (c refl)
-    go (suc (suc (suc (suc (suc (suc (suc (suc zero)))))))) a b c w = inr refl
-    go (suc (suc (suc (suc (suc (suc (suc (suc (suc o))))))))) a b c w = absurd (w (suc (suc (suc (suc (suc (suc (suc (suc (suc o))))))))) refl)
-
 module _ (labels : Labels) (l r f xs : List ℕ) (n : ℕ) (t : Tree f) (h : Held xs n) (o : (getD f 0 0 ≡ 6) ⊎ (getD f 0 0 ≡ 8)) where
   -- on the empty run it fails
   pub back-empty : n < 5 → false ≡ judged labels l r (treeOf f) (jointOf (take n xs))

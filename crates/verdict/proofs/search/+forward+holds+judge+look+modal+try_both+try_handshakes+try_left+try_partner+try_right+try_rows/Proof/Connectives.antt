@@ -61,7 +61,7 @@ holds-sub-n t c =
     let g = c .before .before .before .before .before .before .before .before .loop .inv .1 in
     let left = c .before .before .before .before .before .before .before .before .loop .rest .now in
     let o = operands.connective _ _ (c .before .before .before .before .before .before .is-binary .ensures) (c .before .before .before .before .before .if1 .taken) in
-    omega (arith, operands.size-read _ _ _ _ left (g .ready) o)
+    omega (arith, operands.read-size _ _ _ _ left (g .ready) o)
 
 pub holds-mul-n : (t : ℕ) → holds-lts.Need-mul-n (holds-claims t) (holds-at t) holds.Post holds-Inv-loop holds-μ-loop
 holds-mul-n t c =
@@ -69,7 +69,7 @@ holds-mul-n t c =
     let g = c .before .before .before .before .before .before .before .before .loop .inv .1 in
     let left = c .before .before .before .before .before .before .before .before .loop .rest .now in
     let o = operands.connective _ _ (c .before .before .before .before .before .before .is-binary .ensures) (c .before .before .before .before .before .if1 .taken) in
-    omega (arith, operands.size-read _ _ _ _ left (g .ready) o, g .ready .slots)
+    omega (arith, operands.read-size _ _ _ _ left (g .ready) o, g .ready .slots)
 
 pub holds-element-copy-out-n : (t : ℕ) → holds-lts.Need-element-copy-out-n (holds-claims t) (holds-at t) holds.Post holds-Inv-loop holds-μ-loop
 holds-element-copy-out-n t c =
@@ -77,7 +77,7 @@ holds-element-copy-out-n t c =
     let g = c .before .before .before .before .before .before .before .before .loop .inv .1 in
     let left = c .before .before .before .before .before .before .before .before .loop .rest .now in
     let o = operands.connective _ _ (c .before .before .before .before .before .before .is-binary .ensures) (c .before .before .before .before .before .if1 .taken) in
-    omega (arith, operands.size-read _ _ _ _ left (g .ready) o, g .ready .slots)
+    omega (arith, operands.read-size _ _ _ _ left (g .ready) o, g .ready .slots)
 
 pub holds-mul-rest : (t : ℕ) → holds-lts.Need-mul-rest (holds-claims t) (holds-at t) holds.Post holds-Inv-loop holds-μ-loop
 holds-mul-rest t c =
@@ -85,7 +85,7 @@ holds-mul-rest t c =
     let g = c .before .before .before .before .before .before .before .before .before .loop .inv .1 in
     let left = c .before .before .before .before .before .before .before .before .before .loop .rest .now in
     let o = operands.connective _ _ (c .before .before .before .before .before .before .before .is-binary .ensures) (c .before .before .before .before .before .before .if1 .taken) in
-    let room = operands.second-room _ _ _ _ left (g .ready) o _ refl in
+    let room = operands.second-begins _ _ _ _ left (g .ready) o _ refl in
     omega (arith, room, g .shorter, s .good)
 
 pub holds-add-rest : (t : ℕ) → holds-lts.Need-add-rest (holds-claims t) (holds-at t) holds.Post holds-Inv-loop holds-μ-loop
@@ -94,7 +94,7 @@ holds-add-rest t c =
     let g = c .before .before .before .before .before .before .before .before .before .loop .inv .1 in
     let left = c .before .before .before .before .before .before .before .before .before .loop .rest .now in
     let o = operands.connective _ _ (c .before .before .before .before .before .before .before .is-binary .ensures) (c .before .before .before .before .before .before .if1 .taken) in
-    let room = operands.second-room _ _ _ _ left (g .ready) o _ refl in
+    let room = operands.second-begins _ _ _ _ left (g .ready) o _ refl in
     omega (arith, room, g .shorter, s .good)
 
 pub holds-sub-rest : (t : ℕ) → holds-lts.Need-sub-rest (holds-claims t) (holds-at t) holds.Post holds-Inv-loop holds-μ-loop
@@ -103,7 +103,7 @@ holds-sub-rest t c =
     let g = c .before .before .before .before .before .before .before .before .before .loop .inv .1 in
     let left = c .before .before .before .before .before .before .before .before .before .loop .rest .now in
     let o = operands.connective _ _ (c .before .before .before .before .before .before .before .is-binary .ensures) (c .before .before .before .before .before .before .if1 .taken) in
-    let room = operands.second-room _ _ _ _ left (g .ready) o _ refl in
+    let room = operands.second-begins _ _ _ _ left (g .ready) o _ refl in
     room
 
 pub holds-part-rest-start : (t : ℕ) → holds-lts.Need-part-rest-start (holds-claims t) (holds-at t) holds.Post holds-Inv-loop holds-μ-loop
@@ -112,7 +112,7 @@ holds-part-rest-start t c =
     let g = c .before .before .before .before .before .before .before .before .before .loop .inv .1 in
     let left = c .before .before .before .before .before .before .before .before .before .loop .rest .now in
     let o = operands.connective _ _ (c .before .before .before .before .before .before .before .is-binary .ensures) (c .before .before .before .before .before .before .if1 .taken) in
-    let room = operands.second-room _ _ _ _ left (g .ready) o _ refl in
+    let room = operands.second-begins _ _ _ _ left (g .ready) o _ refl in
     room
 
 pub holds-part-rest-end : (t : ℕ) → holds-lts.Need-part-rest-end (holds-claims t) (holds-at t) holds.Post holds-Inv-loop holds-μ-loop
@@ -124,7 +124,7 @@ holds-loop-less t c =
     let g = c .before .before .before .before .before .before .before .before .before .before .loop .inv .1 in
     let left = c .before .before .before .before .before .before .before .before .before .before .loop .rest .now in
     let o = operands.connective _ _ (c .before .before .before .before .before .before .before .before .is-binary .ensures) (c .before .before .before .before .before .before .before .if1 .taken) in
-    let room = operands.second-room _ _ _ _ left (g .ready) o _ refl in
+    let room = operands.second-begins _ _ _ _ left (g .ready) o _ refl in
     omega (arith, room, rest-length (2 * getD (s .args .sizes .now) (length left / 2 - 2) 0 + 2) left)
 
 pub holds-loop-again : (t : ℕ) → holds-lts.Need-loop-again (holds-claims t) (holds-at t) holds.Post holds-Inv-loop holds-μ-loop

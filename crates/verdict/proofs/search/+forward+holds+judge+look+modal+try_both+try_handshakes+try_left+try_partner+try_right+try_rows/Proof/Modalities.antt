@@ -3,6 +3,7 @@ use Prim.Native.Nat.{ℕ}
 use Rattle.verdict.proofs.search.modal.Reads as modal
 use Rattle.verdict.proofs.search.+forward+holds+judge+look+modal+try_both+try_handshakes+try_left+try_partner+try_right+try_rows.Lts-modal as modal-lts
 use native.Mathlib.Omega.{arith}
+use Rattle.formulas.proofs.Operands.{back-operator}
 use mathlib.Core.Path.{refl}
 use borrow.Author.Tests.{not-true, not-false}
 use Rattle.labels.proofs.Slices.{rest-length}
@@ -102,7 +103,7 @@ modal-returns-3 t c =
     let s = c .before .before .before .before .before .before in
     let f = s .args .f .now in
     let y = s .pre .1 .1 .0 in
-    let o = operands.back-operator f (y .tree) (s .pre .1 .1 .1) (c .before .before .if1 .left) (c .before .if2 .left) in
+    let o = back-operator f (y .tree) (s .pre .1 .1 .1) (c .before .before .if1 .left) (c .before .if2 .left) in
     (operands.back-empty _ _ _ f _ _ (y .tree) (y .held) o (c .if3 .taken), refl)
 
 pub modal-sub-t16 : (t : ℕ) → modal-lts.Need-sub-t16 (modal-claims t) (modal-at t) modal.Post
@@ -153,7 +154,7 @@ modal-returns-4 t c =
     let s = c .before .before .before .before .before .before .before .before .before .before .before .before .before in
     let f = s .args .f .now in
     let y = s .pre .1 .1 .0 in
-    let o = operands.back-operator f (y .tree) (s .pre .1 .1 .1) (c .before .before .before .before .before .before .before .before .before .if1 .left) (c .before .before .before .before .before .before .before .before .if2 .left) in
+    let o = back-operator f (y .tree) (s .pre .1 .1 .1) (c .before .before .before .before .before .before .before .before .before .if1 .left) (c .before .before .before .before .before .before .before .before .if2 .left) in
     let g = rw (c .before .before .before .step-of .ensures) at (c .before .back-fits .ensures) in
     (operands.back-other _ _ _ f _ _ (y .tree) (y .held) o (c .before .before .before .before .before .before .before .if3 .left) _ g (not-true _ (c .if4 .taken)), refl)
 
@@ -165,7 +166,7 @@ modal-holds-requires t c κs =
     let s = c .before .before .before .before .before .before .before .before .before .before .before .before .before .before in
     let f = s .args .f .now in
     let y = s .pre .1 .1 .0 in
-    let o = operands.back-operator f (y .tree) (s .pre .1 .1 .1) (c .before .before .before .before .before .before .before .before .before .before .if1 .left) (c .before .before .before .before .before .before .before .before .before .if2 .left) in
+    let o = back-operator f (y .tree) (s .pre .1 .1 .1) (c .before .before .before .before .before .before .before .before .before .before .if1 .left) (c .before .before .before .before .before .before .before .before .before .if2 .left) in
     (omega (arith, s .pre .0, rest-length 2 f, node-room f (y .tree)), (s .pre .1 .0, operands.back-ready _ _ _ _ f y o (c .before .before .before .before .before .before .before .before .if3 .left)))
 
 pub modal-returns-5 : (t : ℕ) → modal-lts.Need-returns-5 (modal-claims t) (modal-at t) modal.Post
@@ -173,6 +174,6 @@ modal-returns-5 t c =
     let s = c .before .before .before .before .before .before .before .before .before .before .before .before .before .before .before in
     let f = s .args .f .now in
     let y = s .pre .1 .1 .0 in
-    let o = operands.back-operator f (y .tree) (s .pre .1 .1 .1) (c .before .before .before .before .before .before .before .before .before .before .before .if1 .left) (c .before .before .before .before .before .before .before .before .before .before .if2 .left) in
+    let o = back-operator f (y .tree) (s .pre .1 .1 .1) (c .before .before .before .before .before .before .before .before .before .before .before .if1 .left) (c .before .before .before .before .before .before .before .before .before .before .if2 .left) in
     let g = rw (c .before .before .before .before .before .step-of .ensures) at (c .before .before .before .back-fits .ensures) in
     (operands.back-same _ _ _ f _ _ (y .tree) (y .held) o (c .before .before .before .before .before .before .before .before .before .if3 .left) _ g _ (not-false _ (c .before .before .if4 .left)) (c .holds .ensures .0), c .holds .ensures .1)

@@ -1,0 +1,129 @@
+-- The division of a question by a half run: what the checks let through, and the answers.
+use Prim.Native.Nat.{ℕ, _+_, _*_, _≤_, _<_, min}
+use mathlib.Core.Path.{_≡_, refl, sym, _∙_, ap}
+use mathlib.Core.Bool.{true}
+use mathlib.Core.List.{List, [], _++_}
+use mathlib.Core.Option.{some}
+use native.Mathlib.Omega.{arith}
+use lib.ListN.{length, take}
+use lib.Seq.{take-at, take-length}
+use Rattle.hml.specs.Formula.{Formula, size, nesting}
+use Rattle.hml.specs.Spell.{spell, length-spell}
+use Rattle.hml.specs.Quotient.{quotient}
+use Rattle.hml.specs.Labels.{pairs}
+use Rattle.labels.specs.Refusals.{thenOf, firstOf}
+use Rattle.labels.specs.Labels.{checkPairs, pairing}
+use Rattle.labels.specs.declared.label.Labels.{Labels}
+use Rattle.labels.specs.declared.refusal.Refusal.{Refusal}
+use Rattle.labels.specs.declared.refusal.Refusal.the-variants.{QuotientTooLarge, OutputTooShort}
+use Rattle.labels.specs.declared.refusal.Check.{Check}
+use Rattle.labels.specs.declared.refusal.Check.the-variants.{Sound, Refused}
+use Rattle.labels.proofs.Refusals.{judges, both-sound, passed}
+use Rattle.tables.specs.Tables.{tableOf, checkTable}
+use Rattle.tables.proofs.SoundTables.{SoundTable, sound-table}
+use Rattle.halves.specs.Halves.{halfOf, isHalfRun, checkHalf, checkTableAndHalf}
+use Rattle.halves.proofs.HalfRuns.{accepted-half}
+use Rattle.halves.proofs.HalfBuffers.{accepted-held, held-copied}
+use Rattle.formulas.specs.Formulas.{formulaOf, questionLimit, Legal, checkFormula}
+use Rattle.formulas.specs.Sizes.{sizesOver}
+use Rattle.formulas.specs.Working.{Tree, treeOf}
+use Rattle.formulas.proofs.Checking.{judged-formula, formula-spell, formula-length}
+use Rattle.formulas.proofs.Operators.{tree-spell}
+use Rattle.formulas.proofs.TreeSizes.{sizes-over, length-over}
+use Rattle.dividing.specs.Quotients.{treeBy, quotientBy, answerOf, outputAfter, checkDivision}
+use Rattle.dividing.specs.Working.{inFront, text, Ready}
+use Rattle.dividing.specs.declared.divide.Quotient.the-variants as answer
+use Rattle.dividing.proofs.Answers.{text-length, too-large, too-short, enough-room, text-output, refused-kept}
+
+-- the order of the checks
+module _ (k : ℕ) (t h f : List ℕ) where
+  pub pairs-refused : (x : Refusal) → checkPairs k ≡ Refused x → Refused x ≡ checkDivision k t h f
+  unfolding checkDivision firstOf
+  pairs-refused x e = rw e
+
+  module _ (e : checkPairs k ≡ Sound) where
+    -- the question is sound: the table and the half of it are left
+    pub question-sound : (c : Check) → checkFormula k questionLimit f ≡ Sound → c ≡ checkTableAndHalf k t h → c ≡ checkDivision k t h f
+    unfolding checkDivision checkTableAndHalf firstOf
+    question-sound c q p = rw (e, q) p
+
+    -- it is not: the table's numbers come before its own
+    pub question-refused : (c d : Check) (x : Refusal) → checkFormula k questionLimit f ≡ Refused x → d ≡ checkTable k t → c ≡ thenOf d (Refused x) → c ≡ checkDivision k t h f
+    unfolding checkDivision firstOf
+    question-refused c d x q b p = rw (e, q, ← b) p
+
+  -- what no check refuses
+  pub division-sound : checkDivision k t h f ≡ Sound → SoundTable k t × (isHalfRun t h ≡ true) × Legal k questionLimit f
+  unfolding checkDivision firstOf checkHalf
+  division-sound e =
+      let (p, a) = both-sound (checkPairs k) _ e in
+      let (u, b) = both-sound (checkTable k t) _ a in
+      let (v, c) = both-sound (checkFormula k questionLimit f) _ b in
+      (sound-table k t u, passed (isHalfRun t h) _ (both-sound (checkHalf t h) Sound c .0), judges (judged-formula k questionLimit f) .0 v)
+
+-- a half that is copied to the front of a buffer
+pub copied : (h xs ys : List ℕ) → xs ≡ take (length h) h ++ ys → take (length h) xs ≡ h
+copied h xs ys e = rw (e, take-length h) (take-at h ys (length h) refl)
+
+module _ (labels : Labels) (t h f : List ℕ) (run : isHalfRun t h ≡ true) (legal : Legal (labels .pairs) questionLimit f) where
+  -- the question's tree, and its quotient
+  question-tree : formulaOf f ≡ some (treeOf f)
+  unfolding Legal
+  question-tree = let (φ, e, s, l, d) = legal in ap formulaOf e ∙ formula-spell φ ∙ ap some (sym (ap treeOf e ∙ tree-spell φ []))
+
+  tree : Formula
+  tree = quotient (pairs (labels .pairs)) (tableOf t) (treeOf f) (halfOf h)
+
+  tree-is : quotientBy (labels .pairs) t (halfOf h) f ≡ some tree
+  unfolding quotientBy treeBy tree
+  tree-is = rw question-tree
+
+  module _ (xs : List ℕ) (c : take (length h) xs ≡ h) where
+    -- the copied half and the question are ready for the count and the writing
+    pub question-ready : (sizes : List ℕ) → length sizes ≡ 64 → length xs ≡ 409 → Ready (sizesOver f sizes) xs (length h) 0 f
+    unfolding Legal Tree
+    question-ready sizes z w =
+        let (φ, e, s, l, d) = legal in
+        let i : treeOf f ≡ φ = ap treeOf e ∙ tree-spell φ [] in
+        let a = accepted-half t h run in
+        let n : length h ≤ 401 = omega (arith, a .counted, a .few, a .odd) in
+        record {
+          part = record { tree = (φ, [], e); sized = sizes-over f sizes (omega (arith, formula-length f φ e, s, z)) };
+          held = held-copied h xs (length h) (accepted-held t h run) (c ∙ sym (take-length h)) (omega (arith, n, w));
+          room = omega (arith, ap nesting i, d, n, w);
+          size = w;
+          slots = length-over f sizes ∙ z;
+        }
+
+    text-is : text labels t f (halfOf (take (length h) xs)) ≡ spell tree []
+    unfolding text pairing tree
+    text-is = rw c
+
+    text-size : length (text labels t f (halfOf (take (length h) xs))) ≡ 2 * size tree
+    text-size = omega (arith, ap length text-is, length-spell tree [])
+
+    -- what the count says of the size
+    module _ (n : ℕ) (e : 2 * n ≡ min (length (text labels t f (halfOf (take (length h) xs)))) (2 * 4096 + 2)) where
+      pub answer-large : (out : List ℕ) → 4096 < n → (answer.Refused QuotientTooLarge ≡ answerOf Sound (quotientBy (labels .pairs) t (halfOf h) f) (length out))
+          × (out ≡ outputAfter Sound (quotientBy (labels .pairs) t (halfOf h) f) out)
+      answer-large out h = rw tree-is (let a = too-large tree (omega (arith, e, text-size, h)) (length out) in (sym a, refused-kept Sound (some tree) out QuotientTooLarge a))
+
+      module _ (small : n ≤ 4096) where
+        counted-size : n ≡ size tree
+        counted-size = omega (arith, e, text-size, small)
+
+        pub answer-short : (out : List ℕ) → length out < 2 * n → (answer.Refused OutputTooShort ≡ answerOf Sound (quotientBy (labels .pairs) t (halfOf h) f) (length out))
+            × (out ≡ outputAfter Sound (quotientBy (labels .pairs) t (halfOf h) f) out)
+        answer-short out h = rw tree-is (let a = too-short tree (omega (arith, counted-size, small)) (length out) (omega (arith, counted-size, h)) in (sym a, refused-kept Sound (some tree) out OutputTooShort a))
+
+        module _ (out : List ℕ) (room : 2 * n ≤ length out) where
+          pub text-fits : length (text labels t f (halfOf (take (length h) xs))) ≤ length out
+          text-fits = omega (arith, text-size, counted-size, room)
+
+          pub answer-written : (m : ℕ) (zs : List ℕ) → m ≡ length (text labels t f (halfOf (take (length h) xs))) → zs ≡ inFront (text labels t f (halfOf (take (length h) xs))) out
+              → (answer.Written m ≡ answerOf Sound (quotientBy (labels .pairs) t (halfOf h) f) (length out)) × (zs ≡ outputAfter Sound (quotientBy (labels .pairs) t (halfOf h) f) out)
+          unfolding inFront
+          answer-written m zs p q =
+              let s : size tree ≤ 4096 = omega (arith, counted-size, small) in
+              let r : 2 * size tree ≤ length out = omega (arith, counted-size, room) in
+              rw tree-is (rw (p, text-size) (sym (enough-room tree s (length out) r)), q ∙ rw (text-is, text-length tree) (sym (text-output tree s out r)))

@@ -1,0 +1,9 @@
+pub mod Pieces
+pub mod Nodes
+pub mod Listing
+pub mod Counting
+pub mod Readiness
+pub mod Texts
+pub mod Forwards
+pub mod Answers
+pub mod Division

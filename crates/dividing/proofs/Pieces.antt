@@ -1,0 +1,114 @@
+-- Pieces written one after the other into an output, each into the rest that the one before it left.
+use Prim.Native.Nat.{ℕ, _+_, _-_, _≤_}
+use mathlib.Core.Path.{_≡_, refl, sym, _∙_, ap}
+use mathlib.Core.List.{List, [], _∷_, _++_, append-assoc, append-nil}
+use native.Mathlib.Omega.{arith}
+use lib.ListN.{length, take, drop, set, length-append, length-drop, drop-of-length-le}
+use lib.Seq.{take-append-seam, drop-append-seam, drop-drop}
+use borrow.Rule.Slice.PartMut.{putMid}
+use Rattle.labels.proofs.Slices.{rest, rest-of}
+use Rattle.dividing.specs.Working.{inFront, Behind}
+
+-- nothing written
+pub front-none : (xs : List ℕ) → xs ≡ inFront [] xs
+unfolding inFront
+front-none xs = refl
+
+pub length-front : (b xs : List ℕ) → length b ≤ length xs → length (inFront b xs) ≡ length xs
+unfolding inFront
+length-front b xs h = omega (arith, length-append b (drop (length b) xs), length-drop (length b) xs)
+
+none-left : (k : ℕ) (l : List ℕ) → drop (length l - k) (drop k l) ≡ []
+none-left k l = drop-of-length-le (drop k l) {i = length l - k} (omega (arith, length-drop k l))
+
+-- the second piece goes into the rest: together they are one piece
+pub front-after : (b d xs zs ys : List ℕ) (k : ℕ) → k ≡ length b → zs ≡ inFront b xs → ys ≡ inFront d (rest k zs) → putMid k (length zs - k) zs ys ≡ inFront (b ++ d) xs
+unfolding inFront
+front-after b d xs zs ys k p q r =
+    rw (
+      r,
+      rest-of k zs,
+      none-left k zs,
+      q,
+      p,
+      take-append-seam b (drop (length b) xs),
+      drop-append-seam b (drop (length b) xs),
+      drop-drop (length d) (length b) xs,
+      append-nil (d ++ drop (length b + length d) xs),
+      length-append b d,
+      append-assoc b d (drop (length b + length d) xs),
+    )
+
+-- what is left behind a piece
+pub rest-front : (b xs zs : List ℕ) (k : ℕ) → k ≡ length b → zs ≡ inFront b xs → length b ≤ length xs → length (rest k zs) ≡ length xs - k
+unfolding inFront
+rest-front b xs zs k p q h = ap length (rest-of k zs) ∙ length-drop k zs ∙ ap (_- k) (ap length q ∙ length-front b xs h)
+
+-- two bytes, four bytes
+pub put-two : (xs : List ℕ) (o a : ℕ) → 2 ≤ length xs → set (set xs 0 o) 1 a ≡ inFront (o ∷ a ∷ []) xs
+unfolding inFront
+put-two [] o a h = absurd (omega arith)
+put-two (x ∷ []) o a h = absurd (omega arith)
+put-two (x ∷ y ∷ xs) o a h = refl
+
+pub put-four : (xs : List ℕ) (o a b q : ℕ) → 4 ≤ length xs → set (set (set (set xs 0 o) 1 a) 2 b) 3 q ≡ inFront (o ∷ a ∷ b ∷ q ∷ []) xs
+unfolding inFront
+put-four [] o a b q h = absurd (omega arith)
+put-four (x ∷ []) o a b q h = absurd (omega arith)
+put-four (x ∷ y ∷ []) o a b q h = absurd (omega arith)
+put-four (x ∷ y ∷ z ∷ []) o a b q h = absurd (omega arith)
+put-four (x ∷ y ∷ z ∷ w ∷ xs) o a b q h = refl
+
+-- an output that holds a piece is as long as before
+pub front-length : (w xs zs : List ℕ) → zs ≡ inFront w xs → length w ≤ length xs → length zs ≡ length xs
+front-length w xs zs e h = ap length e ∙ length-front w xs h
+
+-- what a function gives that writes a piece w into the output xs: how long it is, and the output afterwards. It may be nothing
+pub nothing : (w xs : List ℕ) → [] ≡ w → (0 ≡ length w) × (xs ≡ inFront w xs)
+nothing w xs e = rw (← e) (refl, front-none xs)
+
+-- one piece
+pub one-piece : (b w xs zs : List ℕ) (k : ℕ) → b ≡ w → k ≡ length b → zs ≡ inFront b xs → (k ≡ length w) × (zs ≡ inFront w xs)
+one-piece b w xs zs k e p q = (p ∙ ap length e, q ∙ ap (λ z. inFront z xs) e)
+
+-- or two
+pub joined : (b d : List ℕ) → Behind b d (b ++ d)
+unfolding Behind
+joined b d = refl
+
+module _ (b d w : List ℕ) (m : ℕ) (e : Behind b d w) (h : length w ≤ m) where
+  both-length : length b + length d ≡ length w
+  unfolding Behind
+  both-length = sym (length-append b d) ∙ ap length e
+
+  -- the room for the first, and for the second
+  pub first-fits : length b ≤ m
+  first-fits = omega (arith, both-length, h)
+
+  pub second-fits : (xs zs : List ℕ) (k : ℕ) → m ≡ length xs → k ≡ length b → zs ≡ inFront b xs → length d ≤ length (rest k zs)
+  second-fits xs zs k z p q = omega (arith, rest-front b xs zs k p q (omega (arith, first-fits, z)), h, both-length, p, z)
+
+  -- the output is as long as before, after the first piece and after both
+  pub first-length : (xs zs : List ℕ) → m ≡ length xs → zs ≡ inFront b xs → length zs ≡ length xs
+  first-length xs zs z q = front-length b xs zs q (omega (arith, first-fits, z))
+
+pub two-pieces : (b d w xs zs ys : List ℕ) (k n : ℕ) → Behind b d w → k ≡ length b → zs ≡ inFront b xs → n ≡ length d → ys ≡ inFront d (rest k zs)
+    → (k + n ≡ length w) × (putMid k (length zs - k) zs ys ≡ inFront w xs)
+unfolding Behind
+two-pieces b d w xs zs ys k n e p q m r = rw (← e) (omega (arith, p, m, length-append b d), front-after b d xs zs ys k p q r)
+
+pub second-length : (b d w xs zs ys : List ℕ) (k : ℕ) → Behind b d w → k ≡ length b → zs ≡ inFront b xs → ys ≡ inFront d (rest k zs) → length w ≤ length xs
+    → length (putMid k (length zs - k) zs ys) ≡ length xs
+second-length b d w xs zs ys k e p q r h = front-length w xs _ (two-pieces b d w xs zs ys k (length d) e p q refl r .1) h
+
+-- a piece read back
+pub taken : (b xs zs : List ℕ) (n : ℕ) → zs ≡ inFront b xs → n ≡ length b → take n zs ≡ b
+unfolding inFront
+taken b xs zs n e p = rw (e, p) (take-append-seam b (drop (length b) xs))
+
+pub piece-within : (b xs zs : List ℕ) (n : ℕ) → zs ≡ inFront b xs → n ≡ length b → n ≤ length zs
+unfolding inFront
+piece-within b xs zs n e p = omega (arith, ap length e, length-append b (drop (length b) xs), p)
+
+pub piece-length : (b xs zs : List ℕ) (n : ℕ) → zs ≡ inFront b xs → n ≡ length b → n ≡ length (take n zs)
+piece-length b xs zs n e p = p ∙ ap length (sym (taken b xs zs n e p))

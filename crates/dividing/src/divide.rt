@@ -1,0 +1,83 @@
+// The quotient of a question by a half run of one table.
+use crate::count::count_tree;
+use crate::write::write_tree;
+use formulas::check::check_formula;
+use formulas::sizes::tree_sizes;
+use halves::half::check_half;
+use labels::label::Labels;
+use labels::label::check_pairs;
+use labels::refusal::Check;
+use labels::refusal::Refusal;
+use tables::check::check_table;
+ghost use mathlib.Core.Path.{_≡_};
+ghost use mathlib.Core.Bool.{true};
+ghost use lib.ListN.{length};
+ghost use Rattle.labels.specs.declared.refusal.Check.the-variants.{Sound};
+ghost use Rattle.tables.proofs.SoundTables.{SoundTable};
+ghost use Rattle.halves.specs.Halves.{halfOf, isHalfRun};
+ghost use Rattle.formulas.specs.Formulas.{Legal, questionLimit};
+ghost use Rattle.dividing.specs.Quotients.{quotientBy, checkDivision, answerOf, outputAfter};
+
+// How many bytes a quotient has.
+pub enum Quotient {
+    Written(usize),
+    Refused(Refusal),
+}
+
+// Writes the quotient of a question by a half run of a table: 4, the table's numbers, 9 and 10, 15, then 17 and 18.
+pub fn divide(k: u8, table: &[u8], half: &[u8], question: &[u8], out: &mut [u8]) -> Quotient
+    ensures { λ r. ⌜ r ≡ answerOf (checkDivision k (now (table .entry)) (now (half .entry)) (now (question .entry))) (quotientBy k (now (table .entry)) (halfOf (now (half .entry))) (now (question .entry))) (length (now (out .entry))) ⌝ }
+    ensures { λ r. ⌜ now (out .exit) ≡ outputAfter (checkDivision k (now (table .entry)) (now (half .entry)) (now (question .entry))) (quotientBy k (now (table .entry)) (halfOf (now (half .entry))) (now (question .entry))) (now (out .entry)) ⌝ }
+{
+    let labels = Labels { pairs: k };
+    match check_division(labels, table, half, question) {
+        Check::Sound => {}
+        Check::Refused(refusal) => return Quotient::Refused(refusal),
+    }
+    write_quotient(labels, table, half, question, out)
+}
+
+// What a division judges, in order. Where nothing is refused the table is judged once.
+fn check_division(labels: Labels, table: &[u8], half: &[u8], question: &[u8]) -> Check
+    ensures { λ r. ⌜ r ≡ checkDivision (labels .pairs) (now (table .entry)) (now (half .entry)) (now (question .entry)) ⌝ }
+{
+    match check_pairs(labels.pairs) {
+        Check::Sound => {}
+        Check::Refused(refusal) => return Check::Refused(refusal),
+    }
+    match check_formula(labels, 64, question) {
+        Check::Sound => check_half(labels, table, half),
+        Check::Refused(refusal) => check_table(labels, table).then(Check::Refused(refusal)),
+    }
+}
+
+// Counts the nodes first, whatever output is lent (17), then looks at the output's length (18), then writes. The run is copied once, into a buffer
+// with room for four steps more, and the sizes of the question's trees are found once.
+fn write_quotient(
+    labels: Labels,
+    table: &[u8],
+    half: &[u8],
+    question: &[u8],
+    out: &mut [u8],
+) -> Quotient
+    requires { ⌜ SoundTable (labels .pairs) (now table) ⌝ }
+    requires { ⌜ isHalfRun (now table) (now half) ≡ true ⌝ }
+    requires { ⌜ Legal (labels .pairs) questionLimit (now question) ⌝ }
+    ensures { λ r. ⌜ r ≡ answerOf Sound (quotientBy (labels .pairs) (now (table .entry)) (halfOf (now (half .entry))) (now (question .entry))) (length (now (out .entry))) ⌝ }
+    ensures { λ r. ⌜ now (out .exit) ≡ outputAfter Sound (quotientBy (labels .pairs) (now (table .entry)) (halfOf (now (half .entry))) (now (question .entry))) (now (out .entry)) ⌝ }
+{
+    let len = half.len();
+    let mut run = [0u8; 409];
+    bytes::copy(half, &mut run);
+    let mut sizes = [0usize; 64];
+    tree_sizes(question, &mut sizes);
+    let nodes = count_tree(labels, table, &sizes, &mut run, len, question, 4096);
+    if 4096 < nodes {
+        return Quotient::Refused(Refusal::QuotientTooLarge);
+    }
+    if out.len() < 2 * nodes {
+        return Quotient::Refused(Refusal::OutputTooShort);
+    }
+    let n = write_tree(labels, table, &sizes, &mut run, len, question, out);
+    Quotient::Written(n)
+}
