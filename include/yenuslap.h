@@ -98,6 +98,44 @@ uint64_t yenuslap_cut(const uint8_t *left_half, size_t left_half_len,
                       const uint8_t *right_half, size_t right_half_len,
                       uint8_t side, size_t point);
 
+/* Writes the quotient of a question of 1 to 64 nodes by the known half stopped at a point into out:
+ * value bytes written, or refused 4; 3, 5 to 7 (left, then right); 9, 10 (question); 12 (the known half
+ * alone; at every point if it has an even length); 15 (either half); 16 (unequal lengths included); 17
+ * (over 4,096 nodes, whatever out is); 18 last, and never 13; when refused no byte of out changes, after
+ * an answer the bytes of out past it keep their values, and the parts are only read. */
+uint64_t yenuslap_quotient(uint8_t k,
+                           const uint8_t *left, size_t left_len,
+                           const uint8_t *right, size_t right_len,
+                           const uint8_t *left_half, size_t left_half_len,
+                           const uint8_t *right_half, size_t right_half_len,
+                           const uint8_t *question, size_t question_len,
+                           uint8_t side, size_t point,
+                           uint8_t *out, size_t out_len);
+
+/* Writes the quotient of a question of 1 to 64 nodes by the known half of the splitting that has this
+ * number, counted from 0, stopped at a point, into out: value bytes written, or refused 4; 3, 5 to 7
+ * (left, then right); 3, 8 (run); 9, 10 (question); 12; 13; 14; 17 (over 4,096 nodes, whatever out is);
+ * 18 last; when refused no byte of out changes, after an answer the bytes of out past it keep their
+ * values, and the parts are only read. */
+uint64_t yenuslap_quotient_of_splitting(uint8_t k,
+                                        const uint8_t *left, size_t left_len,
+                                        const uint8_t *right, size_t right_len,
+                                        const uint8_t *run, size_t run_len,
+                                        const uint8_t *question, size_t question_len,
+                                        size_t number, uint8_t side, size_t point,
+                                        uint8_t *out, size_t out_len);
+
+/* Judges a question of 1 to 64 nodes on the joint run of two halves, and its quotient by the known half
+ * on the other half, all stopped at a point: value 2 * joint verdict + half verdict (1 holds, 0 fails),
+ * or refused as by yenuslap_quotient, 18 aside; the lent bytes are only read. */
+uint64_t yenuslap_line_office(uint8_t k,
+                              const uint8_t *left, size_t left_len,
+                              const uint8_t *right, size_t right_len,
+                              const uint8_t *left_half, size_t left_half_len,
+                              const uint8_t *right_half, size_t right_half_len,
+                              const uint8_t *question, size_t question_len,
+                              uint8_t side, size_t point);
+
 #ifdef __cplusplus
 }
 #endif

@@ -1,5 +1,5 @@
 -- The cases of the boundary's answers, each from what the code knows at its return.
-use Prim.Native.Nat.{ℕ}
+use Prim.Native.Nat.{ℕ, _+_, _*_, _≤_}
 use mathlib.Core.Path.{_≡_, refl, sym, _∙_, ap}
 use mathlib.Core.Bool.{Bool, true, false}
 use mathlib.Core.List.{List, [], _∷_}
@@ -24,9 +24,11 @@ use Rattle.splitting.specs.declared.split.Splitting.{Splitting}
 use Rattle.splitting.specs.declared.split.Splitting.the-variants as splitting
 use Rattle.joining.specs.declared.join.Joining.{Joining}
 use Rattle.joining.specs.declared.join.Joining.the-variants as joining
+use Rattle.quotient.specs.declared.line.LineOffice.{LineOffice}
+use Rattle.quotient.specs.declared.line.LineOffice.the-variants as line
 use Rattle.casebook.proofs.RecordLaws.{Bytes}
 use Rattle.casebook.proofs.RoundTrip.{placing}
-use Rattle.engine.specs.Answers.{refusedAs, readAnswer, placeOf, placeIn, partAnswer, writeAnswer, sideOf, cutAnswer, countAnswer, splitAnswer, joinAnswer}
+use Rattle.engine.specs.Answers.{refusedAs, readAnswer, placeOf, placeIn, partAnswer, writeAnswer, sideOf, cutAnswer, countAnswer, splitAnswer, joinAnswer, bitOf, lineAnswer}
 use Rattle.engine.specs.Working.{Placed}
 
 -- a is the answer of reading
@@ -150,3 +152,19 @@ module _ (a r : Joining) (e : a ≡ r) where
   pub join-refused : (x : Refusal) (n : ℕ) → a ≡ joining.Refused x → n ≡ refusedAs x → n ≡ joinAnswer r
   unfolding joinAnswer
   join-refused x n f g = rw (← e, f) g
+
+-- a is the answer of the line office
+module _ (a r : LineOffice) (e : a ≡ r) where
+  pub line-given : (j h : Bool) (m n : ℕ) → a ≡ line.Verdicts j h → m ≡ bitOf j → n ≡ bitOf h → 2 * m + n ≡ lineAnswer r
+  unfolding lineAnswer
+  line-given j h m n f p q = rw (← e, f, ← p, ← q)
+
+  pub line-refused : (x : Refusal) (n : ℕ) → a ≡ line.Refused x → n ≡ refusedAs x → n ≡ lineAnswer r
+  unfolding lineAnswer
+  line-refused x n f g = rw (← e, f) g
+
+-- a bit is 0 or 1
+pub bit-small : (b : Bool) → bitOf b ≤ 1
+unfolding bitOf
+bit-small true = omega arith
+bit-small false = omega arith

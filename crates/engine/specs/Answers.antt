@@ -1,6 +1,6 @@
 -- The answers of the C boundary: one number, the refusal's number times 2^32, plus the value (0 when refused).
 use Prim.Native.Nat.{ℕ, _+_, _*_}
-use mathlib.Core.Bool.{cond}
+use mathlib.Core.Bool.{Bool, true, false, cond}
 use mathlib.Core.List.{List}
 use lib.ListN.{length}
 use lib.Dec.{eqb}
@@ -24,6 +24,10 @@ use Rattle.joining.specs.declared.join.Joining.{Joining}
 use Rattle.joining.specs.declared.join.Joining.the-variants as joining
 use Rattle.verdict.specs.declared.answer.Verdict.{Verdict}
 use Rattle.verdict.specs.declared.answer.Verdict.the-variants as verdict
+use Rattle.dividing.specs.declared.divide.Quotient.{Quotient}
+use Rattle.dividing.specs.declared.divide.Quotient.the-variants as quotient
+use Rattle.quotient.specs.declared.line.LineOffice.{LineOffice}
+use Rattle.quotient.specs.declared.line.LineOffice.the-variants as line
 
 unfoldable pub refusedAs : Refusal → ℕ
 refusedAs x = numberOf x * 4294967296
@@ -83,3 +87,17 @@ splitAnswer (splitting.Refused x) = refusedAs x
 unfoldable pub joinAnswer : Joining → ℕ
 joinAnswer (joining.Joined n) = n
 joinAnswer (joining.Refused x) = refusedAs x
+
+-- a quotient that was written: value its length
+unfoldable pub quotientAnswer : Quotient → ℕ
+quotientAnswer (quotient.Written n) = n
+quotientAnswer (quotient.Refused x) = refusedAs x
+
+-- the line office: value 2 * the line's verdict + the machine's
+unfoldable pub bitOf : Bool → ℕ
+bitOf true = 1
+bitOf false = 0
+
+unfoldable pub lineAnswer : LineOffice → ℕ
+lineAnswer (line.Verdicts j h) = 2 * bitOf j + bitOf h
+lineAnswer (line.Refused x) = refusedAs x

@@ -6,11 +6,16 @@ use casebook::read::read;
 use casebook::record::Record;
 use casebook::write::Writing;
 use casebook::write::write;
+use dividing::divide::Quotient;
 use halves::side::Side;
 use halves::side::cut;
 use joining::join::Joining;
 use joining::join::join;
 use labels::refusal::Refusal;
+use quotient::half::by_half;
+use quotient::line::LineOffice;
+use quotient::line::line_office;
+use quotient::number::by_number;
 use splitting::count::Counted;
 use splitting::count::count;
 use splitting::split::Splitting;
@@ -26,7 +31,8 @@ ghost use Rattle.casebook.specs.Writing.{writeOf, writtenOf};
 ghost use Rattle.verdict.specs.Verdicts.{jointVerdict, halfVerdict};
 ghost use Rattle.splitting.specs.Splittings.{countOf, splitOf, leftOutput, rightOutput};
 ghost use Rattle.joining.specs.Joinings.{joiningOf, joinOutput};
-ghost use Rattle.engine.specs.Answers.{refusedAs, readAnswer, placeOf, placeIn, partAnswer, writeAnswer, sideOf, cutAnswer, verdictAnswer, countAnswer, splitAnswer, joinAnswer};
+ghost use Rattle.quotient.specs.Calls.{byHalf, byHalfOutput, byNumber, byNumberOutput, lineOf};
+ghost use Rattle.engine.specs.Answers.{refusedAs, readAnswer, placeOf, placeIn, partAnswer, writeAnswer, sideOf, cutAnswer, verdictAnswer, countAnswer, splitAnswer, joinAnswer, quotientAnswer, bitOf, lineAnswer};
 ghost use Rattle.engine.specs.Working.{Placed};
 
 fn refused(refusal: Refusal) -> u64
@@ -221,5 +227,96 @@ pub extern "C" fn yenuslap_join(
     match join(k, left, right, left_half, right_half, out) {
         Joining::Joined(n) => n as u64,
         Joining::Refused(refusal) => refused(refusal),
+    }
+}
+
+// A quotient that was written, as a number: its length in bytes.
+fn quotient_value(quotient: Quotient) -> u64
+    ensures { λ r. ⌜ r ≡ quotientAnswer quotient ⌝ }
+{
+    match quotient {
+        Quotient::Written(n) => n as u64,
+        Quotient::Refused(refusal) => refused(refusal),
+    }
+}
+
+// Writes the quotient of a question by the known one of two halves, stopped at a point: value bytes written.
+#[no_mangle]
+pub extern "C" fn yenuslap_quotient<'a>(
+    k: u8,
+    left: &'a [u8],
+    right: &'a [u8],
+    left_half: &'a [u8],
+    right_half: &'a [u8],
+    question: &[u8],
+    side: u8,
+    point: usize,
+    out: &mut [u8],
+) -> u64
+    ensures { λ r. ⌜ r ≡ quotientAnswer (byHalf k (now (left .entry)) (now (right .entry)) (now («left_half» .entry)) (now («right_half» .entry)) (now (question .entry)) (sideOf side) point (length (now (out .entry)))) ⌝ }
+    ensures { λ r. ⌜ now (out .exit) ≡ byHalfOutput k (now (left .entry)) (now (right .entry)) (now («left_half» .entry)) (now («right_half» .entry)) (now (question .entry)) (sideOf side) point (now (out .entry)) ⌝ }
+{
+    let side = side_of(side);
+    quotient_value(by_half(
+        k,
+        left,
+        right,
+        left_half,
+        right_half,
+        question,
+        side,
+        point,
+        out,
+    ))
+}
+
+// Writes the quotient of a question by the known half of the splitting of a number, stopped at a point: value bytes written.
+#[no_mangle]
+pub extern "C" fn yenuslap_quotient_of_splitting<'a>(
+    k: u8,
+    left: &'a [u8],
+    right: &'a [u8],
+    run: &[u8],
+    question: &[u8],
+    number: usize,
+    side: u8,
+    point: usize,
+    out: &mut [u8],
+) -> u64
+    ensures { λ r. ⌜ r ≡ quotientAnswer (byNumber k (now (left .entry)) (now (right .entry)) (now (run .entry)) (now (question .entry)) number (sideOf side) point (length (now (out .entry)))) ⌝ }
+    ensures { λ r. ⌜ now (out .exit) ≡ byNumberOutput k (now (left .entry)) (now (right .entry)) (now (run .entry)) (now (question .entry)) number (sideOf side) point (now (out .entry)) ⌝ }
+{
+    let side = side_of(side);
+    quotient_value(by_number(k, left, right, run, question, number, side, point, out))
+}
+
+// A verdict as a bit.
+fn bit(holds: bool) -> u64
+    ensures { λ r. ⌜ r ≡ bitOf holds ⌝ }
+{
+    if holds {
+        return 1;
+    }
+    0
+}
+
+// Puts a question to the whole line and to one machine, at a point: value 2 * the line's verdict + the machine's.
+#[no_mangle]
+pub extern "C" fn yenuslap_line_office<'a>(
+    k: u8,
+    left: &'a [u8],
+    right: &'a [u8],
+    left_half: &'a [u8],
+    right_half: &'a [u8],
+    question: &[u8],
+    side: u8,
+    point: usize,
+) -> u64
+    ensures { λ r. ⌜ r ≡ lineAnswer (lineOf k (now (left .entry)) (now (right .entry)) (now («left_half» .entry)) (now («right_half» .entry)) (now (question .entry)) (sideOf side) point) ⌝ }
+{
+    let side = side_of(side);
+    match line_office(k, left, right, left_half, right_half, question, side, point) {
+        LineOffice::Verdicts(line, machine) => 2 * bit(line) + bit(machine),
+        LineOffice::Refused(refusal) => refused(refusal),
     }
 }

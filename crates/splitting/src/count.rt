@@ -36,8 +36,8 @@ pub fn count(k: u8, left: &[u8], right: &[u8], run: &[u8]) -> Counted
     Counted::Splittings(splittings)
 }
 
-// The parts' numbers, in record order.
-fn check_log(labels: Labels, left: &[u8], right: &[u8], run: &[u8]) -> Check
+// The check of a log: the parts' numbers, in record order.
+pub fn check_log(labels: Labels, left: &[u8], right: &[u8], run: &[u8]) -> Check
     ensures { λ r. ⌜ r ≡ checkLog (labels .pairs) (now (left .entry)) (now (right .entry)) (now (run .entry)) ⌝ }
 {
     match check_pairs(labels.pairs) {

@@ -86,29 +86,35 @@ impl Formula {
         }
     }
 
-    /// The operator's number, its label byte and its operands.
-    fn node(&self) -> (u8, u8, Vec<&Formula>) {
+    /// The operator's number, its label byte and its operands, of which there are at most two.
+    fn node(&self) -> (u8, u8, [Option<&Formula>; 2]) {
         match self {
-            Formula::True => (0, 0, vec![]),
-            Formula::False => (1, 0, vec![]),
-            Formula::Not(a) => (2, 0, vec![a]),
-            Formula::And(a, b) => (3, 0, vec![a, b]),
-            Formula::Or(a, b) => (4, 0, vec![a, b]),
-            Formula::Forward(label, a) => (5, *label, vec![a]),
-            Formula::Back(label, a) => (6, *label, vec![a]),
-            Formula::ForwardIdle(a) => (7, 0, vec![a]),
-            Formula::BackIdle(a) => (8, 0, vec![a]),
+            Formula::True => (0, 0, [None, None]),
+            Formula::False => (1, 0, [None, None]),
+            Formula::Not(a) => (2, 0, [Some(a), None]),
+            Formula::And(a, b) => (3, 0, [Some(a), Some(b)]),
+            Formula::Or(a, b) => (4, 0, [Some(a), Some(b)]),
+            Formula::Forward(label, a) => (5, *label, [Some(a), None]),
+            Formula::Back(label, a) => (6, *label, [Some(a), None]),
+            Formula::ForwardIdle(a) => (7, 0, [Some(a), None]),
+            Formula::BackIdle(a) => (8, 0, [Some(a), None]),
         }
     }
 
     /// The formula in prefix order, two bytes a node.
     pub fn to_bytes(&self) -> Vec<u8> {
-        let (operator, label, operands) = self.node();
-        let mut bytes = vec![operator, label];
-        for operand in operands {
-            bytes.extend(operand.to_bytes());
-        }
+        let mut bytes = Vec::new();
+        self.append_to(&mut bytes);
         bytes
+    }
+
+    /// Writes the formula behind what is there: the node, then its operands in order.
+    fn append_to(&self, bytes: &mut Vec<u8>) {
+        let (operator, label, operands) = self.node();
+        bytes.extend([operator, label]);
+        for operand in operands.into_iter().flatten() {
+            operand.append_to(bytes);
+        }
     }
 }
 

@@ -7,6 +7,7 @@ pub mod formula;
 pub mod generate;
 pub mod half;
 pub mod label;
+pub mod quotient;
 pub mod random;
 pub mod run;
 pub mod splitting;

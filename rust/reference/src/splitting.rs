@@ -26,17 +26,11 @@ pub fn split(
     room: [usize; 2],
 ) -> Result<[Vec<u8>; 2], Refusal> {
     let (run, ways) = read_log(k, left, right, run)?;
-    let counts = counts_from(&ways)?;
-    if number >= counts[0] {
-        return Err(14);
-    }
-    // A half is its start state and two bytes a step.
-    let length = 1 + 2 * run.steps.len();
-    if room.iter().any(|room| *room < length) {
+    let halves = numbered(&run, &ways, number)?.map(|half| half.to_bytes());
+    if room[0] < halves[0].len() || room[1] < halves[1].len() {
         return Err(18);
     }
-    let halves = halves_by(&run, &chosen(&ways, &counts, number));
-    Ok(halves.map(|half| half.to_bytes()))
+    Ok(halves)
 }
 
 /// The joint run of two halves, for an output of `room` bytes, or the first of 4; left; right; 15; 16; 18.
@@ -71,6 +65,19 @@ fn read_log(
     let left = read_table(left, k)?;
     let right = read_table(right, k)?;
     read_run_and_ways(run, &left, &right)
+}
+
+/// The halves of the splitting of this number, given the ways of each step; 13, then 14.
+pub(crate) fn numbered(
+    run: &JointRun,
+    ways: &[Vec<Way>],
+    number: usize,
+) -> Result<[HalfRun; 2], Refusal> {
+    let counts = counts_from(ways)?;
+    if number >= counts[0] {
+        return Err(14);
+    }
+    Ok(halves_by(run, &chosen(ways, &counts, number)))
 }
 
 /// How many splittings there are from each step on, and behind the last step one; 13 if over the limit. Every step has
@@ -137,7 +144,7 @@ fn half_labels(label: u8, way: Way) -> [u8; 2] {
 }
 
 /// The joint run of two half runs; 16 if they are not equally long or do not match at some step.
-fn joined(left: &HalfRun, right: &HalfRun) -> Result<JointRun, Refusal> {
+pub(crate) fn joined(left: &HalfRun, right: &HalfRun) -> Result<JointRun, Refusal> {
     if left.steps.len() != right.steps.len() {
         return Err(16);
     }

@@ -25,8 +25,7 @@ pub fn joint(
     if point > run.steps.len() {
         return Err(12);
     }
-    let mut stopped = joint_walk(&run, point);
-    Ok(holds(&Both { left, right }, &mut stopped, &formula))
+    Ok(joint_holds(&Both { left, right }, &run, &formula, point))
 }
 
 /// The verdict on a half run stopped at a point, or the first of 4; table; 9, 10; 12; 15.
@@ -43,8 +42,17 @@ pub fn half(
     // 12 as in a cut: judged on the half's length alone, before the half is known to be a run.
     cut(half, half, Side::Unnamed, point)?;
     let half = read_half(half, &table)?;
-    let mut stopped = half_walk(&half, point);
-    Ok(holds(&table, &mut stopped, &formula))
+    Ok(half_holds(&table, &half, &formula, point))
+}
+
+/// Whether the formula holds on the joint run's first `point` steps, which it has.
+pub(crate) fn joint_holds(both: &Both, run: &JointRun, formula: &Formula, point: usize) -> bool {
+    holds(both, &mut joint_walk(run, point), formula)
+}
+
+/// Whether the formula holds on the half run's first `point` steps, which it has.
+pub(crate) fn half_holds(table: &Table, half: &HalfRun, formula: &Formula, point: usize) -> bool {
+    holds(table, &mut half_walk(half, point), formula)
 }
 
 /// One machine, or two side by side, as a verdict sees them: which steps of a label leave a state.
@@ -71,9 +79,9 @@ impl System for Table {
 }
 
 /// Two machines side by side.
-struct Both {
-    left: Table,
-    right: Table,
+pub(crate) struct Both {
+    pub left: Table,
+    pub right: Table,
 }
 
 impl System for Both {

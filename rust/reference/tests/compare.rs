@@ -15,6 +15,8 @@ mod contents;
 mod cutting;
 #[path = "compare/faults.rs"]
 mod faults;
+#[path = "compare/half_faults.rs"]
+mod half_faults;
 #[path = "compare/handmade.rs"]
 mod handmade;
 #[path = "compare/headers.rs"]
@@ -23,6 +25,24 @@ mod headers;
 mod order;
 #[path = "compare/pairs.rs"]
 mod pairs;
+#[path = "compare/quotient_both.rs"]
+mod quotient_both;
+#[path = "compare/quotient_damaged.rs"]
+mod quotient_damaged;
+#[path = "compare/quotient_document.rs"]
+mod quotient_document;
+#[path = "compare/quotient_inputs.rs"]
+mod quotient_inputs;
+#[path = "compare/quotient_large.rs"]
+mod quotient_large;
+#[path = "compare/quotient_refused.rs"]
+mod quotient_refused;
+#[path = "compare/quotient_small.rs"]
+mod quotient_small;
+#[path = "compare/quotient_sound.rs"]
+mod quotient_sound;
+#[path = "compare/quotient_verdicts.rs"]
+mod quotient_verdicts;
 #[path = "compare/sound.rs"]
 mod sound;
 #[path = "compare/splitting_both.rs"]

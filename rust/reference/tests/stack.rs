@@ -1,5 +1,6 @@
-//! The deepest formulas are judged by the engine on a stack of 8 MiB. They stand in a program of their own: a stack
-//! that does not suffice ends the whole program. What is expected is known from how the formulas are made.
+//! The deepest formulas are judged by the engine on a stack of 8 MiB, and the deepest questions divided. They stand in
+//! a program of their own: a stack that does not suffice ends the whole program. What is expected is known from how the
+//! formulas are made.
 
 use std::thread;
 
@@ -105,4 +106,59 @@ fn not_and_or_nested_to_the_left() {
     ]
     .concat();
     demand(&formula, 3 * levels + 1, 200, levels % 2 == 1);
+}
+
+/// What the three calls of a quotient answer to a question at the end of 200 idles: the nodes by halves and by number,
+/// and the verdict on which both halves of the line office agree. Nothing stands for a refusal.
+fn divide(question: &[u8]) -> [Option<usize>; 3] {
+    let run = [vec![0, 0], [255, 0, 0].repeat(200)].concat();
+    let half = [vec![0], [255, 0].repeat(200)].concat();
+    // Eight loops on the known side, all of which shake hands.
+    let rows = (1..=8).flat_map(|label| [0, label, 0]);
+    let table: Vec<u8> = [1].into_iter().chain(rows).collect();
+    let (k, left, right, side) = (4, &[1], &table, yenuslap::Side::Right);
+    let mut out = [0; 2 * NODES];
+    let given = yenuslap::quotient(k, left, right, &half, &half, question, side, 200, &mut out);
+    let numbered =
+        yenuslap::quotient_of_splitting(k, left, right, &run, question, 0, side, 200, &mut out);
+    let office = yenuslap::line_office(k, left, right, &half, &half, question, side, 200);
+    let verdict = office.map(|verdicts| {
+        assert_eq!(verdicts.joint, verdicts.half);
+        usize::from(verdicts.joint)
+    });
+    [
+        given.ok().map(|length| length / 2),
+        numbered.ok().map(|length| length / 2),
+        verdict.ok(),
+    ]
+}
+
+/// The same on a stack of 8 MiB.
+fn divided(question: Vec<u8>) -> [Option<usize>; 3] {
+    let thread = thread::Builder::new().stack_size(8 << 20);
+    let quotients = thread.spawn(move || divide(&question));
+    quotients.unwrap().join().unwrap()
+}
+
+/// The deepest questions, and those with the largest quotients: 64 nodes in a chain, forward modalities at its top and
+/// at its end.
+#[test]
+fn quotients_of_the_deepest_questions() {
+    let chain = |nodes: &[(usize, [u8; 2])]| {
+        let nodes = nodes.iter().flat_map(|(count, node)| node.repeat(*count));
+        nodes.chain([0, 0]).collect::<Vec<u8>>()
+    };
+    let answered = |nodes, verdict| [Some(nodes), Some(nodes), Some(verdict)];
+    assert_eq!(divided(chain(&[(63, [2, 0])])), answered(64, 0));
+    assert_eq!(divided(chain(&[(63, [8, 0])])), answered(64, 1));
+    assert_eq!(
+        divided(chain(&[(4, [7, 0]), (59, [8, 0])])),
+        answered(64, 1)
+    );
+    // Three nested forward by 0 over 3 nodes have 3,734; with 58 nodes above them one for each.
+    let deep = chain(&[(58, [2, 0]), (3, [5, 0]), (2, [2, 0])]);
+    assert_eq!(divided(deep), answered(58 + 3734, 0));
+    // Four nested forward by 0, over 59 times "not" or under it: too large.
+    assert_eq!(divided(chain(&[(4, [5, 0]), (59, [2, 0])])), [None; 3]);
+    assert_eq!(divided(chain(&[(59, [2, 0]), (4, [5, 0])])), [None; 3]);
 }

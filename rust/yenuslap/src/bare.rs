@@ -82,6 +82,54 @@ extern "C" {
         side: u8,
         point: usize,
     ) -> u64;
+    fn yenuslap_quotient(
+        k: u8,
+        left: *const u8,
+        left_len: usize,
+        right: *const u8,
+        right_len: usize,
+        left_half: *const u8,
+        left_half_len: usize,
+        right_half: *const u8,
+        right_half_len: usize,
+        question: *const u8,
+        question_len: usize,
+        side: u8,
+        point: usize,
+        out: *mut u8,
+        out_len: usize,
+    ) -> u64;
+    fn yenuslap_quotient_of_splitting(
+        k: u8,
+        left: *const u8,
+        left_len: usize,
+        right: *const u8,
+        right_len: usize,
+        run: *const u8,
+        run_len: usize,
+        question: *const u8,
+        question_len: usize,
+        number: usize,
+        side: u8,
+        point: usize,
+        out: *mut u8,
+        out_len: usize,
+    ) -> u64;
+    fn yenuslap_line_office(
+        k: u8,
+        left: *const u8,
+        left_len: usize,
+        right: *const u8,
+        right_len: usize,
+        left_half: *const u8,
+        left_half_len: usize,
+        right_half: *const u8,
+        right_half_len: usize,
+        question: *const u8,
+        question_len: usize,
+        side: u8,
+        point: usize,
+    ) -> u64;
 }
 
 /// Judges a casebook: value 0, or refusals 1 to 11.
@@ -248,6 +296,110 @@ pub fn cut(left_half: &[u8], right_half: &[u8], side: u8, point: usize) -> u64 {
             left_half.len(),
             right_half.as_ptr(),
             right_half.len(),
+            side,
+            point,
+        )
+    }
+}
+
+/// Writes the quotient of a question by the known one of two halves (side 1 left, 2 right, else unnamed), stopped at a
+/// point, into `out`: value bytes written, or refusals 3 to 7, 9, 10, 12 and 15 to 18.
+#[allow(clippy::too_many_arguments)] // As many as the engine's call has.
+pub fn quotient(
+    k: u8,
+    left: &[u8],
+    right: &[u8],
+    left_half: &[u8],
+    right_half: &[u8],
+    question: &[u8],
+    side: u8,
+    point: usize,
+    out: &mut [u8],
+) -> u64 {
+    // SAFETY: each pointer and length are one live slice; only `out`, lent to us alone, is written.
+    unsafe {
+        yenuslap_quotient(
+            k,
+            left.as_ptr(),
+            left.len(),
+            right.as_ptr(),
+            right.len(),
+            left_half.as_ptr(),
+            left_half.len(),
+            right_half.as_ptr(),
+            right_half.len(),
+            question.as_ptr(),
+            question.len(),
+            side,
+            point,
+            out.as_mut_ptr(),
+            out.len(),
+        )
+    }
+}
+
+/// Writes the quotient of a question by the known half of the splitting of a number, stopped at a point, into `out`:
+/// value bytes written, or refusals 3 to 10, 12 to 14, 17 and 18.
+#[allow(clippy::too_many_arguments)] // As many as the engine's call has.
+pub fn quotient_of_splitting(
+    k: u8,
+    left: &[u8],
+    right: &[u8],
+    run: &[u8],
+    question: &[u8],
+    number: usize,
+    side: u8,
+    point: usize,
+    out: &mut [u8],
+) -> u64 {
+    // SAFETY: each pointer and length are one live slice; only `out`, lent to us alone, is written.
+    unsafe {
+        yenuslap_quotient_of_splitting(
+            k,
+            left.as_ptr(),
+            left.len(),
+            right.as_ptr(),
+            right.len(),
+            run.as_ptr(),
+            run.len(),
+            question.as_ptr(),
+            question.len(),
+            number,
+            side,
+            point,
+            out.as_mut_ptr(),
+            out.len(),
+        )
+    }
+}
+
+/// Judges a question on the joint run of two halves and its quotient by the known half on the other one, all stopped at
+/// a point: value 2 * joint verdict + half verdict, or refusals 3 to 7, 9, 10, 12 and 15 to 17.
+#[allow(clippy::too_many_arguments)] // As many as the engine's call has.
+pub fn line_office(
+    k: u8,
+    left: &[u8],
+    right: &[u8],
+    left_half: &[u8],
+    right_half: &[u8],
+    question: &[u8],
+    side: u8,
+    point: usize,
+) -> u64 {
+    // SAFETY: each pointer and length are one live slice, which the engine only reads.
+    unsafe {
+        yenuslap_line_office(
+            k,
+            left.as_ptr(),
+            left.len(),
+            right.as_ptr(),
+            right.len(),
+            left_half.as_ptr(),
+            left_half.len(),
+            right_half.as_ptr(),
+            right_half.len(),
+            question.as_ptr(),
+            question.len(),
             side,
             point,
         )

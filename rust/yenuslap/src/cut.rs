@@ -16,7 +16,7 @@ pub enum Side {
 
 impl Side {
     /// The byte by which the engine knows this side.
-    fn byte(self) -> u8 {
+    pub(crate) fn byte(self) -> u8 {
         match self {
             Side::Unnamed => 0,
             Side::Left => 1,

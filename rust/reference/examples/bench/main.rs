@@ -4,6 +4,7 @@
 //! Words given as arguments choose the benches whose group or text holds one of them.
 
 mod inputs;
+mod quotients;
 mod splittings;
 mod timing;
 mod verdicts;
@@ -17,6 +18,7 @@ use timing::Group;
 fn all_groups() -> Vec<Group> {
     let mut groups = verdicts::groups();
     groups.extend(splittings::groups());
+    groups.extend(quotients::groups());
     groups
 }
 

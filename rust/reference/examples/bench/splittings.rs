@@ -21,7 +21,7 @@ pub fn groups() -> Vec<Group> {
 }
 
 /// The reference's answer as the engine gives it.
-fn as_bare(value: Result<usize, Refusal>) -> u64 {
+pub fn as_bare(value: Result<usize, Refusal>) -> u64 {
     match value {
         Ok(value) => value as u64,
         Err(number) => u64::from(number) << 32,
@@ -34,12 +34,12 @@ const JOINT: usize = 602;
 
 /// Two machines and a log, as bytes.
 #[derive(Clone)]
-struct Log {
+pub struct Log {
     what: &'static str,
-    k: u8,
-    left: Vec<u8>,
-    right: Vec<u8>,
-    run: Vec<u8>,
+    pub k: u8,
+    pub left: Vec<u8>,
+    pub right: Vec<u8>,
+    pub run: Vec<u8>,
 }
 
 impl Log {
@@ -167,7 +167,7 @@ fn dense(further: [u8; 8]) -> Table {
 
 /// A log of handshakes on dense tables. On 1 and on 3 the machines come to the same states: 15 steps have these two
 /// ways, each other one has one.
-fn dense_log() -> Log {
+pub fn dense_log() -> Log {
     let left = dense([1, 9, 1, 17, 25, 33, 41, 49]);
     let right = dense([9, 1, 17, 1, 25, 33, 41, 49]);
     let mut run = looping(iter::empty());

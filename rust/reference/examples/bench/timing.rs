@@ -20,6 +20,21 @@ pub struct Bench {
     pub plain: Call,
 }
 
+/// The bench of a call by the engine and by the plain implementation on one input.
+pub fn on_both<T: Clone + 'static>(
+    what: &str,
+    input: T,
+    engine: impl Fn(&T) -> u64 + 'static,
+    plain: impl Fn(&T) -> u64 + 'static,
+) -> Bench {
+    let again = input.clone();
+    Bench {
+        what: what.to_string(),
+        engine: Box::new(move || engine(&input)),
+        plain: Box::new(move || plain(&again)),
+    }
+}
+
 /// Benches under one heading.
 pub struct Group {
     pub name: &'static str,

@@ -7,7 +7,7 @@ use reference::{verdict, Refusal};
 use yenuslap::bare;
 
 use crate::inputs::{dense, half_log, log, times, way_back, wide, Build};
-use crate::timing::{Bench, Group};
+use crate::timing::{on_both, Bench, Group};
 
 /// The formulas "false" and "true".
 const FALSE: [u8; 2] = [1, 0];
@@ -88,21 +88,6 @@ impl Single {
             move |(it, f)| bare::half_verdict(it.k, &it.table, &it.half, f, point),
             move |(it, f)| as_bare(verdict::half(it.k, &it.table, &it.half, f, point)),
         )
-    }
-}
-
-/// The bench of a call by the engine and by the plain implementation on one input.
-fn on_both<T: Clone + 'static>(
-    what: &str,
-    input: T,
-    engine: impl Fn(&T) -> u64 + 'static,
-    plain: impl Fn(&T) -> u64 + 'static,
-) -> Bench {
-    let again = input.clone();
-    Bench {
-        what: what.to_string(),
-        engine: Box::new(move || engine(&input)),
-        plain: Box::new(move || plain(&again)),
     }
 }
 

@@ -201,13 +201,18 @@ fn assert_buffer(buffer: Vec<u8>, expected: &Result<Vec<u8>, u8>, pattern: Vec<u
     );
 }
 
-/// Cuts with both, by the side's byte, and gives the number on which they agree, 0 if cut.
-pub fn cut_both(left: &[u8], right: &[u8], side: u8, point: usize) -> u8 {
-    let (named, wrapped_side) = match side {
+/// The side that a byte names, for the reference and for the wrapper.
+pub fn sides(byte: u8) -> (Side, yenuslap::Side) {
+    match byte {
         1 => (Side::Left, yenuslap::Side::Left),
         2 => (Side::Right, yenuslap::Side::Right),
         _ => (Side::Unnamed, yenuslap::Side::Unnamed),
-    };
+    }
+}
+
+/// Cuts with both, by the side's byte, and gives the number on which they agree, 0 if cut.
+pub fn cut_both(left: &[u8], right: &[u8], side: u8, point: usize) -> u8 {
+    let (named, wrapped_side) = sides(side);
     let about = format!(
         "{} and {} bytes, side {side}, point {point}",
         left.len(),

@@ -64,7 +64,7 @@ impl Log {
 const GUARD: usize = 24;
 
 /// An output in the middle of a patterned buffer.
-struct Output {
+pub struct Output {
     room: usize,
     before: Vec<u8>,
     buffer: Vec<u8>,
@@ -72,7 +72,7 @@ struct Output {
 
 impl Output {
     /// An output of so many bytes. A byte that is left alone keeps its value under a pattern and under its complement.
-    fn new(room: usize, complement: bool) -> Output {
+    pub fn new(room: usize, complement: bool) -> Output {
         let flip = if complement { 255 } else { 0 };
         let pattern = (0..GUARD + room + GUARD).map(|at| (at * 167 + room * 59 + 91) as u8 ^ flip);
         let before: Vec<u8> = pattern.collect();
@@ -84,12 +84,12 @@ impl Output {
     }
 
     /// The part that is lent.
-    fn lent(&mut self) -> &mut [u8] {
+    pub fn lent(&mut self) -> &mut [u8] {
         &mut self.buffer[GUARD..GUARD + self.room]
     }
 
     /// Demands the answer at the front of the lent part, if there is one, and the pattern everywhere else.
-    fn holds(mut self, answer: Option<&[u8]>, about: &dyn Fn() -> String) {
+    pub fn holds(mut self, answer: Option<&[u8]>, about: &dyn Fn() -> String) {
         if let Some(bytes) = answer {
             self.before[GUARD..GUARD + bytes.len()].copy_from_slice(bytes);
         }
@@ -99,7 +99,7 @@ impl Output {
 }
 
 /// Demands that the bare answer and the wrapped one are the value expected.
-fn alike(
+pub fn alike(
     expected: Result<usize, Refusal>,
     answer: u64,
     wrapped: Result<usize, yenuslap::Refusal>,

@@ -3,12 +3,12 @@
 use crate::book::{unfit_body, Book};
 use crate::both::{number_of, Tally};
 use crate::faults::{Fault, OF_TABLES};
+use crate::half_faults::{add_idles, break_step, drop_steps, unmatch};
 use crate::splitting_both::{count_both, join_both, joint_length, split_both, Halves, Log};
 use crate::splitting_logs::{large_shape, many_ways, random_halves, small_shape};
 use crate::verdict_refused::{change_parity, long_half, pairs};
 use reference::casebook::Parts;
 use reference::generate::Shape;
-use reference::label::{highest, IDLE};
 use reference::random::Random;
 use reference::Refusal;
 
@@ -217,7 +217,7 @@ impl Flaw {
                 call.join_room = shorter(random, joint_length(&call.joined()));
                 true
             }
-            Flaw::Unmatched => unmatch(random, call),
+            Flaw::Unmatched => unmatch(random, &call.book, &mut call.halves),
             Flaw::Shorter(side) => drop_steps(random, &mut call.halves[side]),
             _ => {
                 damage_half(self, call, random);
@@ -228,7 +228,7 @@ impl Flaw {
 }
 
 /// A number that is not below the count, near or far.
-fn beyond(random: &mut Random, count: usize) -> usize {
+pub fn beyond(random: &mut Random, count: usize) -> usize {
     let far = count + random.from_to(2, 70_000);
     *random.pick(&[count, count, count + 1, far, count + (1 << 32), usize::MAX])
 }
@@ -258,84 +258,10 @@ fn damage_half(flaw: Flaw, call: &mut Call, random: &mut Random) {
             let states = call.book.records[1 + side].body[0];
             call.halves[side][0] = random.byte(states, 255);
         }
-        Flaw::HalfStep(side) => break_step(random, call, side),
+        Flaw::HalfStep(side) => break_step(random, &call.book, &mut call.halves, side),
         Flaw::Longer(side) => add_idles(random, &mut call.halves[side]),
         other => unreachable!("{other:?} is about more than one half"),
     }
-}
-
-/// Makes one step of a half wrong: a label that no table has, a state that is none, or an idle that moves.
-fn break_step(random: &mut Random, call: &mut Call, side: usize) {
-    let states = call.book.records[1 + side].body[0];
-    let half = &mut call.halves[side];
-    if half.len() == 1 {
-        half.extend([IDLE, half[0] ^ 1]);
-        return;
-    }
-    let at = 1 + 2 * random.below((half.len() - 1) / 2);
-    match random.below(3) {
-        0 => half[at] = random.byte(highest(call.book.k) + 1, 254),
-        1 => half[at + 1] = random.byte(states, 255),
-        _ => {
-            half[at] = IDLE;
-            half[at + 1] = half[at - 1] ^ 1;
-        }
-    }
-}
-
-/// Takes steps off the end of a half; false if it has none.
-fn drop_steps(random: &mut Random, half: &mut Vec<u8>) -> bool {
-    let steps = (half.len() - 1) / 2;
-    if steps == 0 {
-        return false;
-    }
-    let any = random.below(steps);
-    let left = *random.pick(&[steps - 1, any, 0]);
-    half.truncate(1 + 2 * left);
-    true
-}
-
-/// Adds idles to the end of a half, up to 200 steps; a half of 200 steps loses one instead.
-fn add_idles(random: &mut Random, half: &mut Vec<u8>) {
-    let room = 200 - (half.len() - 1) / 2;
-    if room == 0 {
-        half.truncate(399);
-        return;
-    }
-    let any = random.from_to(1, room);
-    let more = *random.pick(&[1, 1, any]);
-    let last = half[half.len() - 1];
-    half.extend([IDLE, last].repeat(more));
-}
-
-/// Makes two moves meet that are no partners, by rows that the machines have where the halves come to some step, with
-/// idles behind them; false if there are none.
-fn unmatch(random: &mut Random, call: &mut Call) -> bool {
-    let steps = (call.halves[0].len() - 1) / 2;
-    let at = random.from_to(0, steps.min(199));
-    let rows = [0, 1].map(|side| leaving(call, side, call.halves[side][2 * at]));
-    if rows.iter().any(Vec::is_empty) {
-        return false;
-    }
-    let [own, other] = [random.pick(&rows[0]), random.pick(&rows[1])];
-    let lower = own[0].min(other[0]);
-    if lower % 2 == 1 && own[0].max(other[0]) == lower + 1 {
-        return false;
-    }
-    let idles = random.from_to(0, 199 - at);
-    for (half, [label, to]) in call.halves.iter_mut().zip([own, other]) {
-        half.truncate(1 + 2 * at);
-        half.extend([*label, *to]);
-        half.extend([IDLE, *to].repeat(idles));
-    }
-    true
-}
-
-/// Label and target of each row of one of the tables that leaves a state.
-fn leaving(call: &Call, side: usize, state: u8) -> Vec<[u8; 2]> {
-    let rows = call.book.records[1 + side].body[1..].chunks(3);
-    let leaving = rows.filter(|row| row[0] == state);
-    leaving.map(|row| [row[1], row[2]]).collect()
 }
 
 /// A call with all these flaws, given in the order judged; later arguments are damaged first, and a join's output is

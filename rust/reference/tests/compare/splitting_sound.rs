@@ -16,7 +16,7 @@ fn numbers_below(random: &mut Random, count: usize) -> Vec<usize> {
 }
 
 /// Numbers not below the count, near and far; many would be small if a high part were lost.
-fn numbers_beyond(count: usize) -> Vec<usize> {
+pub fn numbers_beyond(count: usize) -> Vec<usize> {
     let mut numbers = vec![count, count + 1, 65_535, 65_536, usize::MAX, usize::MAX / 2];
     for turn in [1 << 16, 1 << 31, 1 << 32, 1 << 48, 1 << 63] {
         numbers.extend([turn, turn + 1, turn + count - 1, turn - 1]);

@@ -223,7 +223,7 @@ pub fn change_one<const N: usize>(random: &mut Random, bytes: [&mut Vec<u8>; N])
 }
 
 /// Points that leave 8, 16, 32 or 64 bits, alone or times two or three; many would be small if a high part were lost.
-fn far_points() -> Vec<usize> {
+pub fn far_points() -> Vec<usize> {
     let mut points = Vec::new();
     let turns = [
         1 << 8,
@@ -322,7 +322,7 @@ fn empty_arguments() {
 }
 
 /// The number of the first empty argument, 0 if there is none.
-fn first_empty(order: &[(usize, Refusal)], empty: impl Fn(usize) -> bool) -> Refusal {
+pub fn first_empty(order: &[(usize, Refusal)], empty: impl Fn(usize) -> bool) -> Refusal {
     let found = order.iter().find(|(argument, _)| empty(*argument));
     found.map_or(0, |(_, number)| *number)
 }

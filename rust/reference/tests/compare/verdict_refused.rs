@@ -356,7 +356,7 @@ fn formula_gives(formula: &[u8], expected: Result<bool, Refusal>) {
 }
 
 /// `count` times a node, then the rest.
-fn times(count: usize, node: [u8; 2], rest: &[u8]) -> Vec<u8> {
+pub fn times(count: usize, node: [u8; 2], rest: &[u8]) -> Vec<u8> {
     [&node.repeat(count)[..], rest].concat()
 }
 

@@ -7,7 +7,7 @@ use reference::generate::Shape;
 use reference::random::Random;
 
 /// Every sound formula of one to three nodes with one pair of labels.
-fn short_formulas() -> Vec<Vec<u8>> {
+pub fn short_formulas() -> Vec<Vec<u8>> {
     let mut nodes = Vec::new();
     for operator in 0..9 {
         for label in 0..3 {
@@ -85,7 +85,7 @@ fn every_short_formula_on_little_halves() {
 }
 
 /// Every modality over every other one, over true, with and without "not" between them.
-fn pairs_of_modalities() -> Vec<Vec<u8>> {
+pub fn pairs_of_modalities() -> Vec<Vec<u8>> {
     let modalities = [
         [5, 0],
         [5, 1],

@@ -1,0 +1,55 @@
+-- Two bits, or the refusal.
+use borrow.Author.Needs.{needs}
+use Rattle.engine.proofs.yenuslap_line_office.Statement.{statement}
+use Rattle.engine.proofs.yenuslap_line_office.Tie as tie
+use native.Mathlib.Omega.{arith}
+use Rattle.engine.proofs.Answers.{line-given, line-refused, bit-small}
+
+side-of-requires : tie.Need-side-of-requires
+side-of-requires c κs = search needs
+
+line-office-requires : tie.Need-line-office-requires
+line-office-requires c κs = search needs
+
+enum-known-line : tie.Need-enum-known-line
+enum-known-line c = search needs
+
+bit-requires : tie.Need-bit-requires
+bit-requires c κs = search needs
+
+mul-result : tie.Need-mul-result
+mul-result c = omega (arith, c .bit .ensures, bit-small (c .before .before .line .given .0 .0))
+
+bit-requires-2 : tie.Need-bit-requires-2
+bit-requires-2 c κs = search needs
+
+add-result : tie.Need-add-result
+add-result c = omega (arith, c .before .bit .ensures, c .bit2 .ensures, bit-small (c .before .before .before .line .given .0 .0), bit-small (c .before .before .before .line .given .0 .1 .0))
+
+enum-known-refusal : tie.Need-enum-known-refusal
+enum-known-refusal c = search needs
+
+refused-requires : tie.Need-refused-requires
+refused-requires c κs = search needs
+
+returns : tie.Need-returns
+returns c = line-given _ _ (rw (c .before .before .before .before .before .before .side-of .ensures) at (c .before .before .before .before .before .line-office .ensures .0)) _ _ _ _ (c .before .before .before .line .given .1) (c .before .bit .ensures) (c .bit2 .ensures)
+
+returns-2 : tie.Need-returns-2
+returns-2 c = line-refused _ _ (rw (c .before .before .before .before .before .side-of .ensures) at (c .before .before .before .before .line-office .ensures .0)) _ _ (c .before .before .refusal .given .1) (c .refused .ensures)
+
+pub yenuslap-line-office-spec : {M : Type 1} → statement M
+yenuslap-line-office-spec =
+    tie.close
+    (tie.spec
+    side-of-requires
+    line-office-requires
+    enum-known-line
+    bit-requires
+    mul-result
+    bit-requires-2
+    add-result
+    enum-known-refusal
+    refused-requires
+    returns
+    returns-2)

@@ -1,0 +1,28 @@
+-- The quotient's number; the lent output is what the call left.
+use borrow.Author.Needs.{needs}
+use Rattle.engine.proofs.yenuslap_quotient_of_splitting.Statement.{statement}
+use Rattle.engine.proofs.yenuslap_quotient_of_splitting.Tie as tie
+use mathlib.Core.Path.{_∙_, ap}
+use Rattle.engine.specs.Answers.{quotientAnswer}
+
+side-of-requires : tie.Need-side-of-requires
+side-of-requires c κs = search needs
+
+by-number-requires : tie.Need-by-number-requires
+by-number-requires c κs = search needs
+
+quotient-value-requires : tie.Need-quotient-value-requires
+quotient-value-requires c κs = search needs
+
+same-length : tie.Need-same-length
+same-length c = search needs
+
+returns : tie.Need-returns
+returns c =
+    let e = rw (c .before .before .before .before .before .side-of .ensures) at (c .before .before .before .by-number .ensures) in
+    (c .quotient-value .ensures ∙ ap quotientAnswer (e .0), e .1)
+
+pub yenuslap-quotient-of-splitting-spec : {M : Type 1} → statement M
+yenuslap-quotient-of-splitting-spec =
+    tie.close
+    (tie.spec side-of-requires by-number-requires quotient-value-requires same-length returns)

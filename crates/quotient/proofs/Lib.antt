@@ -1,0 +1,8 @@
+pub mod Quotients
+pub mod SplitRuns
+pub mod GivenVerdicts
+pub mod DemandThree
+pub mod Judging
+pub mod QuotientCalls
+pub mod LineOffice
+pub mod Published

@@ -1,0 +1,51 @@
+// The quotient of a question by the known half of the splitting of a number.
+use crate::check::check_asked_log;
+use crate::part::known_part;
+use dividing::divide::Quotient;
+use dividing::divide::divide;
+use halves::side::Side;
+use halves::side::cut;
+use labels::label::Labels;
+use labels::label::check_pairs;
+use labels::refusal::Check;
+use splitting::split::Splitting;
+use splitting::split::split;
+ghost use mathlib.Core.Path.{_≡_};
+ghost use lib.ListN.{length};
+ghost use Rattle.quotient.specs.Calls.{byNumber, byNumberOutput};
+
+// Writes the quotient by the known half, stopped at the point, of the splitting of a number: the parts' numbers, 12, 13, 14, 17, 18.
+pub fn by_number<'a>(
+    k: u8,
+    left: &'a [u8],
+    right: &'a [u8],
+    run: &[u8],
+    question: &[u8],
+    number: usize,
+    side: Side,
+    point: usize,
+    out: &mut [u8],
+) -> Quotient
+    ensures { λ r. ⌜ r ≡ byNumber k (now (left .entry)) (now (right .entry)) (now (run .entry)) (now (question .entry)) number side point (length (now (out .entry))) ⌝ }
+    ensures { λ r. ⌜ now (out .exit) ≡ byNumberOutput k (now (left .entry)) (now (right .entry)) (now (run .entry)) (now (question .entry)) number side point (now (out .entry)) ⌝ }
+{
+    match check_pairs(k) {
+        Check::Sound => {}
+        Check::Refused(refusal) => return Quotient::Refused(refusal),
+    }
+    let labels = Labels { pairs: k };
+    match check_asked_log(labels, left, right, run, question, point) {
+        Check::Sound => {}
+        Check::Refused(refusal) => return Quotient::Refused(refusal),
+    }
+    let mut left_half = [0u8; 401];
+    let mut right_half = [0u8; 401];
+    match split(k, left, right, run, number, &mut left_half, &mut right_half) {
+        Splitting::Halves(n) => {
+            let table = known_part(left, right, side);
+            let known = cut(&left_half[..n], &right_half[..n], side, point);
+            divide(k, table, known, question, out)
+        }
+        Splitting::Refused(refusal) => Quotient::Refused(refusal),
+    }
+}
