@@ -17,7 +17,7 @@ use Rattle.labels.specs.declared.refusal.Check.the-variants as check
 use Rattle.labels.proofs.Refusals.{then-sound}
 use Rattle.tables.specs.Tables.{checkTable}
 use Rattle.machines.specs.Joints.{checkJoint, checkTablesAndJoint}
-use Rattle.formulas.specs.Formulas.{checkFormula}
+use Rattle.formulas.specs.Formulas.{questionLimit, checkFormula}
 use Rattle.casebook.specs.Records.{wordAt, fitLength, nextAt, bodyOf}
 use Rattle.casebook.specs.Reading.{readQuestion, readRun, readRight, readLeft, readOf}
 use Rattle.casebook.specs.declared.record.Cursor.{Cursor}
@@ -108,11 +108,11 @@ module _ (s : List ℕ) where
 
         module _ (j : Record) where
           module _ (q : Record) (c : Cursor) (e : next.Found q c ≡ nextAt s at 5) where
-            pub question-refused : (y : Refusal) → checkFormula k 64 (bodyOf s q) ≡ check.Refused y → reading.Refused y ≡ readQuestion s k l r j at
+            pub question-refused : (y : Refusal) → checkFormula k questionLimit (bodyOf s q) ≡ check.Refused y → reading.Refused y ≡ readQuestion s k l r j at
             unfolding readQuestion
             question-refused y f = rw (← e, f)
 
-            module _ (f : checkFormula k 64 (bodyOf s q) ≡ check.Sound) where
+            module _ (f : checkFormula k questionLimit (bodyOf s q) ≡ check.Sound) where
               pub bytes-after : c .at < length s → reading.Refused BytesAfter ≡ readQuestion s k l r j at
               unfolding readQuestion
               bytes-after h = rw (← e, f, lt-ltb (c .at) (length s) h)

@@ -17,7 +17,7 @@ use Rattle.labels.specs.declared.refusal.Refusal.the-variants.{BytesAfter}
 use Rattle.labels.proofs.Refusals.{judges, judged-fault, both-sound}
 use Rattle.tables.specs.Tables.{checkTable}
 use Rattle.machines.specs.Joints.{checkJoint}
-use Rattle.formulas.specs.Formulas.{checkFormula}
+use Rattle.formulas.specs.Formulas.{questionLimit, checkFormula}
 use Rattle.casebook.specs.Records.{nextAt, bodyOf, recordBytes, fitLength}
 use Rattle.casebook.specs.Reading.{after, ifSound, readQuestion, readRun, readRight, readLeft, readOf}
 use Rattle.casebook.specs.Writing.{casebookBytes, checkParts, checkWrite, writeOf}
@@ -38,7 +38,7 @@ pub record SoundParts (k : ℕ) (l r j q : List ℕ) : Type 0 where
   pub left : checkTable k l ≡ Sound
   pub right : checkTable k r ≡ Sound
   pub run : checkJoint k l r j ≡ Sound
-  pub question : checkFormula k 64 q ≡ Sound
+  pub question : checkFormula k questionLimit q ≡ Sound
 
 module _ (k : ℕ) (l r j q : List ℕ) where
   -- parts that are sound together are sound each
@@ -49,7 +49,7 @@ module _ (k : ℕ) (l r j q : List ℕ) where
       let (c, d) = both-sound (checkTable k l) _ b in
       let (f, g) = both-sound (checkTable k r) _ d in
       let (h, i) = both-sound (checkJoint k l r j) _ g in
-      record { pairs = a; left = c; right = f; run = h; question = both-sound (checkFormula k 64 q) Sound i .0 }
+      record { pairs = a; left = c; right = f; run = h; question = both-sound (checkFormula k questionLimit q) Sound i .0 }
 
   -- parts that are sound each are sound together
   pub parts-sound : SoundParts k l r j q → checkParts k l r j q ≡ Sound
@@ -124,7 +124,7 @@ module _ (s : List ℕ) (p : Parts) where
       record-read (nextAt s (c1 .at) 2) (λ l. checkTable k (bodyOf s l)) (λ l c. readRight s k l (c .at)) e1 (λ l c2 n2 f2 e2.
       record-read (nextAt s (c2 .at) 3) (λ r. checkTable k (bodyOf s r)) (λ r c. readRun s k l r (c .at)) e2 (λ r c3 n3 f3 e3.
       record-read (nextAt s (c3 .at) 4) (λ j. checkJoint k (bodyOf s l) (bodyOf s r) (bodyOf s j)) (λ j c. readQuestion s k l r j (c .at)) e3 (λ j c4 n4 f4 e4.
-      record-read (nextAt s (c4 .at) 5) (λ q. checkFormula k 64 (bodyOf s q))
+      record-read (nextAt s (c4 .at) 5) (λ q. checkFormula k questionLimit (bodyOf s q))
       (λ q c. ifSound (refusedIf (ltb (c .at) (length s)) BytesAfter) (reading.Casebook (record { pairs = k; left = l; right = r; run = j; question = q }))) e4 (λ q c5 n5 f5 e5.
       sound-read (refusedIf (ltb (c5 .at) (length s)) BytesAfter) e5 (λ a b. rw (← same-parts b) (record {
         header = h;

@@ -17,7 +17,7 @@ use Rattle.labels.specs.declared.refusal.Check.the-variants as check
 use Rattle.labels.proofs.Refusals.{then-sound}
 use Rattle.tables.specs.Tables.{checkTable}
 use Rattle.machines.specs.Joints.{checkJoint, checkTablesAndJoint}
-use Rattle.formulas.specs.Formulas.{checkFormula}
+use Rattle.formulas.specs.Formulas.{questionLimit, checkFormula}
 use Rattle.casebook.specs.Records.{recordBytes}
 use Rattle.casebook.specs.Writing.{casebookBytes, checkParts, checkWrite, writeOf, writtenOf}
 use Rattle.casebook.specs.Working.{over}
@@ -81,9 +81,9 @@ five-records k l r j q = rw (append-assoc, append-assoc, append-assoc)
 
 -- the parts' checks as the code has them
 module _ (k : ℕ) (l r j q : List ℕ) where
-  pub parts-checked : {x y z w v : Check} → x ≡ thenOf y z → y ≡ thenOf w v → w ≡ checkPairs k → v ≡ checkTablesAndJoint k l r j → z ≡ checkFormula k 64 q → x ≡ checkParts k l r j q
+  pub parts-checked : {x y z w v : Check} → x ≡ thenOf y z → y ≡ thenOf w v → w ≡ checkPairs k → v ≡ checkTablesAndJoint k l r j → z ≡ checkFormula k questionLimit q → x ≡ checkParts k l r j q
   unfolding checkParts checkTablesAndJoint firstOf
-  parts-checked a b c d e = rw (a, b, c, d, e, then-sound (checkJoint k l r j), then-sound (checkFormula k 64 q)) (regroup (checkPairs k) (checkTable k l) (checkTable k r) (checkJoint k l r j) (checkFormula k 64 q))
+  parts-checked a b c d e = rw (a, b, c, d, e, then-sound (checkJoint k l r j), then-sound (checkFormula k questionLimit q)) (regroup (checkPairs k) (checkTable k l) (checkTable k r) (checkJoint k l r j) (checkFormula k questionLimit q))
     where
       regroup : (p t u v w : Check) → thenOf (thenOf p (thenOf t (thenOf u v))) w ≡ thenOf p (thenOf t (thenOf u (thenOf v w)))
       regroup check.Sound check.Sound check.Sound v w = refl

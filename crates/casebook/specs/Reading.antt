@@ -11,7 +11,7 @@ use Rattle.labels.specs.declared.refusal.Check.the-variants as check
 use Rattle.labels.specs.declared.refusal.Refusal.the-variants.{BytesAfter}
 use Rattle.tables.specs.Tables.{checkTable}
 use Rattle.machines.specs.Joints.{checkJoint}
-use Rattle.formulas.specs.Formulas.{checkFormula}
+use Rattle.formulas.specs.Formulas.{questionLimit, checkFormula}
 use Rattle.casebook.specs.Records.{nextAt, bodyOf}
 use Rattle.casebook.specs.declared.record.Cursor.{Cursor}
 use Rattle.casebook.specs.declared.record.Record.{Record}
@@ -33,7 +33,7 @@ ifSound (check.Refused x) go = reading.Refused x
 -- the question record, then 11: "bytes after the question record"
 unfoldable pub readQuestion : List ℕ → ℕ → Record → Record → Record → ℕ → Reading
 readQuestion s k l r j at = after (nextAt s at 5) (λ q c.
-    ifSound (checkFormula k 64 (bodyOf s q))
+    ifSound (checkFormula k questionLimit (bodyOf s q))
     (ifSound (refusedIf (ltb (c .at) (length s)) BytesAfter)
     (reading.Casebook (record { pairs = k; left = l; right = r; run = j; question = q }))))
 

@@ -10,7 +10,7 @@ use Rattle.labels.specs.declared.refusal.Check.the-variants as check
 use Rattle.labels.specs.declared.refusal.Refusal.the-variants.{OutputTooShort}
 use Rattle.tables.specs.Tables.{checkTable}
 use Rattle.machines.specs.Joints.{checkJoint}
-use Rattle.formulas.specs.Formulas.{checkFormula}
+use Rattle.formulas.specs.Formulas.{questionLimit, checkFormula}
 use Rattle.casebook.specs.Records.{recordBytes}
 use Rattle.casebook.specs.declared.write.Writing.{Writing}
 use Rattle.casebook.specs.declared.write.Writing.the-variants as writing
@@ -21,7 +21,7 @@ casebookBytes k l r j q = recordBytes 1 (k ∷ []) ++ (recordBytes 2 l ++ (recor
 
 -- "Calls that take parts give the parts' numbers, in record order"; a question has at most 64 nodes
 unfoldable pub checkParts : ℕ → List ℕ → List ℕ → List ℕ → List ℕ → Check
-checkParts k l r j q = firstOf (checkPairs k ∷ checkTable k l ∷ checkTable k r ∷ checkJoint k l r j ∷ checkFormula k 64 q ∷ [])
+checkParts k l r j q = firstOf (checkPairs k ∷ checkTable k l ∷ checkTable k r ∷ checkJoint k l r j ∷ checkFormula k questionLimit q ∷ [])
 
 -- 18: "lent output shorter than the answer; looked at last, after every other number"
 unfoldable pub checkWrite : ℕ → List ℕ → List ℕ → List ℕ → List ℕ → ℕ → Check

@@ -24,10 +24,10 @@ use Rattle.tables.proofs.SoundTables.{SoundTable, sound-table}
 use Rattle.halves.specs.Halves.{halfOf, isHalfRun, checkHalf, checkTableAndHalf}
 use Rattle.halves.proofs.HalfRuns.{accepted-half}
 use Rattle.halves.proofs.HalfBuffers.{accepted-held, held-copied}
-use Rattle.formulas.specs.Formulas.{formulaOf, questionLimit, Legal, checkFormula}
+use Rattle.formulas.specs.Formulas.{questionLimit, Legal, checkFormula}
 use Rattle.formulas.specs.Sizes.{sizesOver}
 use Rattle.formulas.specs.Working.{Tree, treeOf}
-use Rattle.formulas.proofs.Checking.{judged-formula, formula-spell, formula-length}
+use Rattle.formulas.proofs.Checking.{judged-formula, formula-length, legal-tree}
 use Rattle.formulas.proofs.Operators.{tree-spell}
 use Rattle.formulas.proofs.TreeSizes.{sizes-over, length-over}
 use Rattle.dividing.specs.Quotients.{treeBy, quotientBy, answerOf, outputAfter, checkDivision}
@@ -66,17 +66,13 @@ pub copied : (h xs ys : List ℕ) → xs ≡ take (length h) h ++ ys → take (l
 copied h xs ys e = rw (e, take-length h) (take-at h ys (length h) refl)
 
 module _ (labels : Labels) (t h f : List ℕ) (run : isHalfRun t h ≡ true) (legal : Legal (labels .pairs) questionLimit f) where
-  -- the question's tree, and its quotient
-  question-tree : formulaOf f ≡ some (treeOf f)
-  unfolding Legal
-  question-tree = let (φ, e, s, l, d) = legal in ap formulaOf e ∙ formula-spell φ ∙ ap some (sym (ap treeOf e ∙ tree-spell φ []))
-
+  -- the tree of the quotient
   tree : Formula
   tree = quotient (pairs (labels .pairs)) (tableOf t) (treeOf f) (halfOf h)
 
   tree-is : quotientBy (labels .pairs) t (halfOf h) f ≡ some tree
   unfolding quotientBy treeBy tree
-  tree-is = rw question-tree
+  tree-is = rw (legal-tree (labels .pairs) questionLimit f legal)
 
   module _ (xs : List ℕ) (c : take (length h) xs ≡ h) where
     -- the copied half and the question are ready for the count and the writing

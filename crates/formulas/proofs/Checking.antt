@@ -18,11 +18,12 @@ use Rattle.labels.specs.declared.refusal.Check.the-variants.{Sound, Refused}
 use Rattle.labels.specs.declared.refusal.Refusal.the-variants.{NotATree, NestedTooDeep}
 use Rattle.labels.proofs.Refusals.{Judges, judged-iff, judged-unless, judged-then, then-sound}
 use Rattle.formulas.specs.Formulas.{endOf, treeEnd, wholeOf, formulaOf, isFormula, nestsFit, checkFormula, Legal}
-use Rattle.formulas.specs.Working.{Tree, measureOf, labelsFit}
+use Rattle.formulas.specs.Working.{Tree, treeOf, measureOf, labelsFit}
 use Rattle.formulas.specs.declared.tree.TreeEnd.the-variants as end
 use Rattle.formulas.specs.declared.tree.Measure.{Measure}
 use Rattle.formulas.proofs.FormulaLabels.{spelled-labels}
 use Rattle.formulas.proofs.Measures.{measure-spell}
+use Rattle.formulas.proofs.Operators.{tree-spell}
 
 -- the first tree of bytes that spell one ends behind its nodes
 pub end-spell : (φ : Formula) (rest : List ℕ) → treeEnd (spell φ rest) ≡ end.At (2 * size φ)
@@ -135,3 +136,8 @@ judged-formula k limit f = judged-iff to from (judged-then (judged-unless NotATr
 
     from : Legal k limit f → (isFormula k limit f ≡ true) × (nestsFit f ≡ true)
     from (φ, e, s, l, n) = rw (reads k limit f φ e, le-leb (length f) (2 * limit) (omega (arith, formula-length f φ e)), l, le-leb (nesting φ) 4 n) (refl, refl)
+
+-- the reading of a legal formula is its first tree
+pub legal-tree : (k limit : ℕ) (f : List ℕ) → Legal k limit f → formulaOf f ≡ some (treeOf f)
+unfolding Legal
+legal-tree k limit f (φ, e, s, l, d) = ap formulaOf e ∙ formula-spell φ ∙ ap some (sym (ap treeOf e ∙ tree-spell φ []))

@@ -31,11 +31,11 @@ no-bytes (b ∷ x) e = absurd (omega (arith, e))
 
 module _ (k : ℕ) (a b f : List ℕ) (side : Side) (point : ℕ) where
   -- what is asked of two halves
-  pub question-refused : (x : Refusal) → checkFormula k 64 f ≡ Refused x → Refused x ≡ checkAsked k a b f side point
+  pub question-refused : (x : Refusal) → checkFormula k questionLimit f ≡ Refused x → Refused x ≡ checkAsked k a b f side point
   unfolding checkAsked firstOf
   question-refused x e = rw e
 
-  module _ (e : checkFormula k 64 f ≡ Sound) (x : List ℕ) (cut : x ≡ cutOf a b side point) where
+  module _ (e : checkFormula k questionLimit f ≡ Sound) (x : List ℕ) (cut : x ≡ cutOf a b side point) where
     pub cut-refused : length x ≡ 0 → Refused PointBeyond ≡ checkAsked k a b f side point
     unfolding checkAsked firstOf cutOf
     cut-refused h = rw (e, refused-empty (knownPart a b (knownOf side)) point .1 (sym cut ∙ no-bytes x h))
@@ -84,11 +84,11 @@ module _ (k : ℕ) (a b f : List ℕ) (side : Side) (point : ℕ) where
 
 -- what is asked of a joint run
 module _ (k : ℕ) (s f : List ℕ) (point : ℕ) where
-  pub run-question-refused : (x : Refusal) → checkFormula k 64 f ≡ Refused x → Refused x ≡ checkAskedRun k s f point
+  pub run-question-refused : (x : Refusal) → checkFormula k questionLimit f ≡ Refused x → Refused x ≡ checkAskedRun k s f point
   unfolding checkAskedRun firstOf
   run-question-refused x e = rw e
 
-  module _ (e : checkFormula k 64 f ≡ Sound) where
+  module _ (e : checkFormula k questionLimit f ≡ Sound) where
     pub run-point-beyond : length s / 3 < point → Refused PointBeyond ≡ checkAskedRun k s f point
     unfolding checkAskedRun firstOf
     run-point-beyond h = rw (e, lt-ltb (length s / 3) point h)

@@ -3,7 +3,6 @@ use Prim.Native.Nat.{ℕ, _+_, _-_, _*_, _/_, _%_, _≤_, _<_}
 use mathlib.Core.Path.{_≡_, refl, sym, _∙_, ap, ap₂, fun-ext}
 use mathlib.Core.Bool.{Bool, true, false, not}
 use mathlib.Core.List.{List, [], _∷_, _++_}
-use mathlib.Core.Option.{some}
 use native.Mathlib.Omega.{arith}
 use lib.ListN.{length, getD, take}
 use lib.Seq.{take-take, take-at, take-length, getD-take, length-take-le}
@@ -35,7 +34,7 @@ use Rattle.machines.proofs.Buffers.{Held, accepted-held}
 use Rattle.formulas.specs.Formulas.{formulaOf, Legal, checkFormula}
 use Rattle.formulas.specs.Sizes.{sizesOver}
 use Rattle.formulas.specs.Working.{Tree, treeOf}
-use Rattle.formulas.proofs.Checking.{judged-formula, formula-spell, formula-length}
+use Rattle.formulas.proofs.Checking.{judged-formula, formula-length, legal-tree}
 use Rattle.formulas.proofs.Operators.{tree-spell}
 use Rattle.formulas.proofs.TreeSizes.{sizes-over, length-over}
 use Rattle.verdict.specs.Verdicts.{nodeLimit, jointHolds, halfHolds, checkJointCall, checkHalfCall, verdictOf, answered, jointVerdict, halfVerdict}
@@ -61,16 +60,12 @@ module _ (k : ℕ) (f : List ℕ) (legal : Legal k nodeLimit f) where
         slots = length-over f sizes ∙ z;
       }
 
-  legal-tree : formulaOf f ≡ some (treeOf f)
-  unfolding Legal
-  legal-tree = let (φ, e, s, l, d) = legal in ap formulaOf e ∙ formula-spell φ ∙ ap some (sym (ap treeOf e ∙ tree-spell φ []))
-
   -- the verdict on grids that have the tables' rows is the tables' verdict
   module _ (labels : Labels) (l r gl gr : List ℕ) (el : (p : ℕ) → gridOf gl p ≡ tableOf l p) (er : (p : ℕ) → gridOf gr p ≡ tableOf r p) (j : Run (ℕ × ℕ)) (b : Bool)
       (p : b ≡ judged labels gl gr (treeOf f) j) where
     tables-judged : b ≡ present (λ φ. tablesHold labels l r φ j) (formulaOf f)
     unfolding judged tablesHold
-    tables-judged = rw legal-tree (p ∙ ap₂ (λ L R. holds (beside (pairing labels) L R) (treeOf f) j) (fun-ext el) (fun-ext er))
+    tables-judged = rw (legal-tree k nodeLimit f legal) (p ∙ ap₂ (λ L R. holds (beside (pairing labels) L R) (treeOf f) j) (fun-ext el) (fun-ext er))
 
     pub legal-holds : b ≡ true → verdict.Holds ≡ verdictOf (present (λ φ. tablesHold labels l r φ j) (formulaOf f))
     unfolding verdictOf

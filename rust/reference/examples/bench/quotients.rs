@@ -1,5 +1,7 @@
 //! Benches of quotients, by halves and by number, and of the line office.
 
+use std::cell::RefCell;
+
 use reference::cut::Side;
 use reference::label::IDLE;
 use reference::quotient::{by_halves, by_number, line_office, Asked, Known};
@@ -102,12 +104,13 @@ impl Given {
 
     /// The bench of one quotient by halves.
     fn quotient(&self, what: &str, stop: Stop) -> Bench {
+        // The output is the caller's: it is made once, not in each call.
+        let out = RefCell::new([0; OUT]);
         let engine = move |it: &Given| {
             let (left, right, question) = (&it.left, &it.right, &it.question);
             let [left_half, right_half] = it.both_halves();
             let (side, point) = (stop.side, stop.point);
-            let mut out = [0; OUT];
-            let lent = &mut out;
+            let lent = &mut *out.borrow_mut();
             bare::quotient(
                 it.k, left, right, left_half, right_half, question, side, point, lent,
             )
@@ -162,11 +165,11 @@ impl Numbered {
 
     /// The bench of one quotient by number.
     fn bench(&self, what: &str, stop: Stop) -> Bench {
+        let out = RefCell::new([0; OUT]);
         let engine = move |it: &Numbered| {
             let (left, right, run, question) = (&it.left, &it.right, &it.run, &it.question);
             let (number, side, point) = (it.number, stop.side, stop.point);
-            let mut out = [0; OUT];
-            let lent = &mut out;
+            let lent = &mut *out.borrow_mut();
             bare::quotient_of_splitting(it.k, left, right, run, question, number, side, point, lent)
         };
         let plain = move |it: &Numbered| as_bare(it.plain(stop).map(|bytes| bytes.len()));
