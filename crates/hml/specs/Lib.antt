@@ -20,6 +20,7 @@ pub mod Numbered
 pub mod Quotient
 pub mod Theorem
 pub mod Bounds
+pub mod Window
 pub mod Line
 -- a machine beside one that never moves: the verdict on its run is the joint one
 pub mod Alone
