@@ -1,13 +1,13 @@
 -- The division of a question by a half run: what the checks let through, and the answers.
 use Prim.Native.Nat.{ℕ, _+_, _*_, _≤_, _<_, min}
-use mathlib.Core.Path.{_≡_, refl, sym, _∙_, ap}
+use mathlib.Core.Path.{_≡_, sym, _∙_, ap}
 use mathlib.Core.Bool.{true}
-use mathlib.Core.List.{List, [], _++_}
+use mathlib.Core.List.{List, []}
 use mathlib.Core.Option.{some}
 use native.Mathlib.Omega.{arith}
 use lib.ListN.{length, take}
-use lib.Seq.{take-at, take-length}
-use Rattle.hml.specs.Formula.{Formula, size, nesting}
+use lib.Seq.{take-length}
+use Rattle.hml.specs.Formula.{Formula, size}
 use Rattle.hml.specs.Spell.{spell, length-spell}
 use Rattle.hml.specs.Quotient.{quotient}
 use Rattle.hml.specs.Labels.{pairs}
@@ -26,10 +26,10 @@ use Rattle.halves.proofs.HalfRuns.{accepted-half}
 use Rattle.halves.proofs.HalfBuffers.{accepted-held, held-copied}
 use Rattle.formulas.specs.Formulas.{questionLimit, Legal, checkFormula}
 use Rattle.formulas.specs.Sizes.{sizesOver}
-use Rattle.formulas.specs.Working.{Tree, treeOf}
-use Rattle.formulas.proofs.Checking.{judged-formula, formula-length, legal-tree}
-use Rattle.formulas.proofs.Operators.{tree-spell}
-use Rattle.formulas.proofs.TreeSizes.{sizes-over, length-over}
+use Rattle.formulas.specs.Working.{treeOf}
+use Rattle.formulas.proofs.Checking.{judged-formula, legal-tree}
+use Rattle.formulas.proofs.TreeSizes.{length-over}
+use Rattle.formulas.proofs.Operands.{legal-part, legal-nesting}
 use Rattle.dividing.specs.Quotients.{treeBy, quotientBy, answerOf, outputAfter, checkDivision}
 use Rattle.dividing.specs.Working.{inFront, text, Ready}
 use Rattle.dividing.specs.declared.divide.Quotient.the-variants as answer
@@ -61,10 +61,6 @@ module _ (k : ℕ) (t h f : List ℕ) where
       let (v, c) = both-sound (checkFormula k questionLimit f) _ b in
       (sound-table k t u, passed (isHalfRun t h) _ (both-sound (checkHalf t h) Sound c .0), judges (judged-formula k questionLimit f) .0 v)
 
--- a half that is copied to the front of a buffer
-pub copied : (h xs ys : List ℕ) → xs ≡ take (length h) h ++ ys → take (length h) xs ≡ h
-copied h xs ys e = rw (e, take-length h) (take-at h ys (length h) refl)
-
 module _ (labels : Labels) (t h f : List ℕ) (run : isHalfRun t h ≡ true) (legal : Legal (labels .pairs) questionLimit f) where
   -- the tree of the quotient
   tree : Formula
@@ -77,16 +73,13 @@ module _ (labels : Labels) (t h f : List ℕ) (run : isHalfRun t h ≡ true) (le
   module _ (xs : List ℕ) (c : take (length h) xs ≡ h) where
     -- the copied half and the question are ready for the count and the writing
     pub question-ready : (sizes : List ℕ) → length sizes ≡ 64 → length xs ≡ 409 → Ready (sizesOver f sizes) xs (length h) 0 f
-    unfolding Legal Tree
     question-ready sizes z w =
-        let (φ, e, s, l, d) = legal in
-        let i : treeOf f ≡ φ = ap treeOf e ∙ tree-spell φ [] in
         let a = accepted-half t h run in
         let n : length h ≤ 401 = omega (arith, a .counted, a .few, a .odd) in
         record {
-          part = record { tree = (φ, [], e); sized = sizes-over f sizes (omega (arith, formula-length f φ e, s, z)) };
+          part = legal-part (labels .pairs) questionLimit f legal sizes (omega (arith, z));
           held = held-copied h xs (length h) (accepted-held t h run) (c ∙ sym (take-length h)) (omega (arith, n, w));
-          room = omega (arith, ap nesting i, d, n, w);
+          room = omega (arith, legal-nesting (labels .pairs) questionLimit f legal, n, w);
           size = w;
           slots = length-over f sizes ∙ z;
         }

@@ -15,12 +15,12 @@ use Rattle.labels.specs.Labels.{pairing, partnerFound}
 use Rattle.labels.specs.declared.label.Label.{Label}
 use Rattle.labels.specs.declared.label.Labels.{Labels}
 use Rattle.labels.specs.declared.label.Partner.the-variants as partner
+use Rattle.labels.proofs.Labels.{found-some, found-none}
 use Rattle.labels.proofs.Slices.{rest}
 use Rattle.tables.specs.Tables.{tableOf, movesIn}
 use Rattle.tables.proofs.SoundTables.{SoundTable, moves-few}
 use Rattle.tables.proofs.Searching.{first-move, no-move}
 use Rattle.dividing.specs.Working.{Behind, aloneIn, shakenBy, shakenIn, disjunctsOf}
-use Rattle.dividing.proofs.Nodes.{partner-is, nobody-is}
 
 -- moves alone: none where no row is left, else those of the first row and of those behind it
 module _ (a : ℕ) (rows : List ℕ) where
@@ -46,11 +46,11 @@ module _ (P : Pairing) (rows : List ℕ) where
   module _ (h : 3 ≤ length rows) where
     pub shaken-skip : partner.Nobody ≡ partnerFound (P .partner (getD rows 1 0)) → shakenIn P (movesIn (rest 3 rows)) ≡ shakenIn P (movesIn rows)
     unfolding shakenIn shakenBy
-    shaken-skip e = rw (first-move rows h, nobody-is _ e)
+    shaken-skip e = rw (first-move rows h, found-none _ e)
 
     pub shaken-more : (c : Label) → partner.Label c ≡ partnerFound (P .partner (getD rows 1 0)) → Behind (5 ∷ c .0 ∷ getD rows 1 0 ∷ getD rows 2 0 ∷ []) (shakenIn P (movesIn (rest 3 rows))) (shakenIn P (movesIn rows))
     unfolding Behind shakenIn shakenBy
-    shaken-more c e = rw (first-move rows h, partner-is _ c e)
+    shaken-more c e = rw (first-move rows h, found-some _ c e)
 
 -- four bytes a move at most
 each-short : (g : ℕ × ℕ → List ℕ) → ((m : ℕ × ℕ) → length (g m) ≤ 4) → (moves : List (ℕ × ℕ)) → length (each g moves) ≤ 4 * length moves

@@ -1,28 +1,16 @@
 -- The cases of a back modality over the last step of the known half.
 use Prim.Native.Nat.{ℕ}
-use mathlib.Core.Path.{_≡_, sym, ap}
+use mathlib.Core.Path.{_≡_}
 use mathlib.Core.Bool.{true, false}
-use mathlib.Core.Option.{Option, none, some}
 use lib.Dec.{eqb}
 use borrow.Author.Tests.{eq-eqb, ne-eqb}
-use Rattle.hml.specs.Tests.{apart}
 use Rattle.labels.specs.Labels.{pairing, partnerFound}
 use Rattle.labels.specs.declared.label.Label.{Label}
 use Rattle.labels.specs.declared.label.Labels.{Labels}
 use Rattle.labels.specs.declared.label.Partner.the-variants as partner
+use Rattle.labels.proofs.Labels.{found-some, found-none}
 use Rattle.dividing.specs.declared.node.Past.the-variants as past
 use Rattle.dividing.specs.Working.{nodeOver, pastOf}
-
--- what the lookup of a partner found
-pub partner-is : (o : Option ℕ) (c : Label) → partner.Label c ≡ partnerFound o → o ≡ some (c .0)
-unfolding partnerFound
-partner-is none c e = absurd (apart cc)
-partner-is (some b) c e = let h : c ≡ record { 0 = b } = cc in ap (λ (x : Label). some (x .0)) (sym h)
-
-pub nobody-is : (o : Option ℕ) → partner.Nobody ≡ partnerFound o → o ≡ none
-unfolding partnerFound
-nobody-is none e = cc
-nobody-is (some b) e = absurd (apart cc)
 
 module _ (labels : Labels) (o a b : ℕ) where
   -- back by idle
@@ -53,8 +41,8 @@ module _ (labels : Labels) (o a b : ℕ) where
 
         pub label-shaken : eqb a 0 ≡ true → (c : Label) → partner.Label c ≡ partnerFound (pairing labels .partner b) → nodeOver 6 (c .0) ≡ pastOf labels o a b
         unfolding pastOf
-        label-shaken e c p = rw (s, m, ne-eqb b a d, e, partner-is _ c p)
+        label-shaken e c p = rw (s, m, ne-eqb b a d, e, found-some _ c p)
 
         pub label-alone : eqb a 0 ≡ true → partner.Nobody ≡ partnerFound (pairing labels .partner b) → past.Fails ≡ pastOf labels o a b
         unfolding pastOf
-        label-alone e p = rw (s, m, ne-eqb b a d, e, nobody-is _ p)
+        label-alone e p = rw (s, m, ne-eqb b a d, e, found-none _ p)

@@ -27,7 +27,7 @@ use Rattle.dividing.specs.declared.node.Past.the-variants as past
 unfoldable pub inFront : List ℕ → List ℕ → List ℕ
 inFront b xs = b ++ drop (length b) xs
 
--- a piece that is one piece with another behind it
+-- the piece b, with d behind it, is the piece w
 unfoldable pub Behind : List ℕ → List ℕ → List ℕ → Type 0
 Behind b d w = b ++ d ≡ w
 

@@ -3,18 +3,21 @@ use Prim.Native.Nat.{ℕ, zero, suc, _+_, _-_, _*_, _/_, _≤_, _<_, max}
 use mathlib.Core.Path.{_≡_, refl, sym, _∙_, ap}
 use mathlib.Core.Logic.{_⊎_, inl, inr, ⊎-elim}
 use mathlib.Core.Bool.{Bool, true, false, cond, _&&_}
-use mathlib.Core.List.{List}
+use mathlib.Core.List.{List, []}
 use native.Mathlib.Omega.{arith}
 use lib.ListN.{length, getD, drop, length-drop}
 use lib.Seq.{drop-drop}
 use lib.Dec.{eqb}
+use Rattle.hml.specs.Labels.{count}
 use Rattle.hml.specs.Formula.{Formula, and, or, size, nesting, labelled}
 use Rattle.labels.proofs.Slices.{rest, rest-of}
 use Rattle.formulas.specs.Working.{Tree, treeOf}
-use Rattle.formulas.specs.Sizes.{Sized, treeSize}
+use Rattle.formulas.specs.Formulas.{Legal}
+use Rattle.formulas.specs.Sizes.{Sized, treeSize, sizesOver}
 use Rattle.formulas.proofs.Measures.{size-some}
 use Rattle.formulas.proofs.Operators.{At, Unary, Binary, at, tree-spell}
-use Rattle.formulas.proofs.TreeSizes.{size-spell, sized-room, sized-part, sized-first}
+use Rattle.formulas.proofs.TreeSizes.{size-spell, sized-room, sized-part, sized-first, sizes-over}
+use Rattle.formulas.proofs.Checking.{formula-length}
 
 -- bytes that begin with a tree, and a list with the sizes of their trees
 pub record Part (sizes f : List ℕ) : Type 0 where
@@ -77,6 +80,20 @@ module _ (sizes f : List ℕ) (p : Part sizes f) where
 
       pub operands-are : treeOf f ≡ connected (getD f 0 0) (treeOf (rest 2 f)) (treeOf (rest (2 * m + 2) f))
       operands-are = rw (second-begins, rest-of 2 f) (two .is)
+
+-- a legal formula, with the sizes of its trees, is such a part, and looks ahead four steps at most
+module _ (k limit : ℕ) (f : List ℕ) (legal : Legal k limit f) where
+  pub legal-part : (sizes : List ℕ) → limit ≤ length sizes → Part (sizesOver f sizes) f
+  unfolding Legal Tree
+  legal-part sizes h = let (φ, e, s, l, d) = legal in record { tree = (φ, [], e); sized = sizes-over f sizes (omega (arith, formula-length f φ e, s, h)) }
+
+  pub legal-nesting : nesting (treeOf f) ≤ 4
+  unfolding Legal
+  legal-nesting = let (φ, e, s, l, d) = legal in omega (arith, ap nesting (ap treeOf e ∙ tree-spell φ []), d)
+
+  pub legal-labels : labelled (count k) (treeOf f) ≡ true
+  unfolding Legal
+  legal-labels = let (φ, e, s, l, d) = legal in ap (labelled (count k)) (ap treeOf e ∙ tree-spell φ []) ∙ l
 
 -- the modalities nest in a connective as deep as in one of its operands
 pub nesting-connected : (o : ℕ) (φ ψ : Formula) → nesting (connected o φ ψ) ≡ max (nesting φ) (nesting ψ)

@@ -28,7 +28,7 @@ use Rattle.machines.specs.Joints.{jointBytes}
 use Rattle.labels.proofs.Slices.{take-two, written-behind}
 use Rattle.machines.proofs.JointRuns.{stateBytes}
 use Rattle.machines.proofs.Buffers.{put, length-put}
-use Rattle.machines.proofs.Joints.{found-some, found-none}
+use Rattle.labels.proofs.Labels.{found-some, found-none}
 use Rattle.joining.specs.Joinings.{joinOf, halvesMatch, runBytes, joinBytes}
 use Rattle.joining.specs.Matching.{HalfBytes, jointLabel, labelFound, putJointStep, wholeRun}
 use Rattle.joining.specs.declared.join.JointLabel.the-variants as joint

@@ -1,13 +1,14 @@
 -- The cases of a partner lookup, each from what the code knows at its return.
 use Prim.Native.Nat.{ℕ, _+_, _-_, _%_, _≤_, _<_}
-use mathlib.Core.Path.{_≡_}
+use mathlib.Core.Path.{_≡_, refl, sym, ap}
+use mathlib.Core.Option.{Option, none, some}
 use native.Mathlib.Omega.{arith}
 use lib.Dec.{leb}
 use mathlib.Core.Bool.{true, false}
 use borrow.Author.Tests.{eq-eqb, ne-eqb, le-leb, leb-true}
 use Rattle.hml.specs.Labels.{count, partnerOf, partnerAmong, pairs, silent-alone}
 use Rattle.labels.specs.Labels.{checkPairs, anyPartner, partnerFound, pairing}
-use Rattle.hml.specs.Tests.{decided-lt}
+use Rattle.hml.specs.Tests.{apart, decided-lt}
 use Rattle.labels.specs.declared.refusal.Refusal.the-variants.{TooManyPairs}
 use Rattle.labels.proofs.Refusals.{Judges, judged-iff, judged-fault}
 use Rattle.labels.specs.declared.label.Label.{Label}
@@ -52,3 +53,14 @@ judged-pairs k = judged-iff (λ n. small k n) (λ h n. omega (arith, h, n)) (jud
   where
     small : (k : ℕ) → (15 < k → ⊥) → k ≤ 15
     small k n = omega (arith, n)
+
+-- what a partner lookup found
+pub found-some : (o : Option ℕ) (b : Label) → partner.Label b ≡ partnerFound o → o ≡ some (b .0)
+unfolding partnerFound
+found-some none b e = absurd (apart cc)
+found-some (some x) b e = let q : b ≡ record { 0 = x } = cc in ap (λ l. some (l .0)) (sym q)
+
+pub found-none : (o : Option ℕ) → partner.Nobody ≡ partnerFound o → o ≡ none
+unfolding partnerFound
+found-none none e = refl
+found-none (some x) e = absurd (apart cc)

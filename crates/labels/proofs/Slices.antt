@@ -1,6 +1,6 @@
 -- Parts of slices, as the goals of proofs have them.
 use Prim.Native.Nat.{ℕ, suc, _+_, _-_, _≤_, _<_}
-use mathlib.Core.Path.{_≡_, ap, _∙_}
+use mathlib.Core.Path.{_≡_, refl, ap, _∙_}
 use mathlib.Core.List.{List, [], _∷_, _++_, append-assoc}
 use native.Mathlib.Omega.{arith}
 use lib.ListN.{length, getD, take, drop, length-append, length-take, length-drop}
@@ -32,3 +32,7 @@ take-two l n h =
 pub written-behind : (b d xs : List ℕ) (n : ℕ) → length b ≡ n → n + length d ≤ length xs → sets (b ++ drop n xs) n d ≡ (b ++ d) ++ drop (n + length d) xs
 written-behind b d xs n e h = sets-eq d (b ++ drop n xs) n (omega (arith, length-append b (drop n xs), length-drop n xs))
     ∙ rw (take-at b (drop n xs) n e, ← drop-drop (length d) n (b ++ drop n xs), drop-at b (drop n xs) n e, drop-drop (length d) n xs, append-assoc)
+
+-- bytes that were copied to the front of others
+pub copied : (h xs ys : List ℕ) → xs ≡ take (length h) h ++ ys → take (length h) xs ≡ h
+copied h xs ys e = rw (e, take-all (length h) h (omega arith)) (take-at h ys (length h) refl)

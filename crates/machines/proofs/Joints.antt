@@ -1,6 +1,6 @@
 -- The cases of judging a joint run, each from what the code knows at its return.
 use Prim.Native.Nat.{ℕ, suc, _+_, _*_, _/_, _%_, _≤_, _<_}
-use mathlib.Core.Path.{_≡_, refl, sym, _∙_, ap, ap₂}
+use mathlib.Core.Path.{_≡_, refl, _∙_, ap₂}
 use mathlib.Core.Bool.{Bool, true, false, cond, _&&_}
 use mathlib.Core.List.{List, [], _∷_}
 use mathlib.Core.Option.{Option, none, some}
@@ -9,7 +9,6 @@ use lib.ListN.{length, getD, drop, drop-of-length-le}
 use lib.Seq.{drop-cons}
 use lib.Dec.{eqb}
 use borrow.Author.Tests.{eq-eqb, ne-eqb, lt-ltb, le-ltb, le-leb, lt-leb}
-use Rattle.hml.specs.Tests.{apart}
 use Rattle.hml.specs.Lists.{any, any-cong, present, guard}
 use Rattle.hml.specs.System.{System, Pairing}
 use Rattle.hml.specs.Labels.{pairs}
@@ -20,6 +19,7 @@ use Rattle.halves.specs.Runs.{goOn}
 use Rattle.machines.specs.Joints.{jointSteps, kept, shakesTo, answerTo, isLeftAlone, isRightAlone, isHandshake, isJointIdle, isReal, isRealStep, fitJoint, isJointRun, checkJoint, checkTablesAndJoint}
 use Rattle.labels.specs.declared.label.Label.{Label}
 use Rattle.labels.specs.declared.label.Partner.the-variants as partner
+use Rattle.labels.proofs.Labels.{found-some, found-none}
 use Rattle.labels.specs.declared.refusal.Refusal.{Refusal}
 use Rattle.labels.specs.declared.refusal.Refusal.the-variants.{WrongLength, NotReal}
 use Rattle.labels.specs.declared.refusal.Check.{Check}
@@ -42,17 +42,6 @@ module _ (p q c p′ q′ : ℕ) where
     pub left-kept : p′ ≡ p → eqb q′ q ≡ isJointIdle p q c p′ q′
     unfolding isJointIdle
     left-kept e = rw (idle, eq-eqb _ _ e)
-
--- what a partner lookup found
-pub found-some : (o : Option ℕ) (b : Label) → partner.Label b ≡ partnerFound o → o ≡ some (b .0)
-unfolding partnerFound
-found-some none b e = absurd (apart cc)
-found-some (some x) b e = let q : b ≡ record { 0 = x } = cc in ap (λ l. some (l .0)) (sym q)
-
-pub found-none : (o : Option ℕ) → partner.Nobody ≡ partnerFound o → o ≡ none
-unfolding partnerFound
-found-none none e = refl
-found-none (some x) e = absurd (apart cc)
 
 -- the right's answer to one move of the left, of label a and target to
 module _ (P : Pairing) (answers : List (ℕ × ℕ)) (p′ q′ a to : ℕ) where

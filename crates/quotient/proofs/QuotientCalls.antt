@@ -238,8 +238,8 @@ module _ (k : ℕ) (l r s f : List ℕ) (n point : ℕ) where
           let (e, j, _, _, _) = splitting-joins k l r s n log below in
           let split = split-run k l r s _ _ point e j (omega (arith, sound-log k l r s log .run .counted, ltb-false (length s / 3) point (unrefused _ _ within))) in
           record {
-            pairs = parts .pairs;
-            table = known-table k l r (knownOf side) (parts .left) (parts .right);
+            pairs = parts .machines .pairs;
+            table = known-table k l r (knownOf side) (parts .machines .left) (parts .machines .right);
             half = known-half l r _ _ (knownOf side) (split .left) (split .right);
             question = question;
             within = known-within k l r s _ _ point split (knownOf side);

@@ -26,24 +26,20 @@ use Rattle.formulas.specs.Formulas.{questionLimit, checkFormula}
 use Rattle.verdict.specs.Verdicts.{nodeLimit, checkJointCall, checkHalfCall}
 use Rattle.joining.specs.Joinings.{halvesMatch, joinBytes, checkHalves}
 use Rattle.splitting.specs.Splittings.{splittingsOf, splittingLimit, checkLog}
-use Rattle.splitting.proofs.LogRuns.{sound-halves, halves-join, joined-read}
+use Rattle.splitting.proofs.LogRuns.{SoundMachines, sound-log, sound-halves, halves-join, joined-read}
 use Rattle.quotient.specs.Calls.{checkByHalf, checkByNumber}
 
--- the parts of a log that no check refuses
+-- the parts of a log that no check refuses, each by its check
 pub record LogParts (k : ℕ) (l r s : List ℕ) : Type 0 where
-  pub pairs : checkPairs k ≡ Sound
-  pub left : checkTable k l ≡ Sound
-  pub right : checkTable k r ≡ Sound
+  pub machines : SoundMachines k l r
   pub run : checkJoint k l r s ≡ Sound
 
 pub log-parts : (k : ℕ) (l r s : List ℕ) → checkLog k l r s ≡ Sound → LogParts k l r s
 unfolding checkLog firstOf
 log-parts k l r s e =
-    let (pairs, a) = both-sound (checkPairs k) _ e in
-    let (left, b) = both-sound (checkTable k l) _ a in
-    let (right, c) = both-sound (checkTable k r) _ b in
-    let (run, _) = both-sound (checkJoint k l r s) _ c in
-    record { pairs = pairs; left = left; right = right; run = run }
+    let machines = sound-log k l r s e .machines in
+    let behind = rw (machines .pairs, machines .left, machines .right) at e in
+    record { machines = machines; run = both-sound (checkJoint k l r s) Sound behind .0 }
 
 -- halves that no check refuses and that join to the log, at a point of it
 pub record SplitRun (k : ℕ) (l r s a b : List ℕ) (point : ℕ) : Type 0 where
@@ -89,21 +85,21 @@ module _ (k : ℕ) (l r s : List ℕ) (log : LogParts k l r s) (point : ℕ) (wi
   -- the verdict on the log refuses nothing
   pub joint-call-sound : checkFormula k nodeLimit f ≡ Sound → checkJointCall k l r s f point ≡ Sound
   unfolding checkJointCall firstOf
-  joint-call-sound e = rw (log .pairs, log .left, log .right, log .run, e, le-ltb (steps (jointOf s)) point within)
+  joint-call-sound e = rw (log .machines .pairs, log .machines .left, log .machines .right, log .run, e, le-ltb (steps (jointOf s)) point within)
 
   -- nor does the quotient by the splitting of a number
   pub by-number-sound : checkFormula k questionLimit f ≡ Sound → (n : ℕ) → n < length (splittingsOf k l r s) → length (splittingsOf k l r s) ≤ 65535 → checkByNumber k l r s f n point ≡ Sound
   unfolding checkByNumber firstOf splittingLimit
-  by-number-sound e n h i = rw (log .pairs, log .left, log .right, log .run, e, le-ltb (steps (jointOf s)) point within, le-ltb 65535 (length (splittingsOf k l r s)) i, lt-leb (length (splittingsOf k l r s)) n h)
+  by-number-sound e n h i = rw (log .machines .pairs, log .machines .left, log .machines .right, log .run, e, le-ltb (steps (jointOf s)) point within, le-ltb 65535 (length (splittingsOf k l r s)) i, lt-leb (length (splittingsOf k l r s)) n h)
 
   module _ (a b : List ℕ) (split : SplitRun k l r s a b point) where
     -- nor the quotient by the known one of its halves
     pub by-half-sound : checkFormula k questionLimit f ≡ Sound → (side : Side) → checkByHalf k l r a b f side point ≡ Sound
     unfolding checkByHalf firstOf
-    by-half-sound e side = rw (log .pairs, log .left, log .right, e, known-within k l r s a b point split (knownOf side), split .left, split .right, split .match)
+    by-half-sound e side = rw (log .machines .pairs, log .machines .left, log .machines .right, e, known-within k l r s a b point split (knownOf side), split .left, split .right, split .match)
 
     -- nor the verdict on the other half
     pub half-call-sound : checkFormula k nodeLimit f ≡ Sound → (known : Known) → checkHalfCall k (otherPart l r known) (otherPart a b known) f point ≡ Sound
     unfolding checkHalfCall firstOf
-    half-call-sound e known.Left = rw (log .pairs, log .right, e, split .rightWithin, split .right)
-    half-call-sound e known.Right = rw (log .pairs, log .left, e, split .leftWithin, split .left)
+    half-call-sound e known.Left = rw (log .machines .pairs, log .machines .right, e, split .rightWithin, split .right)
+    half-call-sound e known.Right = rw (log .machines .pairs, log .machines .left, e, split .leftWithin, split .left)

@@ -18,6 +18,7 @@ use Rattle.labels.specs.Labels.{pairing, partnerFound}
 use Rattle.labels.specs.declared.label.Label.{Label}
 use Rattle.labels.specs.declared.label.Labels.{Labels}
 use Rattle.labels.specs.declared.label.Partner.the-variants as partner
+use Rattle.labels.proofs.Labels.{found-some, found-none}
 use Rattle.halves.specs.Runs.{stepOf}
 use Rattle.verdict.proofs.Grids.{pairs-length}
 use Rattle.verdict.specs.Working.{Shown, Within, pairsIn, gridOf, skippedIn, judged, tried, shaken}
@@ -173,19 +174,9 @@ module _ (P : Pairing) (F : ℕ → ℕ → Bool) (rights : List (ℕ × ℕ)) (
     pub shaken-miss : (v : Bool) → false ≡ shakesAt → v ≡ shaken P F (pairsIn (rows - 1) (drop (at + 2) g)) rights → v ≡ shaken P F (pairsIn rows (drop at g)) rights
     shaken-miss v q p = rw (shaken-first, ← q) p
 
--- what the lookup of a partner found
-found-some : (o : Option ℕ) (b : ℕ) → partner.Label (record { 0 = b }) ≡ partnerFound o → o ≡ some b
-unfolding partnerFound
-found-some none b e = absurd (apart cc)
-found-some (some c) b e = let z : _≡_ {A = Label} (record { 0 = b }) (record { 0 = c }) = cc in ap (λ x. some (x .0)) (sym z)
-
-found-none : (o : Option ℕ) → partner.Nobody ≡ partnerFound o → o ≡ none
-unfolding partnerFound
-found-none none e = refl
-found-none (some c) e = absurd (apart cc)
-
+-- by what the lookup of a partner found
 pub partner-tried : (F : ℕ → Bool) (o : Option ℕ) (b : ℕ) (v : Bool) → partner.Label (record { 0 = b }) ≡ partnerFound o → v ≡ F b → v ≡ present F o
-partner-tried F o b v e p = rw (found-some o b e) p
+partner-tried F o b v e p = rw (found-some o (record { 0 = b }) e) p
 
 pub nobody-tried : (F : ℕ → Bool) (o : Option ℕ) → partner.Nobody ≡ partnerFound o → false ≡ present F o
 nobody-tried F o e = rw (found-none o e)

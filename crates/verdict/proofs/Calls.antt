@@ -5,12 +5,12 @@ use mathlib.Core.Bool.{Bool, true, false, not}
 use mathlib.Core.List.{List, [], _∷_, _++_}
 use native.Mathlib.Omega.{arith}
 use lib.ListN.{length, getD, take}
-use lib.Seq.{take-take, take-at, take-length, getD-take, length-take-le}
+use lib.Seq.{take-take, take-at, getD-take, length-take-le}
 use lib.Dec.{ltb}
 use borrow.Author.Tests.{lt-ltb, le-ltb, ltb-false, ne-eqb}
 use Rattle.hml.specs.Lists.{present}
 use Rattle.hml.specs.System.{Run, last, steps, stop}
-use Rattle.hml.specs.Formula.{Formula, size, nesting, holds}
+use Rattle.hml.specs.Formula.{Formula, size, holds}
 use Rattle.hml.specs.Machine.{machine}
 use Rattle.hml.specs.Labels.{pairs}
 use Rattle.hml.specs.Compose.{beside}
@@ -22,6 +22,7 @@ use Rattle.labels.specs.declared.refusal.Refusal.{Refusal}
 use Rattle.labels.specs.declared.refusal.Refusal.the-variants.{PointBeyond}
 use Rattle.labels.specs.declared.refusal.Check.{Check}
 use Rattle.labels.specs.declared.refusal.Check.the-variants.{Sound, Refused}
+use Rattle.labels.proofs.Slices.{copied}
 use Rattle.labels.proofs.Refusals.{then-sound, both-sound, passed, unrefused, judges}
 use Rattle.tables.specs.Tables.{tableOf, checkTable, fitTable, fitStates, rowsOf, threes, checkRows}
 use Rattle.tables.proofs.SoundTables.{SoundTable, sound-table, no-idle-label}
@@ -33,10 +34,10 @@ use Rattle.machines.proofs.JointRuns.{Tables, AcceptedJoint, accepted-joint, jo
 use Rattle.machines.proofs.Buffers.{Held, accepted-held}
 use Rattle.formulas.specs.Formulas.{formulaOf, Legal, checkFormula}
 use Rattle.formulas.specs.Sizes.{sizesOver}
-use Rattle.formulas.specs.Working.{Tree, treeOf}
-use Rattle.formulas.proofs.Checking.{judged-formula, formula-length, legal-tree}
-use Rattle.formulas.proofs.Operators.{tree-spell}
-use Rattle.formulas.proofs.TreeSizes.{sizes-over, length-over}
+use Rattle.formulas.specs.Working.{treeOf}
+use Rattle.formulas.proofs.Checking.{judged-formula, legal-tree}
+use Rattle.formulas.proofs.TreeSizes.{length-over}
+use Rattle.formulas.proofs.Operands.{legal-part, legal-nesting, legal-labels}
 use Rattle.verdict.specs.Verdicts.{nodeLimit, jointHolds, halfHolds, checkJointCall, checkHalfCall, verdictOf, answered, jointVerdict, halfVerdict}
 use Rattle.verdict.specs.Working.{Ready, gridOf, judged, tablesHold, besideStill}
 use Rattle.verdict.specs.declared.answer.Verdict.{Verdict}
@@ -46,16 +47,15 @@ use Rattle.verdict.proofs.Still.{still-read, still-length, still-take, 
 -- a legal formula is ready for its verdict, with the sizes of its trees
 module _ (k : ℕ) (f : List ℕ) (legal : Legal k nodeLimit f) where
   pub legal-ready : (sizes xs : List ℕ) (n : ℕ) → length sizes ≡ 4096 → length xs ≡ 614 → Held xs n → n ≤ 602 → Ready k (sizesOver f sizes) xs n 0 f
-  unfolding Legal Tree nodeLimit
+  unfolding nodeLimit
   legal-ready sizes xs n z w h i =
-      let (φ, e, s, l, d) = legal in
-      let t : treeOf f ≡ φ = ap treeOf e ∙ tree-spell φ [] in
+      let p = legal-part k nodeLimit f legal sizes (omega (arith, z)) in
       record {
-        tree = (φ, [], e);
-        ranged = rw t l;
-        sized = sizes-over f sizes (omega (arith, formula-length f φ e, s, z));
+        tree = p .tree;
+        ranged = legal-labels k nodeLimit f legal;
+        sized = p .sized;
         held = h;
-        room = omega (arith, ap nesting t, d, i, w);
+        room = omega (arith, legal-nesting k nodeLimit f legal, i, w);
         size = w;
         slots = length-over f sizes ∙ z;
       }
@@ -166,8 +166,8 @@ module _ (k : ℕ) (l r s f : List ℕ) where
       (c, omega (arith, joint-steps c, ltb-false (steps (jointOf s)) p (unrefused _ _ b)))
 
 -- the copy of the first n bytes
-pub copied : (s xs ys : List ℕ) (n : ℕ) → n ≤ length s → xs ≡ take (length (take n s)) (take n s) ++ ys → take n xs ≡ take n s
-copied s xs ys n h e = rw (e, take-length (take n s)) (take-at (take n s) ys n (length-take-le n s h))
+pub front-copied : (s xs ys : List ℕ) (n : ℕ) → n ≤ length s → xs ≡ take (length (take n s)) (take n s) ++ ys → take n xs ≡ take n s
+front-copied s xs ys n h e = let c = copied (take n s) xs ys e in rw (length-take-le n s h) at c
 
 -- the pairs judged first, then the other parts
 pub pairs-refused : (c d : Check) (x : Refusal) → c ≡ Refused x → thenOf c d ≡ Refused x

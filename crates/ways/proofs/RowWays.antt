@@ -20,7 +20,7 @@ use Rattle.halves.specs.Steps.{stepStruct}
 use Rattle.halves.specs.declared.step.Step.{Step}
 use Rattle.halves.specs.declared.step.Step.the-variants as step
 use Rattle.machines.specs.Joints.{answerTo}
-use Rattle.machines.proofs.Joints.{found-some, found-none}
+use Rattle.labels.proofs.Labels.{found-some, found-none}
 use Rattle.ways.specs.StepWays.{Steps, answeredBy, shakenBy, handshakes, rightWays, waysHere, chosen, wayStruct}
 use Rattle.ways.specs.declared.step.States.{States}
 use Rattle.ways.specs.declared.step.JointStep.{JointStep}

@@ -6,7 +6,8 @@ use mathlib.Core.Path.{refl}
 use native.Mathlib.Omega.{arith}
 use Rattle.halves.proofs.HalfRuns.{accepted-half}
 use Rattle.dividing.proofs.Pieces.{front-length}
-use Rattle.dividing.proofs.Division.{copied, question-ready, answer-large, answer-short, text-fits, answer-written}
+use Rattle.labels.proofs.Slices.{copied}
+use Rattle.dividing.proofs.Division.{question-ready, answer-large, answer-short, text-fits, answer-written}
 
 slice-aggregate-copy : tie.Need-slice-aggregate-copy
 slice-aggregate-copy c = search needs

@@ -8,7 +8,7 @@ use mathlib.Core.Path.{sym, _∙_}
 use lib.ListN.{length-take}
 use lib.Seq.{length-take-le}
 use Rattle.verdict.specs.Verdicts.{jointVerdict}
-use Rattle.verdict.proofs.Calls.{joint-call, joint-room, joint-held, joint-answer, copied, answer-refused}
+use Rattle.verdict.proofs.Calls.{joint-call, joint-room, joint-held, joint-answer, front-copied, answer-refused}
 
 check-joint-call-requires : tie.Need-check-joint-call-requires
 check-joint-call-requires c κs = search needs
@@ -51,14 +51,14 @@ verdict-on-requires c κs =
     let call = joint-call _ _ _ _ _ _ (sym (c .before .before .before .before .before .before .before .check-joint-call .ensures) ∙ c .before .before .before .before .before .enum-told .given .1) in
     let room = joint-room _ _ _ _ _ (call .0) _ (call .1) in
     let size = c .before .before .copy .kept .1 .0 in
-    (call .0 .tables, ((joint-held _ _ _ _ _ (call .0) _ (call .1) _ (copied _ _ _ _ (room .0) (c .before .before .copy .ensures .1)) (omega (arith, room, size)), omega (arith, room), size), call .0 .legal))
+    (call .0 .tables, ((joint-held _ _ _ _ _ (call .0) _ (call .1) _ (front-copied _ _ _ _ (room .0) (c .before .before .copy .ensures .1)) (omega (arith, room, size)), omega (arith, room), size), call .0 .legal))
 
 returns-2 : tie.Need-returns-2
 returns-2 c =
     let check = sym (c .before .before .before .before .before .before .before .before .check-joint-call .ensures) ∙ c .before .before .before .before .before .before .enum-told .given .1 in
     let call = joint-call _ _ _ _ _ _ check in
     let room = joint-room _ _ _ _ _ (call .0) _ (call .1) in
-    joint-answer _ _ _ _ _ (call .0) _ (call .1) _ (copied _ _ _ _ (room .0) (c .before .before .before .copy .ensures .1)) check _ (c .verdict-on .ensures)
+    joint-answer _ _ _ _ _ (call .0) _ (call .1) _ (front-copied _ _ _ _ (room .0) (c .before .before .before .copy .ensures .1)) check _ (c .verdict-on .ensures)
 
 pub joint-spec : {M : Type 1} → statement M
 joint-spec =
