@@ -6,3 +6,4 @@ pub mod Operators
 pub mod TreeSizes
 pub mod Operands
 pub mod Checking
+pub mod BackDepth

@@ -9,6 +9,7 @@ use lib.Seq.{drop-at}
 use lib.Dec.{eqb}
 use Rattle.labels.proofs.Slices.{rest, rest-of}
 use Rattle.hml.specs.Formula.{Formula, top, bottom, not, and, or, fwd, back, fwdIdle, backIdle, size, nesting}
+use Rattle.hml.specs.Window.{backs}
 use Rattle.hml.specs.Spell.{spell, length-spell, parse-spell}
 use Rattle.formulas.specs.Formulas.{nodeOf, operandsOf}
 use Rattle.formulas.specs.Working.{Tree, measuredAs, measureOf, operandsIn}
@@ -43,68 +44,82 @@ size-some (back a φ) = omega arith
 size-some (fwdIdle φ) = omega arith
 size-some (backIdle φ) = omega arith
 
--- nesting is no deeper than the tree is large
-pub nesting-size : (φ : Formula) → nesting φ ≤ size φ
-unfolding size nesting
-nesting-size top = omega arith
-nesting-size bottom = omega arith
-nesting-size (not φ) = omega (arith, nesting-size φ)
-nesting-size (and φ ψ) = omega (arith, nesting-size φ, nesting-size ψ)
-nesting-size (or φ ψ) = omega (arith, nesting-size φ, nesting-size ψ)
-nesting-size (fwd a φ) = omega (arith, nesting-size φ)
-nesting-size (back a φ) = omega (arith, nesting-size φ)
-nesting-size (fwdIdle φ) = omega (arith, nesting-size φ)
-nesting-size (backIdle φ) = omega (arith, nesting-size φ)
+-- modalities nest no deeper than the tree is large
+pub depths-size : (φ : Formula) → (nesting φ ≤ size φ) × (backs φ ≤ size φ)
+unfolding size nesting backs
+depths-size top = omega arith
+depths-size bottom = omega arith
+depths-size (not φ) = omega (arith, depths-size φ)
+depths-size (and φ ψ) = omega (arith, depths-size φ, depths-size ψ)
+depths-size (or φ ψ) = omega (arith, depths-size φ, depths-size ψ)
+depths-size (fwd a φ) = omega (arith, depths-size φ)
+depths-size (back a φ) = omega (arith, depths-size φ)
+depths-size (fwdIdle φ) = omega (arith, depths-size φ)
+depths-size (backIdle φ) = omega (arith, depths-size φ)
 
-abbrev pub made : ℕ → ℕ → Measure
-made l n = record { len = l; nesting = n }
+abbrev pub made : ℕ → ℕ → ℕ → Measure
+made l n b = record { len = l; nesting = n; backs = b }
 
-pub made-path : {a b c d : ℕ} → a ≡ b → c ≡ d → made a c ≡ made b d
-made-path e f = rw (e, f)
+pub made-path : {l n b l′ n′ b′ : ℕ} → l ≡ l′ → n ≡ n′ → b ≡ b′ → made l n b ≡ made l′ n′ b′
+made-path e f g = rw (e, f, g)
 
-pub measure-spell : (φ : Formula) (rest : List ℕ) → measureOf (spell φ rest) ≡ made (2 * size φ) (nesting φ)
+pub measure-spell : (φ : Formula) (rest : List ℕ) → measureOf (spell φ rest) ≡ made (2 * size φ) (nesting φ) (backs φ)
 unfolding measureOf measuredAs
 measure-spell φ rest = rw (parse-spell φ rest)
 
--- 1 if the first node looks forward
+-- 1 if the first node looks forward; 1 if it looks back
 abbrev pub forward : List ℕ → ℕ
 forward f = cond (eqb (getD f 0 0) 5 || eqb (getD f 0 0) 7) 1 0
+
+abbrev pub backward : List ℕ → ℕ
+backward f = cond (eqb (getD f 0 0) 6 || eqb (getD f 0 0) 8) 1 0
 
 abbrev pub behind : List ℕ → Measure
 behind f = measureOf (drop 2 f)
 
+-- the measure of what is behind the first operand
+abbrev pub further : List ℕ → Measure
+further f = measureOf (drop (behind f .len) (drop 2 f))
+
+-- the measure of a tree over one operand and over two, from the operands' measures
+abbrev pub overOne : List ℕ → Measure → Measure
+overOne f m = made (2 + m .len) (forward f + m .nesting) (backward f + m .backs)
+
+abbrev pub overTwo : Measure → Measure → Measure
+overTwo m w = made (2 + m .len + w .len) (max (m .nesting) (w .nesting)) (max (m .backs) (w .backs))
+
 -- a tree by the number of its operands
 data View (f : List ℕ) : ℕ → Type 0 where
-  none : made 2 0 ≡ measureOf f → View f 0
-  one : Tree (drop 2 f) → made (2 + behind f .len) (forward f + behind f .nesting) ≡ measureOf f → View f 1
+  none : made 2 0 0 ≡ measureOf f → View f 0
+  one : Tree (drop 2 f) → overOne f (behind f) ≡ measureOf f → View f 1
   two : Tree (drop 2 f) → Tree (drop (behind f .len) (drop 2 f))
-      → made (2 + behind f .len + measureOf (drop (behind f .len) (drop 2 f)) .len) (max (behind f .nesting) (measureOf (drop (behind f .len) (drop 2 f)) .nesting)) ≡ measureOf f → View f 2
+      → overTwo (behind f) (further f) ≡ measureOf f → View f 2
 
-view-leaf : (φ : Formula) (rest : List ℕ) → size φ ≡ 1 → nesting φ ≡ 0 → View (spell φ rest) 0
-view-leaf φ rest s n = none (made-path (omega (arith, s)) (sym n) ∙ sym (measure-spell φ rest))
+view-leaf : (φ : Formula) (rest : List ℕ) → size φ ≡ 1 → nesting φ ≡ 0 → backs φ ≡ 0 → View (spell φ rest) 0
+view-leaf φ rest s n b = none (made-path (omega (arith, s)) (sym n) (sym b) ∙ sym (measure-spell φ rest))
 
-view-one : (φ ψ : Formula) (rest : List ℕ) → drop 2 (spell φ rest) ≡ spell ψ rest → size φ ≡ 1 + size ψ → forward (spell φ rest) + nesting ψ ≡ nesting φ → View (spell φ rest) 1
+view-one : (φ ψ : Formula) (rest : List ℕ) → drop 2 (spell φ rest) ≡ spell ψ rest → size φ ≡ 1 + size ψ → forward (spell φ rest) + nesting ψ ≡ nesting φ → backward (spell φ rest) + backs ψ ≡ backs φ → View (spell φ rest) 1
 unfolding Tree
-view-one φ ψ rest d s n = one (ψ, rest, d) (rw (d, measure-spell ψ rest) (made-path (omega (arith, s)) n ∙ sym (measure-spell φ rest)))
+view-one φ ψ rest d s n b = one (ψ, rest, d) (rw (d, measure-spell ψ rest) (made-path (omega (arith, s)) n b ∙ sym (measure-spell φ rest)))
 
-view-two : (φ ψ χ : Formula) (rest : List ℕ) → drop 2 (spell φ rest) ≡ spell ψ (spell χ rest) → size φ ≡ 1 + size ψ + size χ → max (nesting ψ) (nesting χ) ≡ nesting φ → View (spell φ rest) 2
+view-two : (φ ψ χ : Formula) (rest : List ℕ) → drop 2 (spell φ rest) ≡ spell ψ (spell χ rest) → size φ ≡ 1 + size ψ + size χ → max (nesting ψ) (nesting χ) ≡ nesting φ → max (backs ψ) (backs χ) ≡ backs φ → View (spell φ rest) 2
 unfolding Tree
-view-two φ ψ χ rest d s n =
+view-two φ ψ χ rest d s n b =
     two (ψ, spell χ rest, d)
     (rw (d, measure-spell ψ (spell χ rest)) (χ, rest, spell-drop ψ (spell χ rest)))
-    (rw (d, measure-spell ψ (spell χ rest), spell-drop ψ (spell χ rest), measure-spell χ rest) (made-path (omega (arith, s)) n ∙ sym (measure-spell φ rest)))
+    (rw (d, measure-spell ψ (spell χ rest), spell-drop ψ (spell χ rest), measure-spell χ rest) (made-path (omega (arith, s)) n b ∙ sym (measure-spell φ rest)))
 
 view-spell : (φ : Formula) (rest : List ℕ) → View (spell φ rest) (operandsIn (nodeOf (getD (spell φ rest) 0 0) (getD (spell φ rest) 1 0)))
-unfolding spell nodeOf operandsOf size nesting
-view-spell top rest = view-leaf top rest refl refl
-view-spell bottom rest = view-leaf bottom rest refl refl
-view-spell (not φ) rest = view-one (not φ) φ rest refl refl (omega arith)
-view-spell (and φ ψ) rest = view-two (and φ ψ) φ ψ rest refl refl refl
-view-spell (or φ ψ) rest = view-two (or φ ψ) φ ψ rest refl refl refl
-view-spell (fwd a φ) rest = view-one (fwd a φ) φ rest refl refl refl
-view-spell (back a φ) rest = view-one (back a φ) φ rest refl refl (omega arith)
-view-spell (fwdIdle φ) rest = view-one (fwdIdle φ) φ rest refl refl refl
-view-spell (backIdle φ) rest = view-one (backIdle φ) φ rest refl refl (omega arith)
+unfolding spell nodeOf operandsOf size nesting backs
+view-spell top rest = view-leaf top rest refl refl refl
+view-spell bottom rest = view-leaf bottom rest refl refl refl
+view-spell (not φ) rest = view-one (not φ) φ rest refl refl (omega arith) (omega arith)
+view-spell (and φ ψ) rest = view-two (and φ ψ) φ ψ rest refl refl refl refl
+view-spell (or φ ψ) rest = view-two (or φ ψ) φ ψ rest refl refl refl refl
+view-spell (fwd a φ) rest = view-one (fwd a φ) φ rest refl refl refl (omega arith)
+view-spell (back a φ) rest = view-one (back a φ) φ rest refl refl (omega arith) refl
+view-spell (fwdIdle φ) rest = view-one (fwdIdle φ) φ rest refl refl refl (omega arith)
+view-spell (backIdle φ) rest = view-one (backIdle φ) φ rest refl refl (omega arith) refl
 
 -- the number of operands of the first node
 abbrev pub operands : List ℕ → ℕ
@@ -116,14 +131,14 @@ view f (φ, rest, e) = rw e (view-spell φ rest)
 
 module _ (f : List ℕ) (tree : Tree f) where
   -- a tree has room for its bytes
-  pub tree-room : (2 ≤ length f) × (measureOf f .len ≤ length f) × (measureOf f .nesting ≤ measureOf f .len)
+  pub tree-room : (2 ≤ length f) × (measureOf f .len ≤ length f) × (measureOf f .nesting ≤ measureOf f .len) × (measureOf f .backs ≤ measureOf f .len)
   unfolding Tree
-  tree-room = let (φ, rest, e) = tree in rw (e, measure-spell φ rest) (omega (arith, length-spell φ rest, size-some φ, nesting-size φ))
+  tree-room = let (φ, rest, e) = tree in rw (e, measure-spell φ rest) (omega (arith, length-spell φ rest, size-some φ, depths-size φ))
 
-  pub leaf-measure : operands f ≡ 0 → made 2 0 ≡ measureOf f
+  pub leaf-measure : operands f ≡ 0 → made 2 0 0 ≡ measureOf f
   leaf-measure e = go (view f tree) e
     where
-      go : {n : ℕ} → View f n → n ≡ 0 → made 2 0 ≡ measureOf f
+      go : {n : ℕ} → View f n → n ≡ 0 → made 2 0 0 ≡ measureOf f
       go (none m) e = m
       go (one t m) e = absurd (omega (arith, e))
       go (two t u m) e = absurd (omega (arith, e))
@@ -136,10 +151,10 @@ module _ (f : List ℕ) (tree : Tree f) where
       go (one t m) n = t
       go (two t u m) n = t
 
-  pub one-measure : operands f ≡ 1 → made (2 + behind f .len) (forward f + behind f .nesting) ≡ measureOf f
+  pub one-measure : operands f ≡ 1 → overOne f (behind f) ≡ measureOf f
   one-measure e = go (view f tree) e
     where
-      go : {n : ℕ} → View f n → n ≡ 1 → made (2 + behind f .len) (forward f + behind f .nesting) ≡ measureOf f
+      go : {n : ℕ} → View f n → n ≡ 1 → overOne f (behind f) ≡ measureOf f
       go (none m) e = absurd (omega (arith, e))
       go (one t m) e = m
       go (two t u m) e = absurd (omega (arith, e))
@@ -153,11 +168,11 @@ module _ (f : List ℕ) (tree : Tree f) where
         go (one t m) n0 n1 = absurd (n1 refl)
         go (two t u m) n0 n1 = u
 
-    pub two-measure : made (2 + behind f .len + measureOf (drop (behind f .len) (drop 2 f)) .len) (max (behind f .nesting) (measureOf (drop (behind f .len) (drop 2 f)) .nesting)) ≡ measureOf f
+    pub two-measure : overTwo (behind f) (further f) ≡ measureOf f
     two-measure = go (view f tree) n0 n1
       where
         go : {n : ℕ} → View f n → (n ≡ 0 → ⊥) → (n ≡ 1 → ⊥)
-            → made (2 + behind f .len + measureOf (drop (behind f .len) (drop 2 f)) .len) (max (behind f .nesting) (measureOf (drop (behind f .len) (drop 2 f)) .nesting)) ≡ measureOf f
+            → overTwo (behind f) (further f) ≡ measureOf f
         go (none m) n0 n1 = absurd (n0 refl)
         go (one t m) n0 n1 = absurd (n1 refl)
         go (two t u m) n0 n1 = m
@@ -173,15 +188,15 @@ module _ (f : List ℕ) (tree : Tree f) where
   pub body-tree : (operands f ≡ 0 → ⊥) → Tree (body f)
   body-tree n = rw (rest-of 2 f) (first-operand f tree n)
 
-  pub one-made : (m : Measure) (d : ℕ) → m ≡ measureOf (body f) → d ≡ forward f → operands f ≡ 1 → made (2 + m .len) (d + m .nesting) ≡ measureOf f
-  one-made m d e g o = rw (e ∙ ap measureOf (rest-of 2 f), g) (one-measure f tree o)
+  pub one-made : (m : Measure) (d b : ℕ) → m ≡ measureOf (body f) → d ≡ forward f → b ≡ backward f → operands f ≡ 1 → made (2 + m .len) (d + m .nesting) (b + m .backs) ≡ measureOf f
+  one-made m d b e g h o = rw (e ∙ ap measureOf (rest-of 2 f), g, h) (one-measure f tree o)
 
   module _ (m : Measure) (e : m ≡ measureOf (body f)) where
     same-behind : m ≡ behind f
     same-behind = e ∙ ap measureOf (rest-of 2 f)
 
-    pub body-room : (operands f ≡ 0 → ⊥) → (m .len ≤ length (body f)) × (m .nesting ≤ m .len)
-    body-room n = let r = tree-room (body f) (body-tree n) in rw e (r .1, r .2)
+    pub body-room : (operands f ≡ 0 → ⊥) → (m .len ≤ length (body f)) × (m .nesting ≤ m .len) × (m .backs ≤ m .len)
+    body-room n = let r = tree-room (body f) (body-tree n) in rw e (r .1, r .2, r .3)
 
     same-later : later (body f) (m .len) ≡ drop (behind f .len) (drop 2 f)
     same-later = rest-of (m .len) (body f) ∙ ap (drop (m .len)) (rest-of 2 f) ∙ ap (λ (x : Measure). drop (x .len) (drop 2 f)) same-behind
@@ -197,5 +212,5 @@ module _ (f : List ℕ) (tree : Tree f) where
             let z : 2 + m .len + w .len ≡ measureOf f .len = rw (q ∙ ap measureOf same-later, same-behind) (ap (λ (x : Measure). x .len) whole) in
             omega (arith, z, tree-room f tree .1)
 
-        pub two-made : (x : ℕ) → x ≡ max (m .nesting) (w .nesting) → made (2 + m .len + w .len) x ≡ measureOf f
-        two-made x g = rw (g, q ∙ ap measureOf same-later, same-behind) (two-measure f tree n0 n1)
+        pub two-made : (x b : ℕ) → x ≡ max (m .nesting) (w .nesting) → b ≡ max (m .backs) (w .backs) → made (2 + m .len + w .len) x b ≡ measureOf f
+        two-made x b g h = rw (g, h, q ∙ ap measureOf same-later, same-behind) (two-measure f tree n0 n1)

@@ -1,3 +1,4 @@
 pub mod Formulas
+pub mod Backs
 pub mod Sizes
 pub mod Working

@@ -7,6 +7,7 @@ use mathlib.Core.Option.{Option, none, some}
 use lib.ListN.{length, getD}
 use lib.Dec.{leb}
 use Rattle.hml.specs.Formula.{Formula, top, size, nesting}
+use Rattle.hml.specs.Window.{backs}
 use Rattle.hml.specs.Spell.{spell, parse}
 use Rattle.formulas.specs.declared.node.Node.{Node}
 use Rattle.formulas.specs.declared.node.Node.the-variants as node
@@ -24,10 +25,10 @@ treeIn (some t) = t .0
 unfoldable pub treeOf : List ℕ → Formula
 treeOf f = treeIn (parse f)
 
--- the length and the nesting of the first tree
+-- the length of the first tree, and how deep its forward and its back modalities nest
 unfoldable pub measuredAs : Option (Formula × List ℕ) → Measure
-measuredAs none = record { len = 2; nesting = 0 }
-measuredAs (some t) = record { len = 2 * size (t .0); nesting = nesting (t .0) }
+measuredAs none = record { len = 2; nesting = 0; backs = 0 }
+measuredAs (some t) = record { len = 2 * size (t .0); nesting = nesting (t .0); backs = backs (t .0) }
 
 unfoldable pub measureOf : List ℕ → Measure
 measureOf f = measuredAs (parse f)

@@ -1,4 +1,5 @@
 // Formulas as bytes in prefix order: document 01, "Questions and verdicts".
+pub mod backs;
 pub mod check;
 pub mod node;
 pub mod sizes;

@@ -55,3 +55,13 @@ pub fn is_forward(operator: u8) -> bool
     }
     operator == 7
 }
+
+// Operators 6 and 8 look back.
+pub fn is_back(operator: u8) -> bool
+    ensures { λ r. ⌜ r ≡ (eqb operator 6 || eqb operator 8) ⌝ }
+{
+    if operator != 6 {
+        return operator == 8;
+    }
+    true
+}

@@ -1,5 +1,6 @@
-// Trees in prefix order: where one ends, and how deep its forward modalities nest.
+// Trees in prefix order: where one ends, and how deep its forward modalities and its back modalities nest.
 use crate::node::Node;
+use crate::node::is_back;
 use crate::node::is_forward;
 use crate::node::read_node;
 ghost use mathlib.Core.Path.{_≡_};
@@ -35,10 +36,11 @@ pub fn tree_end(f: &[u8]) -> TreeEnd
     TreeEnd::At(at)
 }
 
-// A tree's length in bytes, and how deep its forward modalities nest.
+// A tree's length in bytes, and how deep its forward modalities and its back modalities nest.
 pub struct Measure {
     pub len: usize,
     pub nesting: usize,
+    pub backs: usize,
 }
 
 // The measure of the first tree. The second operand begins where the first one ends.
@@ -48,7 +50,11 @@ pub(crate) fn measured(f: &[u8]) -> Measure
 {
     let operands = operands_of(f);
     if operands == 0 {
-        return Measure { len: 2, nesting: 0 };
+        return Measure {
+            len: 2,
+            nesting: 0,
+            backs: 0,
+        };
     }
     let body = &f[2..];
     let first = measured(body);
@@ -57,12 +63,14 @@ pub(crate) fn measured(f: &[u8]) -> Measure
         return Measure {
             len: 2 + n,
             nesting: depth(f) + first.nesting,
+            backs: back(f) + first.backs,
         };
     }
     let second = measured(&body[n..]);
     Measure {
         len: 2 + n + second.len,
         nesting: larger(first.nesting, second.nesting),
+        backs: larger(first.backs, second.backs),
     }
 }
 
@@ -84,6 +92,18 @@ fn depth(f: &[u8]) -> usize
     ensures small { λ r. ⌜ r ≤ 1 ⌝ }
 {
     if is_forward(f[0]) {
+        return 1;
+    }
+    0
+}
+
+// 1 if the first node looks back, else 0.
+fn back(f: &[u8]) -> usize
+    requires { ⌜ 2 ≤ length (now f) ⌝ }
+    ensures { λ r. ⌜ r ≡ cond (eqb (getD (now (f .entry)) 0 0) 6 || eqb (getD (now (f .entry)) 0 0) 8) 1 0 ⌝ }
+    ensures small { λ r. ⌜ r ≤ 1 ⌝ }
+{
+    if is_back(f[0]) {
         return 1;
     }
     0
