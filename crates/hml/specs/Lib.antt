@@ -21,6 +21,7 @@ pub mod Quotient
 pub mod Theorem
 pub mod Bounds
 pub mod Window
+pub mod Windows
 pub mod Line
 -- a machine beside one that never moves: the verdict on its run is the joint one
 pub mod Alone

@@ -1,3 +1,4 @@
 pub mod Joints
 pub mod JointRuns
+pub mod JointParts
 pub mod Buffers

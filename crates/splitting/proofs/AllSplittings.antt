@@ -9,9 +9,10 @@ use lib.ListN.{length}
 use Rattle.hml.specs.Tests.{tested-ℕ}
 use Rattle.hml.specs.System.{Run, start, _▸_, steps}
 use Rattle.hml.specs.Compose.{paired}
-use Rattle.hml.specs.Real.{JoinOf, run-joined}
+use Rattle.hml.specs.Real.{JoinOf}
 use Rattle.hml.specs.Joining.{join-first, join-steps}
 use Rattle.hml.specs.Split.{splits}
+use Rattle.hml.specs.Windows.{splits-some}
 use Rattle.hml.specs.Labels.{pairs}
 use Rattle.labels.specs.declared.refusal.Check.the-variants.{Sound}
 use Rattle.tables.specs.Tables.{tableOf}
@@ -76,10 +77,8 @@ exactly-one k l r s a b e j =
 
 -- a log has at least one splitting
 pub count-some : (k : ℕ) (l r s : List ℕ) → checkLog k l r s ≡ Sound → 1 ≤ length (splittingsOf k l r s)
-count-some k l r s e =
-    let (x, y, w) = run-joined (pairs k) (tableOf l) (tableOf r) (sound-log k l r s e .run .run) in
-    let (n, h, _) = all-numbered k l r s w in
-    omega (arith, h)
+unfolding splittingsOf
+count-some k l r s e = splits-some (pairs k) tested-ℕ tested-ℕ (tableOf l) (tableOf r) (sound-log k l r s e .run .run)
 
 -- "Run of 0 steps: one splitting."
 pub count-one : (k : ℕ) (l r s : List ℕ) → steps (jointOf s) ≡ 0 → length (splittingsOf k l r s) ≡ 1
