@@ -11,7 +11,7 @@ use std::time::{Duration, Instant};
 use reference::sheet::{sheet, write_sheet};
 
 /// A program that takes longer hangs.
-const PATIENCE: Duration = Duration::from_secs(60);
+const PATIENCE: Duration = Duration::from_secs(30);
 /// The sheets of casebooks with at most so many lines are also found line by line.
 const FEW_LINES: usize = 40;
 

@@ -1,7 +1,7 @@
 //! Sheets of sound casebooks of every kind.
 
 use crate::inputs::{back_along, looping, loops, some_two_way, times, AHEAD, NOT, TRUE};
-use crate::program::Seen;
+use crate::program::{agree, Seen};
 use reference::casebook::Parts;
 use reference::generate::{many_ways_parts, Shape};
 use reference::label::partner;
@@ -204,6 +204,43 @@ fn some_nots(rows: usize, ahead: usize) -> Vec<usize> {
     let most = 62 - ahead;
     let fitting = (0..most).filter(|nots| size(*nots) <= 4096).count();
     (fitting.saturating_sub(3)..most.min(fitting + 3)).collect()
+}
+
+/// A question whose quotient by eight loops has exactly so many nodes: the largest nested forwards that fit, and beside
+/// them what is left.
+fn made_to_measure(size: usize) -> Vec<u8> {
+    let nested = |ahead: usize, nots: usize| (0..ahead).fold(nots + 1, |nodes, _| 9 * nodes + 17);
+    for ahead in [3, 2, 1] {
+        let fits = |nots: &usize| nested(ahead, *nots) + 2 <= size;
+        if let Some(nots) = (0..26).rev().find(fits) {
+            let rest = size - 1 - nested(ahead, nots);
+            let first = times(ahead, AHEAD, &times(nots, NOT, &TRUE));
+            return [vec![3, 0], first, made_to_measure(rest)].concat();
+        }
+    }
+    times(size - 1, NOT, &TRUE)
+}
+
+/// Exactly 4,096 nodes are shown, one more is 17.
+#[test]
+fn quotients_made_to_measure() {
+    let mut seen = Seen::new("quotients of 4,040 to 4,150 nodes");
+    for size in 4040..4150 {
+        let parts = Parts {
+            k: 4,
+            left: loops(&[1, 2]),
+            right: loops(&[1, 2, 3, 4, 5, 6, 7, 8]),
+            run: vec![0, 0, 0, 0, 0],
+            question: made_to_measure(size),
+        };
+        let sheet = agree(&parts.to_bytes());
+        // Two points, two splittings; both handshakes may have made the step.
+        let line = if size <= 4096 { 4 * size } else { 2 };
+        assert_eq!(sheet.len(), 4 * (line + "0 0 T  T\n".len()), "{size}");
+        seen.note(&sheet);
+    }
+    seen.show();
+    assert_eq!(seen.too_large, 4 * 53);
 }
 
 /// Handshakes on one to eight pairs at each step, and what the text says of them.
