@@ -15,12 +15,13 @@ pub const BACK: u8 = 6;
 pub const FORWARD_IDLE: u8 = 7;
 pub const BACK_IDLE: u8 = 8;
 
-/// A node of a formula in prefix order, with the number of nodes of the tree that begins there.
+/// A node of a formula in prefix order.
 #[derive(Clone, Copy, PartialEq, Eq, Debug)]
 pub struct Node {
     pub operator: u8,
     pub label: u8,
-    pub size: u16,
+    /// How far behind this node its second operand begins; 0 if it has none.
+    pub skip: u16,
 }
 
 /// The longest run, and the four steps by which looking ahead may make it longer.
@@ -73,7 +74,9 @@ pub fn holds<M: System>(
     let mut negated = false;
     loop {
         let Node {
-            operator, label, ..
+            operator,
+            label,
+            skip,
         } = formula[at];
         at += 1;
         match operator {
@@ -84,7 +87,7 @@ pub fn holds<M: System>(
                 if holds(system, run, length, formula, at) == (operator == OR) {
                     return (operator == OR) != negated;
                 }
-                at += formula[at].size as usize;
+                at += skip as usize - 1;
             }
             FORWARD => {
                 let from = run.states[length];

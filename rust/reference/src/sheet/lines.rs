@@ -1,7 +1,6 @@
 //! Lines of a quick sheet on their way out: no formatting machinery, no allocation for a line, large blocks.
 
 use std::io::{self, Write};
-use std::ops::Range;
 
 use super::judge::Node;
 use super::QUOTIENT;
@@ -70,6 +69,7 @@ pub struct Lines<'a> {
     block: Vec<u8>,
     filled: usize,
     point: Decimal,
+    number: Decimal,
     verdict: bool,
     end: Vec<u8>,
     end_length: usize,
@@ -82,15 +82,17 @@ impl<'a> Lines<'a> {
             block: vec![0; BLOCK],
             filled: 0,
             point: Decimal::of(0),
+            number: Decimal::of(0),
             verdict: false,
             end: vec![0; LONGEST_END],
             end_length: 0,
         }
     }
 
-    /// The point and the joint verdict of the lines that follow.
+    /// The point and the joint verdict of the lines that follow, which are numbered from 0.
     pub fn set_point(&mut self, point: usize, verdict: bool) {
         self.point = Decimal::of(point);
+        self.number = Decimal::of(0);
         self.verdict = verdict;
     }
 
@@ -123,27 +125,26 @@ impl<'a> Lines<'a> {
         self.end_length = 8;
     }
 
-    /// Writes the lines of these splittings.
-    pub fn write(&mut self, numbers: Range<usize>) -> io::Result<()> {
-        let mut number = Decimal::of(numbers.start);
+    /// Writes the lines of the next so many splittings.
+    pub fn write(&mut self, count: usize) -> io::Result<()> {
         // The point and a blank behind it.
         let point = (self.point.text | (b' ' as u64) << (8 * self.point.length)).to_le_bytes();
-        for _ in numbers {
+        for _ in 0..count {
             if self.filled > BLOCK - LONGEST {
                 self.flush()?;
             }
             let line = &mut self.block[self.filled..self.filled + LONGEST];
             line[..8].copy_from_slice(&point);
             let at = self.point.length + 1;
-            line[at..at + 8].copy_from_slice(&number.text.to_le_bytes());
-            let at = at + number.length;
+            line[at..at + 8].copy_from_slice(&self.number.text.to_le_bytes());
+            let at = at + self.number.length;
             let copied = self.end_length.max(SHORT);
             match copied {
                 SHORT => line[at..at + SHORT].copy_from_slice(&self.end[..SHORT]),
                 _ => line[at..at + copied].copy_from_slice(&self.end[..copied]),
             }
             self.filled += at + self.end_length;
-            number.step();
+            self.number.step();
         }
         Ok(())
     }

@@ -7,7 +7,7 @@ use super::division::{Division, Question};
 use super::judge::{holds, Trail};
 use super::lines::Lines;
 use crate::casebook;
-use crate::run::{read_run_and_ways, JointRun};
+use crate::run::{read_run_and_ways, JointRun, JointStep, Way};
 use crate::splitting::{counts_from, half_labels};
 use crate::table::read_table;
 use crate::verdict::Both;
@@ -41,7 +41,7 @@ impl Case {
         let right = read_table(&bytes[right], book.k)?;
         let (run, ways) = read_run_and_ways(&bytes[run], &left, &right)?;
         let counts = counts_from(&ways)?;
-        let labels = |(step, ways): (&crate::run::JointStep, &Vec<_>)| {
+        let labels = |(step, ways): (&JointStep, &Vec<Way>)| {
             let each = ways.iter().map(|way| half_labels(step.label, *way));
             each.collect()
         };
@@ -65,7 +65,7 @@ impl Case {
             let verdict = holds(&self.machines, &mut joint, point, question, 0);
             lines.set_point(point, verdict);
             let alike = self.counts[point];
-            for first in (0..self.counts[0]).step_by(alike) {
+            for _ in 0..self.counts[0] / alike {
                 match division.quotient(&mut halves.right, point) {
                     None => lines.set_refused(),
                     Some(quotient) => {
@@ -74,7 +74,7 @@ impl Case {
                         lines.set_quotient(quotient, verdict);
                     }
                 }
-                lines.write(first..first + alike)?;
+                lines.write(alike)?;
                 halves.step(&self.ways[..point]);
             }
         }

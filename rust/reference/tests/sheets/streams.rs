@@ -8,7 +8,7 @@ use std::thread;
 use std::time::Duration;
 
 use crate::inputs::{back_along, looping, TRUE};
-use crate::program::{finish, lend, path, plain, printed, root, same, start, wait};
+use crate::program::{finish, lend, path, plain, root, same, start, wait};
 use reference::generate::{many_ways_parts, Shape};
 use reference::random::Random;
 
@@ -160,7 +160,8 @@ fn failing_output() {
     }
 }
 
-/// No input at all, and arguments that mean nothing: the sheet of the empty casebook, and case A's.
+/// No input at all, and arguments that mean nothing: the sheet of the empty casebook, and case A's; nothing on standard
+/// error.
 #[test]
 fn no_input_and_needless_arguments() {
     let mut command = Command::new(path());
@@ -170,5 +171,6 @@ fn no_input_and_needless_arguments() {
     let file = File::open(root().join("cases/a.casebook")).unwrap();
     let mut command = Command::new(path());
     let output = command.args(["-", "17"]).stdin(file).output().unwrap();
-    assert_eq!(output.stdout, printed(&case_a()));
+    assert_eq!(output.stdout, plain(&case_a()));
+    assert!(output.status.success() && output.stderr.is_empty());
 }
