@@ -274,12 +274,16 @@ impl<'a> Division<'a> {
 /// What a back modality becomes, over the quotient by the known half without its last step; nothing where it is false.
 fn shown_back(node: Node, run: &Trail<u8>, length: usize) -> Option<(u8, u8)> {
     let last = *run.labels[..length].last()?;
-    match (node.operator, partner(last)) {
-        // The known half idled: the other half did it, or idled as well.
-        (operator, _) if last == IDLE => Some((operator, node.label)),
-        // The known half took that step alone.
-        (BACK, _) if last == node.label => Some((BACK_IDLE, 0)),
-        (BACK, Some(answer)) if node.label == SILENT => Some((BACK, answer)),
-        _ => None,
+    if last == IDLE {
+        // The other half took that step, or idled as well.
+        return Some((node.operator, node.label));
     }
+    if node.operator == BACK_IDLE {
+        return None;
+    }
+    if last == node.label {
+        return Some((BACK_IDLE, 0));
+    }
+    let answer = partner(last).filter(|_| node.label == SILENT);
+    answer.map(|answer| (BACK, answer))
 }

@@ -27,6 +27,8 @@ struct Case {
     run: JointRun,
     /// The labels of the left and the right half in each way of each step.
     ways: Vec<Vec<[u8; 2]>>,
+    /// The steps with more than one way.
+    several: Vec<usize>,
     /// How many splittings there are from each step on, and behind the last step one.
     counts: Vec<usize>,
     question: Question,
@@ -45,7 +47,9 @@ impl Case {
             let each = ways.iter().map(|way| half_labels(step.label, *way));
             each.collect()
         };
+        let several = (0..ways.len()).filter(|step| ways[*step].len() > 1);
         Ok(Case {
+            several: several.collect(),
             ways: run.steps.iter().zip(&ways).map(labels).collect(),
             machines: Both { left, right },
             run,
@@ -65,6 +69,7 @@ impl Case {
             let verdict = holds(&self.machines, &mut joint, point, question, 0);
             lines.set_point(point, verdict);
             let alike = self.counts[point];
+            let before = self.several.partition_point(|step| *step < point);
             for _ in 0..self.counts[0] / alike {
                 match division.quotient(&mut halves.right, point) {
                     None => lines.set_refused(),
@@ -75,7 +80,7 @@ impl Case {
                     }
                 }
                 lines.write(alike)?;
-                halves.step(&self.ways[..point]);
+                halves.step(&self.ways, &self.several[..before]);
             }
         }
         lines.flush()
@@ -115,9 +120,9 @@ impl Halves {
         halves
     }
 
-    /// Goes on to the next splitting of the first steps, and from the last one to the first.
-    fn step(&mut self, ways: &[Vec<[u8; 2]>]) {
-        for at in (0..ways.len()).rev() {
+    /// Goes on to the next splitting, and from the last one to the first; the ways are chosen at these steps.
+    fn step(&mut self, ways: &[Vec<[u8; 2]>], several: &[usize]) {
+        for at in several.iter().rev().copied() {
             self.chosen[at] += 1;
             if self.chosen[at] < ways[at].len() {
                 self.set(at, ways[at][self.chosen[at]]);
