@@ -111,16 +111,8 @@ impl<'a> Lines<'a> {
 
     /// The same where the quotient is refused.
     pub fn set_refused(&mut self) {
-        let end = [
-            b' ',
-            letter(self.verdict),
-            b' ',
-            b'1',
-            b'7',
-            b' ',
-            b'-',
-            b'\n',
-        ];
+        let mut end = *b" F 17 -\n";
+        end[1] = letter(self.verdict);
         self.end[..8].copy_from_slice(&end);
         self.end_length = 8;
     }
