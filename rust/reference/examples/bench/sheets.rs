@@ -49,7 +49,11 @@ pub fn run(words: &[String]) {
     let ratios: Vec<f64> = six.iter().map(|load| programs.bench(load)).collect();
     if !ratios.is_empty() {
         let mean = ratios.iter().map(|ratio| ratio.ln()).sum::<f64>() / ratios.len() as f64;
-        println!("{:>34.2}  geometric mean of these", mean.exp());
+        println!(
+            "{:>34.2}  geometric mean of these {}",
+            mean.exp(),
+            ratios.len()
+        );
     }
     if let Some(load) = small {
         programs.bench(&load);
@@ -210,10 +214,14 @@ fn short_logs() -> Vec<Load> {
     let fifteen = [true; 15];
     let more = [true, false, false].repeat(15);
     vec![
-        by_ones("15 two-way steps, 1 back", &fifteen, backs(1)),
-        by_ones("15 two-way steps, 3 backs", &fifteen, backs(3)),
-        by_ones("15 two-way steps, 12 times 3 backs", &fifteen, wide(12)),
-        by_ones("15 of 45 steps two-way, 12 times 3 backs", &more, wide(12)),
+        by_ones("1. 15 two-way steps, 1 back", &fifteen, backs(1)),
+        by_ones("1. 15 two-way steps, 3 backs", &fifteen, backs(3)),
+        by_ones("1. 15 two-way steps, 12 times 3 backs", &fifteen, wide(12)),
+        by_ones(
+            "1. 15 of 45 steps two-way, 12 times 3 backs",
+            &more,
+            wide(12),
+        ),
     ]
 }
 
@@ -221,12 +229,12 @@ fn short_logs() -> Vec<Load> {
 fn long_logs() -> Vec<Load> {
     vec![
         by_ones(
-            "200 steps, the first 15 two-way, 3 backs",
+            "2. 200 steps, the first 15 two-way, 3 backs",
             &front(15),
             backs(3),
         ),
         by_ones(
-            "200 steps, 15 two-way evenly spread, 3 backs",
+            "2. 200 steps, 15 two-way evenly spread, 3 backs",
             &spread(15),
             backs(3),
         ),
@@ -269,8 +277,8 @@ fn paired_log(what: &'static str, steps: u8, ahead: [u8; 4], rest: &[u8]) -> Loa
 
 /// 3: four nested forwards on machines of 512 rows with handshakes.
 fn dense_tables() -> Vec<Load> {
-    let over_false = "512 rows, forward by 0, 0, 1, 1 over false";
-    let over_backs = "512 rows, forward by 1, 0, 1, 2 over back by 2, 1, 0";
+    let over_false = "3. 512 rows, forward by 0, 0, 1, 1 over false";
+    let over_backs = "3. 512 rows, forward by 1, 0, 1, 2 over back by 2, 1, 0";
     let backs = [6, 2, 6, 1, 6, 0, 0, 0];
     vec![
         paired_log(over_false, 6, [0, 0, 1, 1], &FALSE),
@@ -307,9 +315,9 @@ fn large_quotients() -> Vec<Load> {
     let exactly = [&[3, 0][..], &ahead, &[4, 0], &two_ahead, &nots].concat();
     let backs = [&[3, 0][..], &times(2, BACK, &TRUE), &ahead].concat();
     vec![
-        eight_loops("3,734 nodes on each line", [8, 28], ahead),
-        eight_loops("4,096 nodes on each line", [7, 50], exactly),
-        eight_loops("3,734 nodes and 2 backs on each line", [9, 12], backs),
+        eight_loops("4. 3,734 nodes on each line", [8, 28], ahead),
+        eight_loops("4. 4,096 nodes on each line", [7, 50], exactly),
+        eight_loops("4. 3,734 nodes and 2 backs on each line", [9, 12], backs),
     ]
 }
 
@@ -319,8 +327,8 @@ fn too_large() -> Vec<Load> {
     let after = times(4, AHEAD, &times(20, NOT, &TRUE));
     let backs = [&[3, 0][..], &times(3, BACK, &TRUE), &after].concat();
     vec![
-        eight_loops("17 on each line, 15 two-way steps", [15, 0], ahead),
-        eight_loops("17 on each line, 3 backs beside", [13, 20], backs),
+        eight_loops("5. 17 on each line, 15 two-way steps", [15, 0], ahead),
+        eight_loops("5. 17 on each line, 3 backs beside", [13, 20], backs),
     ]
 }
 
@@ -329,16 +337,16 @@ fn deep_backs() -> Vec<Load> {
     let ask = times(60, BACK, &times(3, NOT, &TRUE));
     vec![
         by_ones(
-            "60 backs, 200 steps, the first 13 two-way",
+            "6. 60 backs, 200 steps, the first 13 two-way",
             &front(13),
             ask.clone(),
         ),
         by_ones(
-            "60 backs, 200 steps, 14 two-way evenly spread",
+            "6. 60 backs, 200 steps, 14 two-way evenly spread",
             &spread(14),
             ask.clone(),
         ),
-        by_ones("60 backs, 200 steps, the last 15 two-way", &end(15), ask),
+        by_ones("6. 60 backs, 200 steps, the last 15 two-way", &end(15), ask),
     ]
 }
 
