@@ -12,4 +12,6 @@ prove:
 
 bench:
 	rt staticlib engine
+	rt check sheet
+	cd rust && CARGO_TARGET_DIR=../target/rust cargo build --release --offline -p reference --example plain_sheet
 	cd rust && CARGO_TARGET_DIR=../target/rust cargo run --release --offline -p reference --example bench

@@ -103,6 +103,11 @@ pub fn write(parts: &Parts, room: usize) -> Result<Vec<u8>, Refusal> {
 }
 
 impl Parts {
+    /// The number of the log's steps, as far as its bytes go.
+    pub fn steps(&self) -> usize {
+        self.run.len().saturating_sub(2) / 3
+    }
+
     /// The five records of these parts one after the other, unjudged.
     pub fn to_bytes(&self) -> Vec<u8> {
         let bodies = [

@@ -1,11 +1,12 @@
 //! Sound casebooks of all sizes, made at random from a seed.
 
 use crate::casebook::Parts;
+use crate::fitted::along_joint;
 use crate::formula::{Formula, MOST_NESTING, QUESTION_NODES};
 use crate::half::{HalfRun, HalfStep};
 use crate::label::{highest, partner, IDLE, MOST_PAIRS, SILENT};
 use crate::random::Random;
-use crate::run::{JointRun, JointStep, MOST_STEPS};
+use crate::run::{ways, JointRun, JointStep, MOST_STEPS};
 use crate::table::{Row, Table, MOST_ROWS, MOST_STATES};
 
 /// How large a casebook is to be.
@@ -124,6 +125,75 @@ pub fn walk(random: &mut Random, left: &Table, right: &Table, steps: usize) -> J
         run.steps.push(*random.pick(steps));
     }
     run
+}
+
+/// Two machines and a log of this shape whose splittings are at most so many: a walk that prefers steps with several
+/// ways while there is room for them. A joint idle has one way, so there is always a step.
+pub fn many_ways(random: &mut Random, shape: Shape, most: usize) -> (Table, Table, JointRun) {
+    let left = looping(random, shape, shape.left_states);
+    let right = looping(random, shape, shape.right_states);
+    let mut run = JointRun {
+        left: random.byte(0, left.states - 1),
+        right: random.byte(0, right.states - 1),
+        steps: Vec::new(),
+    };
+    let mut splittings = 1;
+    for _ in 0..shape.steps {
+        let (p, q) = run.last();
+        let open = open_steps(&left, &right, p, q).concat();
+        let mut best = (IDLE, 1, open[open.len() - 1]);
+        for _ in 0..random.from_to(1, 4) {
+            let step = *random.pick(&open);
+            let count = ways(&left, &right, p, q, step).len();
+            if count * splittings <= most && (count > best.1 || best.0 == IDLE) {
+                best = (step.label, count, step);
+            }
+        }
+        splittings *= best.1;
+        run.steps.push(best.2);
+    }
+    (left, right, run)
+}
+
+/// A random table to which loops are added where a state has room for them.
+fn looping(random: &mut Random, shape: Shape, states: u8) -> Table {
+    let mut rows = random_table(random, shape, states).rows;
+    for state in 0..states {
+        for _ in 0..random.from_to(0, 3) {
+            let label = random.byte(0, highest(shape.k));
+            let row = Row {
+                from: state,
+                label,
+                to: state,
+            };
+            let same = rows.iter().filter(|row| row.from == state).count();
+            if same < MOST_ROWS && !rows.contains(&row) {
+                rows.push(row);
+            }
+        }
+    }
+    rows.sort();
+    Table::new(states, rows)
+}
+
+/// The parts of a casebook whose log has at most so many splittings, with a question that looks along the log from one
+/// of its points, now and then with one that has nothing to do with it.
+pub fn many_ways_parts(random: &mut Random, shape: Shape, most: usize) -> Parts {
+    let (left, right, run) = many_ways(random, shape, most);
+    let question = if random.once_in(6) {
+        random_formula(random, shape.k, shape.nodes, MOST_NESTING)
+    } else {
+        let point = random.from_to(0, shape.steps);
+        let mut along = along_joint(shape.k, &left, &right, &run, point);
+        along.formula(random, shape.nodes, MOST_NESTING)
+    };
+    Parts {
+        k: shape.k,
+        left: left.to_bytes(),
+        right: right.to_bytes(),
+        run: run.to_bytes(),
+        question: question.to_bytes(),
+    }
 }
 
 /// The real steps from (p, q), kind by kind: left alone, right alone, handshakes, joint idle.

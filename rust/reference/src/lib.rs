@@ -10,6 +10,7 @@ pub mod label;
 pub mod quotient;
 pub mod random;
 pub mod run;
+pub mod sheet;
 pub mod splitting;
 pub mod table;
 pub mod verdict;

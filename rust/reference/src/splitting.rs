@@ -82,7 +82,7 @@ pub(crate) fn numbered(
 
 /// How many splittings there are from each step on, and behind the last step one; 13 if over the limit. Every step has
 /// a way, so no count is above that of the whole log.
-fn counts_from(ways: &[Vec<Way>]) -> Result<Vec<usize>, Refusal> {
+pub(crate) fn counts_from(ways: &[Vec<Way>]) -> Result<Vec<usize>, Refusal> {
     let mut counts = vec![1; ways.len() + 1];
     for at in (0..ways.len()).rev() {
         counts[at] = ways[at].len() * counts[at + 1];
@@ -131,7 +131,7 @@ fn halves_by(run: &JointRun, chosen: &[Way]) -> [HalfRun; 2] {
 }
 
 /// The labels of the left and the right half of a step of this label that came about in this way.
-fn half_labels(label: u8, way: Way) -> [u8; 2] {
+pub(crate) fn half_labels(label: u8, way: Way) -> [u8; 2] {
     match way {
         Way::LeftAlone => [label, IDLE],
         Way::RightAlone => [IDLE, label],

@@ -56,7 +56,7 @@ pub(crate) fn half_holds(table: &Table, half: &HalfRun, formula: &Formula, point
 }
 
 /// One machine, or two side by side, as a verdict sees them: which steps of a label leave a state.
-trait System {
+pub(crate) trait System {
     /// A state, or a pair of states.
     type State: Copy;
 

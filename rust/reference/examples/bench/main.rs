@@ -5,6 +5,7 @@
 
 mod inputs;
 mod quotients;
+mod sheets;
 mod splittings;
 mod timing;
 mod verdicts;
@@ -26,6 +27,9 @@ fn main() {
     let words: Vec<String> = env::args().skip(1).collect();
     // The reference reads, judges and drops trees by recursion, and formulas may be 4,096 nodes deep.
     let thread = thread::Builder::new().stack_size(256 << 20);
-    let run = move || timing::run(all_groups(), &words);
+    let run = move || {
+        timing::run(all_groups(), &words);
+        sheets::run(&words);
+    };
     thread.spawn(run).unwrap().join().unwrap();
 }

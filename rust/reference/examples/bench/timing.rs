@@ -116,7 +116,7 @@ fn median(mut samples: Vec<f64>) -> f64 {
 }
 
 /// Seconds in a unit that suits them.
-fn shown(seconds: f64) -> String {
+pub fn shown(seconds: f64) -> String {
     match seconds {
         s if s < 1e-6 => format!("{:.0} ns", s * 1e9),
         s if s < 1e-3 => format!("{:.2} us", s * 1e6),

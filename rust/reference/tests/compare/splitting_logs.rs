@@ -1,7 +1,7 @@
 //! Logs with many splittings, and with as many as are wanted.
 
 use crate::splitting_both::Log;
-use reference::generate::{open_steps, random_table, Shape};
+use reference::generate::{self, Shape};
 use reference::label::{partner, IDLE, SILENT};
 use reference::random::Random;
 use reference::run::{read_run, ways, JointRun, JointStep, Way, MOST_STEPS};
@@ -17,53 +17,10 @@ pub fn log_of(k: u8, left: &Table, right: &Table, run: &JointRun) -> Log {
     }
 }
 
-/// A log of this shape whose splittings are at most so many: a walk that prefers steps with several ways while there is
-/// room for them. A joint idle has one way, so there is always a step.
+/// A log of this shape whose splittings are at most so many.
 pub fn many_ways(random: &mut Random, shape: Shape, most: usize) -> Log {
-    let left = looping(random, shape, shape.left_states);
-    let right = looping(random, shape, shape.right_states);
-    let mut run = JointRun {
-        left: random.byte(0, left.states - 1),
-        right: random.byte(0, right.states - 1),
-        steps: Vec::new(),
-    };
-    let mut splittings = 1;
-    for _ in 0..shape.steps {
-        let (p, q) = run.last();
-        let open = open_steps(&left, &right, p, q).concat();
-        let mut best = (IDLE, 1, open[open.len() - 1]);
-        for _ in 0..random.from_to(1, 4) {
-            let step = *random.pick(&open);
-            let count = ways(&left, &right, p, q, step).len();
-            if count * splittings <= most && (count > best.1 || best.0 == IDLE) {
-                best = (step.label, count, step);
-            }
-        }
-        splittings *= best.1;
-        run.steps.push(best.2);
-    }
+    let (left, right, run) = generate::many_ways(random, shape, most);
     log_of(shape.k, &left, &right, &run)
-}
-
-/// A random table to which loops are added where a state has room for them.
-fn looping(random: &mut Random, shape: Shape, states: u8) -> Table {
-    let mut rows = random_table(random, shape, states).rows;
-    for state in 0..states {
-        for _ in 0..random.from_to(0, 3) {
-            let label = random.byte(0, 2 * shape.k);
-            let row = Row {
-                from: state,
-                label,
-                to: state,
-            };
-            let same = rows.iter().filter(|row| row.from == state).count();
-            if same < MOST_ROWS && !rows.contains(&row) {
-                rows.push(row);
-            }
-        }
-    }
-    rows.sort();
-    Table::new(states, rows)
 }
 
 /// The halves of a splitting of a sound log by random ways, however many splittings there are.
