@@ -4,6 +4,7 @@ use crate::log::show_asked;
 use crate::log::show_log_count;
 use crate::log::show_log_halves;
 use crate::show::first;
+use crate::show::output;
 use crate::show::same;
 use crate::show::show;
 use crate::show::show_end;
@@ -63,7 +64,7 @@ fn show_written(bytes: &[u8], parts: Parts) {
     let right = parts.right.body(bytes);
     let run = parts.run.body(bytes);
     let question = parts.question.body(bytes);
-    let mut out = [0u8; 4096];
+    let mut out = output();
     match write(parts.pairs, left, right, run, question, &mut out) {
         Writing::Written(n) => {
             show_number(n);

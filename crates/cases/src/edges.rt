@@ -6,6 +6,7 @@ use crate::log::show_office;
 use crate::log::show_quotient;
 use crate::show::checksum;
 use crate::show::first;
+use crate::show::output;
 use crate::show::show;
 use crate::show::show_end;
 use crate::show::show_number;
@@ -45,35 +46,39 @@ const IDLES: [u8; 33] =
 
 // Prints the sizes of the two large quotients, for outputs of several lengths.
 pub(crate) fn show_sizes() {
-    let mut ample = [9u8; 8192];
-    let mut kept = [9u8; 8192];
-    let mut enough = [9u8; 7468];
-    let mut short = [9u8; 7467];
-    let mut none = [9u8; 0];
     let given = NOT_NOT;
     let refused = NOT_NOT_NOT;
-    show(b"three nested forward by 0 over not not true: ");
-    show_size(&given, &mut ample);
-    show(b"the same, 7468 bytes lent: ");
-    show_size(&given, &mut enough);
-    show(b"the same, 7467 bytes lent: ");
-    show_size(&given, &mut short);
-    show(b"the same, by number: ");
-    show_size_by_number(&given);
-    show(b"the same, line office: ");
-    show_office_at(&given);
-    show(b"three nested forward by 0 over not not not true: ");
-    show_size(&refused, &mut kept);
-    show(b"the same, nothing lent: ");
-    show_size(&refused, &mut none);
-    show(b"the same, by number: ");
-    show_size_by_number(&refused);
-    show(b"the same, line office: ");
-    show_office_at(&refused);
+    show_size(
+        b"three nested forward by 0 over not not true: ",
+        &given,
+        8192,
+    );
+    show_size(b"the same, 7468 bytes lent: ", &given, 7468);
+    show_size(b"the same, 7467 bytes lent: ", &given, 7467);
+    show_size_by_number(b"the same, by number: ", &given);
+    show_office_at(b"the same, line office: ", &given);
+    show_size(
+        b"three nested forward by 0 over not not not true: ",
+        &refused,
+        8192,
+    );
+    show_size(b"the same, nothing lent: ", &refused, 0);
+    show_size_by_number(b"the same, by number: ", &refused);
+    show_office_at(b"the same, line office: ", &refused);
 }
 
-// Prints how many nodes a quotient by the eight loops' run of no steps has, and a checksum of the output afterwards.
-fn show_size(question: &[u8], out: &mut [u8]) {
+// Prints the size of a quotient where so many bytes are lent, all 9.
+fn show_size(name: &[u8], question: &[u8], room: usize) {
+    let mut out = output();
+    if 8192 < room {
+        return;
+    }
+    show(name);
+    show_size_in(question, &mut out[..room]);
+}
+
+// Prints how many nodes a quotient by the eight loops' run of no steps has, and a checksum of the lent bytes afterwards.
+fn show_size_in(question: &[u8], out: &mut [u8]) {
     let left = STILL;
     let right = EIGHT_LOOPS;
     let start = [0u8; 1];
@@ -95,11 +100,12 @@ fn show_size(question: &[u8], out: &mut [u8]) {
 }
 
 // The same by the number of the log's one splitting.
-fn show_size_by_number(question: &[u8]) {
+fn show_size_by_number(name: &[u8], question: &[u8]) {
+    show(name);
     let left = STILL;
     let right = EIGHT_LOOPS;
     let start = [0u8; 2];
-    let mut out = [0u8; 8192];
+    let mut out = output();
     let found = by_number(
         4,
         &left,
@@ -116,7 +122,8 @@ fn show_size_by_number(question: &[u8]) {
 }
 
 // The line office's two verdicts on the same.
-fn show_office_at(question: &[u8]) {
+fn show_office_at(name: &[u8], question: &[u8]) {
+    show(name);
     let left = STILL;
     let right = EIGHT_LOOPS;
     let start = [0u8; 1];
@@ -137,43 +144,68 @@ fn show_nodes(quotient: Quotient) {
 
 // Prints how many splittings a run has of 0, 15 and 16 two-way steps, and what is had of them by number and by halves.
 pub(crate) fn show_counts() {
+    show_two_way_count(b"run of 0 steps, splittings: ", 0);
+    show_two_way_halves(b"run of 0 steps, splitting 0: ", 0, 0);
+    show_two_way_count(b"15 two-way steps, splittings: ", 15);
+    show_two_way_halves(b"15 two-way steps, splitting 32767: ", 15, 32767);
+    show_two_way_count(b"16 two-way steps, splittings: ", 16);
+    show_two_way_halves(b"16 two-way steps, splitting 0: ", 16, 0);
+    show_joined_halves(b"16 two-way steps, joined from halves: ");
+    show_back_by_halves(b"16 two-way steps, back by 1 over true, by halves: ");
+}
+
+// Prints how many splittings a run of so many two-way steps has.
+fn show_two_way_count(name: &[u8], steps: u8) {
     let table = LOOP;
     let run = TWO_WAY;
-    let left_half = MOVES;
-    let right_half = IDLES;
-    show(b"run of 0 steps, splittings: ");
-    show_count(count(1, &table, &table, first(&run, 2)));
-    show(b"\nrun of 0 steps, splitting 0: ");
-    show_halves(1, &table, &table, first(&run, 2), 0);
-    show(b"\n15 two-way steps, splittings: ");
-    show_count(count(1, &table, &table, first(&run, 47)));
-    show(b"\n15 two-way steps, splitting 32767: ");
-    show_halves(1, &table, &table, first(&run, 47), 32767);
-    show(b"\n16 two-way steps, splittings: ");
-    show_count(count(1, &table, &table, &run));
-    show(b"\n16 two-way steps, splitting 0: ");
-    show_halves(1, &table, &table, &run, 0);
-    show(b"\n16 two-way steps, joined from halves: ");
-    show_joined(1, &table, &table, &left_half, &right_half);
-    show(b"\n16 two-way steps, back by 1 over true, by halves: ");
-    show_back_by_halves(&table, &left_half, &right_half);
+    show(name);
+    show_count(count(1, &table, &table, first(&run, length_of(steps))));
     show_end();
 }
 
-// Prints the quotient of back by 1 over true by the right one of two halves of 16 steps.
-fn show_back_by_halves<'a>(table: &'a [u8], left_half: &'a [u8], right_half: &'a [u8]) {
+// Prints the halves of a splitting of such a run.
+fn show_two_way_halves(name: &[u8], steps: u8, number: usize) {
+    let table = LOOP;
+    let run = TWO_WAY;
+    show(name);
+    show_halves(1, &table, &table, first(&run, length_of(steps)), number);
+    show_end();
+}
+
+// The length of a joint run in bytes.
+fn length_of(steps: u8) -> usize {
+    2 + 3 * steps as usize
+}
+
+// Prints what 16 loops of the left and 16 idles of the right are joined to.
+fn show_joined_halves(name: &[u8]) {
+    let table = LOOP;
+    let left_half = MOVES;
+    let right_half = IDLES;
+    show(name);
+    show_joined(1, &table, &table, &left_half, &right_half);
+    show_end();
+}
+
+// Prints the quotient of back by 1 over true by the right one of these halves.
+fn show_back_by_halves(name: &[u8]) {
+    let table = LOOP;
+    let left_half = MOVES;
+    let right_half = IDLES;
     let question = [6u8, 1, 0, 0];
     let mut out = [0u8; 128];
+    show(name);
     let found = by_half(
         1,
-        table,
-        table,
-        left_half,
-        right_half,
+        &table,
+        &table,
+        &left_half,
+        &right_half,
         &question,
         Side::Right,
         16,
         &mut out,
     );
     show_quotient(found, &out);
+    show_end();
 }

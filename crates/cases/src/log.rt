@@ -1,5 +1,7 @@
 // One case: the question of a casebook, put to the calls for a point, a splitting of its log and a known side.
 use crate::show::first;
+use crate::show::half_output;
+use crate::show::output;
 use crate::show::show;
 use crate::show::show_bytes;
 use crate::show::show_end;
@@ -71,8 +73,8 @@ pub(crate) fn show_log_halves(bytes: &[u8], number: usize) {
 
 // Prints both halves of a splitting of a log, and what they are joined to.
 pub(crate) fn show_halves(k: u8, left: &[u8], right: &[u8], run: &[u8], number: usize) {
-    let mut left_out = [0u8; 401];
-    let mut right_out = [0u8; 401];
+    let mut left_out = half_output();
+    let mut right_out = half_output();
     match split(k, left, right, run, number, &mut left_out, &mut right_out) {
         Splitting::Halves(n) => {
             show(b"left half ");
@@ -88,7 +90,7 @@ pub(crate) fn show_halves(k: u8, left: &[u8], right: &[u8], run: &[u8], number: 
 
 // Prints the joint run that two halves are joined to.
 pub(crate) fn show_joined(k: u8, left: &[u8], right: &[u8], left_half: &[u8], right_half: &[u8]) {
-    let mut out = [0u8; 602];
+    let mut out = output();
     match join(k, left, right, left_half, right_half, &mut out) {
         Joining::Joined(n) => show_bytes(first(&out, n)),
         Joining::Refused(refusal) => show_refused(refusal),
@@ -106,8 +108,8 @@ pub(crate) fn show_asked(bytes: &[u8], asked: Asked) {
 
 // Finds the halves of the splitting that is asked for, and goes on with them.
 fn show_split(bytes: &[u8], parts: Parts, asked: Asked) {
-    let mut left_out = [0u8; 401];
-    let mut right_out = [0u8; 401];
+    let mut left_out = half_output();
+    let mut right_out = half_output();
     let left = parts.left.body(bytes);
     let right = parts.right.body(bytes);
     let run = parts.run.body(bytes);
@@ -172,7 +174,7 @@ fn show_by_half<'a>(
     let k = parts.pairs;
     let point = asked.point;
     let side = asked.side;
-    let mut out = [0u8; 8192];
+    let mut out = output();
     let found = by_half(
         k,
         left,
@@ -203,7 +205,7 @@ pub(crate) fn show_by_number<'a>(
     asked: Asked,
 ) {
     let side = asked.side;
-    let mut out = [0u8; 8192];
+    let mut out = output();
     let found = by_number(
         k,
         left,

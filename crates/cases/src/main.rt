@@ -16,4 +16,5 @@ fn main() {
     refusals::show_of_casebooks();
     refusals::show_of_tables();
     refusals::show_of_calls();
+    refusals::show_of_halves();
 }

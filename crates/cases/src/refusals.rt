@@ -22,6 +22,13 @@ use splitting::count::count;
 use verdict::half::half;
 use verdict::joint::joint;
 
+// Case A's tables and joint run.
+const LEFT: [u8; 7] = [2, 0, 1, 1, 0, 3, 1];
+
+const RIGHT: [u8; 7] = [2, 0, 2, 1, 0, 4, 1];
+
+const RUN: [u8; 5] = [0, 0, 0, 1, 1];
+
 // Prints what reading answers.
 fn show_reading(name: &[u8], bytes: &[u8]) {
     show(name);
@@ -67,28 +74,49 @@ pub(crate) fn show_of_casebooks() {
     show_reading(b"case A and a byte more: ", &longer);
 }
 
-// Calls on case A's machines that refuse: the numbers 10, 12 and 14 to 16, and 18.
+// Calls on case A's machines: 10, 12 and 14.
 pub(crate) fn show_of_calls() {
-    let bytes = CASE_A;
-    let s = &bytes[..];
-    let left = &s[9..16];
-    let right = &s[20..27];
-    let run = &s[31..36];
-    let question = &s[40..44];
     let nested = [5u8, 0, 5, 0, 5, 0, 5, 0, 5, 0, 0, 0];
-    show(b"five nested forward by 0: ");
-    show_verdict(joint(2, left, right, run, &nested, 0));
-    show(b"\njoint verdict at point 2 of a run of 1 step: ");
-    show_verdict(joint(2, left, right, run, question, 2));
-    show(b"\nsplitting 2 of 2: ");
-    show_halves(2, left, right, run, 2);
-    show(b"\nquotient by splitting 2 of 2: ");
+    let back = [6u8, 0, 0, 0];
+    show_judged(b"five nested forward by 0: ", &nested, 0);
+    show_judged(b"joint verdict at point 2 of a run of 1 step: ", &back, 2);
+    show_no_splitting(b"splitting 2 of 2: ");
+    show_no_quotient(b"quotient by splitting 2 of 2: ");
+}
+
+// Prints the joint verdict on a question.
+fn show_judged(name: &[u8], question: &[u8], point: usize) {
+    let left = LEFT;
+    let right = RIGHT;
+    let run = RUN;
+    show(name);
+    show_verdict(joint(2, &left, &right, &run, question, point));
+    show_end();
+}
+
+// Prints what the call for splitting 2 answers.
+fn show_no_splitting(name: &[u8]) {
+    let left = LEFT;
+    let right = RIGHT;
+    let run = RUN;
+    show(name);
+    show_halves(2, &left, &right, &run, 2);
+    show_end();
+}
+
+// Prints what the call for the quotient by splitting 2 answers.
+fn show_no_quotient(name: &[u8]) {
+    let left = LEFT;
+    let right = RIGHT;
+    let run = RUN;
+    let back = [6u8, 0, 0, 0];
+    show(name);
     show_by_number(
         2,
-        left,
-        right,
-        run,
-        question,
+        &left,
+        &right,
+        &run,
+        &back,
         Asked {
             point: 1,
             number: 2,
@@ -96,35 +124,70 @@ pub(crate) fn show_of_calls() {
         },
     );
     show_end();
-    show_of_halves(left, right, question);
 }
 
-// Calls that are given halves.
-fn show_of_halves(left: &[u8], right: &[u8], question: &[u8]) {
+// Calls that are given halves: 12, 15, 16 and 18.
+pub(crate) fn show_of_halves() {
     let moved = [0u8, 1, 1];
     let answered = [0u8, 2, 1];
     let other = [0u8, 4, 1];
-    let mut four = [0u8; 4];
-    let mut five = [0u8; 5];
-    show(b"cut of the half 000201 at point 2, bytes: ");
-    show_number(cut(&moved, &answered, Side::Right, 2).len());
-    show(b"\nleft half 000201, which the left table has not: ");
-    show_verdict(half(2, left, &answered, question, 1));
-    show(b"\nhalves 000101 and 000401, joined: ");
-    show_join(left, right, &moved, &other, &mut five);
-    show(b"\nhalves 000101 and 000201, joined, 4 bytes lent: ");
-    show_join(left, right, &moved, &answered, &mut four);
-    show(b"\nhalves 000101 and 000201, joined, 5 bytes lent: ");
-    show_join(left, right, &moved, &answered, &mut five);
+    let mut four = [9u8; 4];
+    let mut five = [9u8; 5];
+    show_cut(
+        b"cut of the half 000201 at point 2, bytes: ",
+        &moved,
+        &answered,
+    );
+    show_half(
+        b"left half 000201, which the left table has not: ",
+        &answered,
+    );
+    show_join(
+        b"halves 000101 and 000401, joined: ",
+        &moved,
+        &other,
+        &mut five,
+    );
+    show_join(
+        b"halves 000101 and 000201, joined, 4 bytes lent: ",
+        &moved,
+        &answered,
+        &mut four,
+    );
+    show_join(
+        b"halves 000101 and 000201, joined, 5 bytes lent: ",
+        &moved,
+        &answered,
+        &mut five,
+    );
+}
+
+// Prints the length of the right half's cut at point 2.
+fn show_cut<'a>(name: &[u8], left_half: &'a [u8], right_half: &'a [u8]) {
+    show(name);
+    show_number(cut(left_half, right_half, Side::Right, 2).len());
+    show_end();
+}
+
+// Prints the verdict of back by 0 over true on a half of the left.
+fn show_half(name: &[u8], left_half: &[u8]) {
+    let left = LEFT;
+    let back = [6u8, 0, 0, 0];
+    show(name);
+    show_verdict(half(2, &left, left_half, &back, 1));
     show_end();
 }
 
 // Prints the joint run that two halves are joined to in a lent output, or the number of a refusal.
-fn show_join(left: &[u8], right: &[u8], left_half: &[u8], right_half: &[u8], out: &mut [u8]) {
-    match join(2, left, right, left_half, right_half, out) {
+fn show_join(name: &[u8], left_half: &[u8], right_half: &[u8], out: &mut [u8]) {
+    let left = LEFT;
+    let right = RIGHT;
+    show(name);
+    match join(2, &left, &right, left_half, right_half, out) {
         Joining::Joined(n) => show_bytes(first(out, n)),
         Joining::Refused(refusal) => show_refused(refusal),
     }
+    show_end();
 }
 
 // 7: one state with rows of labels 0 to 8 to itself.

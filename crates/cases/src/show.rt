@@ -2,7 +2,23 @@
 use labels::refusal::Refusal;
 use libc::STDOUT_FILENO;
 use verdict::answer::Verdict;
+ghost use mathlib.Core.Path.{_≡_};
 ghost use Prim.Native.Nat.{_<_};
+ghost use lib.ListN.{length};
+
+// 8,192 bytes to lend, two for each of a quotient's 4,096 nodes, all 9. The promise is what a loan of them needs.
+pub(crate) fn output() -> [u8; 8192]
+    ensures { λ r. ⌜ 8192 ≡ length r ⌝ }
+{
+    [9; 8192]
+}
+
+// 401 bytes to lend, for a half of 200 steps.
+pub(crate) fn half_output() -> [u8; 401]
+    ensures { λ r. ⌜ 401 ≡ length r ⌝ }
+{
+    [9; 401]
+}
 
 // Prints words as they are.
 pub(crate) fn show(words: &[u8]) {
