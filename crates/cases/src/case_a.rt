@@ -1,8 +1,8 @@
 // Case A, whole, and the questions of document 01 on its machines; then those on machines of one state each.
-use crate::log::Asked;
-use crate::log::show_asked;
-use crate::log::show_log_count;
-use crate::log::show_log_halves;
+use crate::answers::Asked;
+use crate::answers::show_asked;
+use crate::inputs::CASE_A;
+use crate::inputs::LOOPS;
 use crate::show::first;
 use crate::show::output;
 use crate::show::same;
@@ -10,6 +10,8 @@ use crate::show::show;
 use crate::show::show_end;
 use crate::show::show_number;
 use crate::show::show_refused;
+use crate::splittings::show_log_count;
+use crate::splittings::show_log_halves;
 use casebook::read::Parts;
 use casebook::read::Reading;
 use casebook::read::read;
@@ -17,15 +19,6 @@ use casebook::record::Record;
 use casebook::write::Writing;
 use casebook::write::write;
 use halves::side::Side;
-
-// 0300 0100 02, 0900 0200 02 000101 000301, 0900 0300 02 000201 000401, 0700 0400 0000 000101, 0600 0500 06000000.
-pub(crate) const CASE_A: [u8; 44] =
-    *b"\x03\0\x01\0\x02\x09\0\x02\0\x02\0\x01\x01\0\x03\x01\x09\0\x03\0\x02\0\x02\x01\0\x04\x01\x07\0\x04\0\0\0\0\x01\x01\x06\0\x05\0\x06\0\0\0";
-
-// One state each, k 1, both with the single row 000100, one step 01 00 00, question back by 1 over true:
-// 0300 0100 01, 0600 0200 01 000100, 0600 0300 01 000100, 0700 0400 0000 010000, 0600 0500 06010000.
-const LOOPS: [u8; 38] =
-    *b"\x03\0\x01\0\x01\x06\0\x02\0\x01\0\x01\0\x06\0\x03\0\x01\0\x01\0\x07\0\x04\0\0\0\x01\0\0\x06\0\x05\0\x06\x01\0\0";
 
 // Prints where the parts of case A lie, and what they are written back to.
 pub(crate) fn show_records() {
@@ -92,7 +85,6 @@ pub(crate) fn show_splittings() {
 
 // Prints the answers to the questions of document 01, by either half.
 pub(crate) fn show_questions() {
-    let loops = LOOPS;
     show_on_a(b"back by 0 over true", 6, 0, 0, 0);
     show_on_a(b"back by 0 over true", 6, 0, 0, 1);
     show_on_a(b"back by 0 over true", 6, 0, 1, 0);
@@ -102,8 +94,8 @@ pub(crate) fn show_questions() {
     show_on_a(b"forward by 0 over true", 5, 0, 0, 0);
     show_on_a(b"forward by 2 over true", 5, 2, 0, 0);
     show_unnamed();
-    show_sides(b"one state each, back by 1 over true", &loops, 1, 0);
-    show_sides(b"one state each, back by 1 over true", &loops, 1, 1);
+    show_on_loops(0);
+    show_on_loops(1);
 }
 
 // Prints the answers to a question of two nodes on case A's machines: an operator and its label over true.
@@ -112,6 +104,12 @@ fn show_on_a(name: &[u8], operator: u8, label: u8, point: usize, number: usize) 
     bytes[40] = operator;
     bytes[41] = label;
     show_sides(name, &bytes, point, number);
+}
+
+// Prints the answers of a splitting on machines of one state each.
+fn show_on_loops(number: usize) {
+    let bytes = LOOPS;
+    show_sides(b"one state each, back by 1 over true", &bytes, 1, number);
 }
 
 // Prints the answers of case A where no side is named.

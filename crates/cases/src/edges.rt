@@ -1,9 +1,14 @@
 // The cases at the edges: quotients just below and above 4,096 nodes, splittings just below and above 65,535.
-use crate::log::show_count;
-use crate::log::show_halves;
-use crate::log::show_joined;
-use crate::log::show_office;
-use crate::log::show_quotient;
+use crate::answers::show_office;
+use crate::answers::show_quotient;
+use crate::inputs::EIGHT_LOOPS;
+use crate::inputs::NO_ROWS;
+use crate::inputs::ONE_LOOP;
+use crate::inputs::OVER_THREE_NOTS;
+use crate::inputs::OVER_TWO_NOTS;
+use crate::inputs::SIXTEEN_IDLES;
+use crate::inputs::SIXTEEN_MOVES;
+use crate::inputs::TWO_WAY_RUN;
 use crate::show::checksum;
 use crate::show::first;
 use crate::show::output;
@@ -11,6 +16,9 @@ use crate::show::show;
 use crate::show::show_end;
 use crate::show::show_number;
 use crate::show::show_refused;
+use crate::splittings::show_count;
+use crate::splittings::show_halves;
+use crate::splittings::show_joined;
 use dividing::divide::Quotient;
 use halves::side::Side;
 use quotient::half::by_half;
@@ -18,36 +26,10 @@ use quotient::line::line_office;
 use quotient::number::by_number;
 use splitting::count::count;
 
-// One state and no rows.
-pub(crate) const STILL: [u8; 1] = [1];
-
-// One state with rows of labels 1 to 8 to itself.
-const EIGHT_LOOPS: [u8; 25] =
-    *b"\x01\0\x01\0\0\x02\0\0\x03\0\0\x04\0\0\x05\0\0\x06\0\0\x07\0\0\x08\0";
-
-// Three nested forward by 0 over not not true, and over not not not true.
-const NOT_NOT: [u8; 12] = [5, 0, 5, 0, 5, 0, 2, 0, 2, 0, 0, 0];
-
-const NOT_NOT_NOT: [u8; 14] = [5, 0, 5, 0, 5, 0, 2, 0, 2, 0, 2, 0, 0, 0];
-
-// One state with the single row 000100.
-const LOOP: [u8; 4] = [1, 0, 1, 0];
-
-// 16 steps 01 00 00 from states 0 and 0: each is a loop of the left or of the right.
-const TWO_WAY: [u8; 50] =
-    *b"\0\0\x01\0\0\x01\0\0\x01\0\0\x01\0\0\x01\0\0\x01\0\0\x01\0\0\x01\0\0\x01\0\0\x01\0\0\x01\0\0\x01\0\0\x01\0\0\x01\0\0\x01\0\0\x01\0\0";
-
-// 16 loops, and 16 idles, of one machine.
-const MOVES: [u8; 33] =
-    *b"\0\x01\0\x01\0\x01\0\x01\0\x01\0\x01\0\x01\0\x01\0\x01\0\x01\0\x01\0\x01\0\x01\0\x01\0\x01\0\x01\0";
-
-const IDLES: [u8; 33] =
-    *b"\0\xff\0\xff\0\xff\0\xff\0\xff\0\xff\0\xff\0\xff\0\xff\0\xff\0\xff\0\xff\0\xff\0\xff\0\xff\0\xff\0";
-
 // Prints the sizes of the two large quotients, for outputs of several lengths.
 pub(crate) fn show_sizes() {
-    let given = NOT_NOT;
-    let refused = NOT_NOT_NOT;
+    let given = OVER_TWO_NOTS;
+    let refused = OVER_THREE_NOTS;
     show_size(
         b"three nested forward by 0 over not not true: ",
         &given,
@@ -79,7 +61,7 @@ fn show_size(name: &[u8], question: &[u8], room: usize) {
 
 // Prints how many nodes a quotient by the eight loops' run of no steps has, and a checksum of the lent bytes afterwards.
 fn show_size_in(question: &[u8], out: &mut [u8]) {
-    let left = STILL;
+    let left = NO_ROWS;
     let right = EIGHT_LOOPS;
     let start = [0u8; 1];
     let found = by_half(
@@ -102,7 +84,7 @@ fn show_size_in(question: &[u8], out: &mut [u8]) {
 // The same by the number of the log's one splitting.
 fn show_size_by_number(name: &[u8], question: &[u8]) {
     show(name);
-    let left = STILL;
+    let left = NO_ROWS;
     let right = EIGHT_LOOPS;
     let start = [0u8; 2];
     let mut out = output();
@@ -124,7 +106,7 @@ fn show_size_by_number(name: &[u8], question: &[u8]) {
 // The line office's two verdicts on the same.
 fn show_office_at(name: &[u8], question: &[u8]) {
     show(name);
-    let left = STILL;
+    let left = NO_ROWS;
     let right = EIGHT_LOOPS;
     let start = [0u8; 1];
     show_office(line_office(4, &left, &right, &start, &start, question, Side::Right, 0));
@@ -156,8 +138,8 @@ pub(crate) fn show_counts() {
 
 // Prints how many splittings a run of so many two-way steps has.
 fn show_two_way_count(name: &[u8], steps: u8) {
-    let table = LOOP;
-    let run = TWO_WAY;
+    let table = ONE_LOOP;
+    let run = TWO_WAY_RUN;
     show(name);
     show_count(count(1, &table, &table, first(&run, length_of(steps))));
     show_end();
@@ -165,8 +147,8 @@ fn show_two_way_count(name: &[u8], steps: u8) {
 
 // Prints the halves of a splitting of such a run.
 fn show_two_way_halves(name: &[u8], steps: u8, number: usize) {
-    let table = LOOP;
-    let run = TWO_WAY;
+    let table = ONE_LOOP;
+    let run = TWO_WAY_RUN;
     show(name);
     show_halves(1, &table, &table, first(&run, length_of(steps)), number);
     show_end();
@@ -179,9 +161,9 @@ fn length_of(steps: u8) -> usize {
 
 // Prints what 16 loops of the left and 16 idles of the right are joined to.
 fn show_joined_halves(name: &[u8]) {
-    let table = LOOP;
-    let left_half = MOVES;
-    let right_half = IDLES;
+    let table = ONE_LOOP;
+    let left_half = SIXTEEN_MOVES;
+    let right_half = SIXTEEN_IDLES;
     show(name);
     show_joined(1, &table, &table, &left_half, &right_half);
     show_end();
@@ -189,9 +171,9 @@ fn show_joined_halves(name: &[u8]) {
 
 // Prints the quotient of back by 1 over true by the right one of these halves.
 fn show_back_by_halves(name: &[u8]) {
-    let table = LOOP;
-    let left_half = MOVES;
-    let right_half = IDLES;
+    let table = ONE_LOOP;
+    let left_half = SIXTEEN_MOVES;
+    let right_half = SIXTEEN_IDLES;
     let question = [6u8, 1, 0, 0];
     let mut out = [0u8; 128];
     show(name);

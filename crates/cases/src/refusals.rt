@@ -1,10 +1,12 @@
 // A small input for each number of "Who can cause a refusal" that the edges do not give (those are 13 and 17).
-use crate::case_a::CASE_A;
-use crate::edges::STILL;
-use crate::log::Asked;
-use crate::log::show_by_number;
-use crate::log::show_count;
-use crate::log::show_halves;
+use crate::answers::Asked;
+use crate::answers::show_by_number;
+use crate::inputs::CASE_A;
+use crate::inputs::LEFT_A;
+use crate::inputs::NINE_LOOPS;
+use crate::inputs::NO_ROWS;
+use crate::inputs::RIGHT_A;
+use crate::inputs::RUN_A;
 use crate::show::first;
 use crate::show::show;
 use crate::show::show_bytes;
@@ -12,6 +14,8 @@ use crate::show::show_end;
 use crate::show::show_number;
 use crate::show::show_refused;
 use crate::show::show_verdict;
+use crate::splittings::show_count;
+use crate::splittings::show_halves;
 use casebook::read::Reading;
 use casebook::read::read;
 use halves::side::Side;
@@ -21,13 +25,6 @@ use joining::join::join;
 use splitting::count::count;
 use verdict::half::half;
 use verdict::joint::joint;
-
-// Case A's tables and joint run.
-const LEFT: [u8; 7] = [2, 0, 1, 1, 0, 3, 1];
-
-const RIGHT: [u8; 7] = [2, 0, 2, 1, 0, 4, 1];
-
-const RUN: [u8; 5] = [0, 0, 0, 1, 1];
 
 // Prints what reading answers.
 fn show_reading(name: &[u8], bytes: &[u8]) {
@@ -80,37 +77,28 @@ pub(crate) fn show_of_calls() {
     let back = [6u8, 0, 0, 0];
     show_judged(b"five nested forward by 0: ", &nested, 0);
     show_judged(b"joint verdict at point 2 of a run of 1 step: ", &back, 2);
-    show_no_splitting(b"splitting 2 of 2: ");
-    show_no_quotient(b"quotient by splitting 2 of 2: ");
+    show_beyond_count();
 }
 
 // Prints the joint verdict on a question.
 fn show_judged(name: &[u8], question: &[u8], point: usize) {
-    let left = LEFT;
-    let right = RIGHT;
-    let run = RUN;
+    let left = LEFT_A;
+    let right = RIGHT_A;
+    let run = RUN_A;
     show(name);
     show_verdict(joint(2, &left, &right, &run, question, point));
     show_end();
 }
 
-// Prints what the call for splitting 2 answers.
-fn show_no_splitting(name: &[u8]) {
-    let left = LEFT;
-    let right = RIGHT;
-    let run = RUN;
-    show(name);
-    show_halves(2, &left, &right, &run, 2);
-    show_end();
-}
-
-// Prints what the call for the quotient by splitting 2 answers.
-fn show_no_quotient(name: &[u8]) {
-    let left = LEFT;
-    let right = RIGHT;
-    let run = RUN;
+// Prints what the calls for splitting 2 answer, where there are two.
+fn show_beyond_count() {
+    let left = LEFT_A;
+    let right = RIGHT_A;
+    let run = RUN_A;
     let back = [6u8, 0, 0, 0];
-    show(name);
+    show(b"splitting 2 of 2: ");
+    show_halves(2, &left, &right, &run, 2);
+    show(b"\nquotient by splitting 2 of 2: ");
     show_by_number(
         2,
         &left,
@@ -171,7 +159,7 @@ fn show_cut<'a>(name: &[u8], left_half: &'a [u8], right_half: &'a [u8]) {
 
 // Prints the verdict of back by 0 over true on a half of the left.
 fn show_half(name: &[u8], left_half: &[u8]) {
-    let left = LEFT;
+    let left = LEFT_A;
     let back = [6u8, 0, 0, 0];
     show(name);
     show_verdict(half(2, &left, left_half, &back, 1));
@@ -180,8 +168,8 @@ fn show_half(name: &[u8], left_half: &[u8]) {
 
 // Prints the joint run that two halves are joined to in a lent output, or the number of a refusal.
 fn show_join(name: &[u8], left_half: &[u8], right_half: &[u8], out: &mut [u8]) {
-    let left = LEFT;
-    let right = RIGHT;
+    let left = LEFT_A;
+    let right = RIGHT_A;
     show(name);
     match join(2, &left, &right, left_half, right_half, out) {
         Joining::Joined(n) => show_bytes(first(out, n)),
@@ -192,8 +180,8 @@ fn show_join(name: &[u8], left_half: &[u8], right_half: &[u8], out: &mut [u8]) {
 
 // 7: one state with rows of labels 0 to 8 to itself.
 pub(crate) fn show_of_tables() {
-    let nine = *b"\x01\0\0\0\0\x01\0\0\x02\0\0\x03\0\0\x04\0\0\x05\0\0\x06\0\0\x07\0\0\x08\0";
-    let still = STILL;
+    let nine = NINE_LOOPS;
+    let still = NO_ROWS;
     let start = [0u8; 2];
     show(b"nine rows from one state: ");
     show_count(count(4, &nine, &still, &start));
