@@ -1,0 +1,77 @@
+// The splittings of a log: how many there are, the halves of each, and what halves are joined to.
+use crate::show::first;
+use crate::show::half_output;
+use crate::show::output;
+use crate::show::show;
+use crate::show::show_bytes;
+use crate::show::show_number;
+use crate::show::show_refused;
+use casebook::read::Reading;
+use casebook::read::read;
+use joining::join::Joining;
+use joining::join::join;
+use splitting::count::Counted;
+use splitting::count::count;
+use splitting::split::Splitting;
+use splitting::split::split;
+
+// Prints a count's answer.
+pub(crate) fn show_count(counted: Counted) {
+    match counted {
+        Counted::Splittings(n) => show_number(n),
+        Counted::Refused(refusal) => show_refused(refusal),
+    }
+}
+
+// Prints how many splittings the log of a casebook has.
+pub(crate) fn show_log_count(bytes: &[u8]) {
+    match read(bytes) {
+        Reading::Casebook(parts) => show_count(count(
+            parts.pairs,
+            parts.left.body(bytes),
+            parts.right.body(bytes),
+            parts.run.body(bytes),
+        )),
+        Reading::Refused(refusal) => show_refused(refusal),
+    }
+}
+
+// Prints both halves of a splitting of the log of a casebook.
+pub(crate) fn show_log_halves(bytes: &[u8], number: usize) {
+    match read(bytes) {
+        Reading::Casebook(parts) => show_halves(
+            parts.pairs,
+            parts.left.body(bytes),
+            parts.right.body(bytes),
+            parts.run.body(bytes),
+            number,
+        ),
+        Reading::Refused(refusal) => show_refused(refusal),
+    }
+}
+
+// Prints both halves of a splitting of a log, and what they are joined to.
+pub(crate) fn show_halves(k: u8, left: &[u8], right: &[u8], run: &[u8], number: usize) {
+    let mut left_out = half_output();
+    let mut right_out = half_output();
+    match split(k, left, right, run, number, &mut left_out, &mut right_out) {
+        Splitting::Halves(n) => {
+            show(b"left half ");
+            show_bytes(first(&left_out, n));
+            show(b", right half ");
+            show_bytes(first(&right_out, n));
+            show(b", joined ");
+            show_joined(k, left, right, first(&left_out, n), first(&right_out, n));
+        }
+        Splitting::Refused(refusal) => show_refused(refusal),
+    }
+}
+
+// Prints the joint run that two halves are joined to.
+pub(crate) fn show_joined(k: u8, left: &[u8], right: &[u8], left_half: &[u8], right_half: &[u8]) {
+    let mut out = output();
+    match join(k, left, right, left_half, right_half, &mut out) {
+        Joining::Joined(n) => show_bytes(first(&out, n)),
+        Joining::Refused(refusal) => show_refused(refusal),
+    }
+}
