@@ -1,8 +1,15 @@
+# make sheet   proves and builds the sheet program and prints the sheet of cases/a.casebook, or of another: make sheet CASEBOOK=path
 # make test    everything: proofs, must-fail edits and programs from nothing, then all other tests
 # make prove   the quick form: proves what has changed since the last time
 # make bench   times the engine beside the plain implementation of rust/reference and prints the ratios
 
-.PHONY: test prove bench
+.PHONY: sheet test prove bench
+
+CASEBOOK ?= cases/a.casebook
+
+sheet:
+	@rt check sheet >&2
+	@target/bin/sheet < $(CASEBOOK)
 
 test:
 	@tools/test

@@ -1,0 +1,15 @@
+pub mod DigitLaws
+pub mod Puts
+pub mod LineLaws
+pub mod Filling
+pub mod SheetLines
+pub mod PointLaws
+pub mod EndingLaws
+pub mod WriteLine
+pub mod WindowLines
+pub mod PointLines
+pub mod FillLaws
+pub mod PartsLines
+pub mod SheetBlocks
+pub mod Published
+pub mod Standing

@@ -1,0 +1,116 @@
+-- Bytes written over those of a list from a place on.
+use Prim.Native.Nat.{ℕ, zero, suc, _+_, _-_, _*_, _/_, _%_, _≤_, _<_}
+use mathlib.Core.Path.{_≡_, refl, sym, _∙_, ap}
+use mathlib.Core.List.{List, [], _∷_, _++_}
+use native.Mathlib.Omega.{arith}
+use lib.ListN.{length, getD, set, take, drop, length-drop, length-set}
+use lib.Seq.{sets, length-sets, take-set-le, length-take-le, take-nil, drop-nil, getD-take, getD-drop, take-suc, take-length}
+use Rattle.sheet_lines.specs.Digits.{decimal, hexDigit, hexadecimal}
+use Rattle.sheet_lines.specs.Working.{putAt}
+use Rattle.sheet_lines.proofs.DigitLaws.{decimal-small, decimal-more, length-hexadecimal, hexadecimal-behind}
+
+-- the list keeps its length
+pub length-put : (xs : List ℕ) (at : ℕ) (b : List ℕ) → length (putAt xs at b) ≡ length xs
+unfolding putAt
+length-put xs at b = length-sets xs at b
+
+-- one byte
+pub put-one : (xs : List ℕ) (at a : ℕ) → set xs at a ≡ putAt xs at (a ∷ [])
+unfolding putAt
+put-one xs at a = refl
+
+-- two bytes
+pub put-two : (xs : List ℕ) (at a b : ℕ) → set (set xs at a) (at + 1) b ≡ putAt xs at (a ∷ b ∷ [])
+unfolding putAt
+put-two xs at a b = let z : at + 1 ≡ suc at = omega arith in rw z
+
+-- three bytes
+pub put-three : (xs : List ℕ) (at a b c : ℕ) → set (set (set xs at a) (at + 1) b) (at + 2) c ≡ putAt xs at (a ∷ b ∷ c ∷ [])
+unfolding putAt
+put-three xs at a b c = let z : at + 1 ≡ suc at = omega arith in let w : at + 2 ≡ suc (suc at) = omega arith in rw (z, w)
+
+-- bytes behind bytes
+pub put-behind : (xs : List ℕ) (at : ℕ) (b d : List ℕ) → putAt (putAt xs at b) (at + length b) d ≡ putAt xs at (b ++ d)
+unfolding putAt
+put-behind xs at [] d = let z : at + 0 ≡ at = omega arith in ap (λ n. sets xs n d) z
+put-behind xs at (a ∷ b) d =
+    let z : at + suc (length b) ≡ suc at + length b = omega arith in
+    ap (λ n. sets (sets (set xs at a) (suc at) b) n d) z ∙ put-behind (set xs at a) (suc at) b d
+
+-- what stands in front keeps its value
+pub put-front : (xs : List ℕ) (at n : ℕ) (b : List ℕ) → n ≤ at → take n (putAt xs at b) ≡ take n xs
+unfolding putAt
+put-front xs at n [] h = refl
+put-front xs at n (a ∷ b) h = put-front (set xs at a) (suc at) n b (omega arith) ∙ take-set-le n xs at a h
+
+-- a part in front keeps its value
+pub put-part : (xs : List ℕ) (at from n : ℕ) (b : List ℕ) → from + n ≤ at → take n (drop from (putAt xs at b)) ≡ take n (drop from xs)
+put-part xs at from n b h = part-front (putAt xs at b) from n ∙ ap (drop from) (put-front xs at (from + n) b h) ∙ sym (part-front xs from n)
+  where
+    part-front : (l : List ℕ) (f m : ℕ) → take m (drop f l) ≡ drop f (take (f + m) l)
+    part-front l zero m = let z : zero + m ≡ m = omega arith in ap (λ x. take x l) (sym z)
+    part-front [] (suc f) m = rw (take-nil, take-nil)
+    part-front (x ∷ l) (suc f) m = let z : suc f + m ≡ suc (f + m) = omega arith in rw z (part-front l f m)
+
+-- a decimal number, of one digit or of more
+pub small-put : (xs : List ℕ) (at n : ℕ) → n < 10 → set xs at (48 + n % 10) ≡ putAt xs at (decimal n)
+small-put xs at n h = let z : n % 10 ≡ n = omega arith in rw (decimal-small n h, z) (put-one xs at (48 + n))
+
+pub more-put : (xs ys : List ℕ) (at last n : ℕ) → 10 ≤ n → last ≡ at + length (decimal (n / 10)) → ys ≡ putAt xs at (decimal (n / 10)) → set ys last (48 + n % 10) ≡ putAt xs at (decimal n)
+more-put xs ys at last n h e f = rw (decimal-more n h, e, f) (put-one _ _ _ ∙ put-behind xs at (decimal (n / 10)) ((48 + n % 10) ∷ []))
+
+-- bytes copied one after the other
+pub copied-none : (xs : List ℕ) (at from : ℕ) → xs ≡ putAt xs at (take 0 (drop from xs))
+unfolding putAt
+copied-none xs at from = refl
+
+pub copied-more : (xs ys : List ℕ) (at from i : ℕ) → from + i < at → at + i < length xs → ys ≡ putAt xs at (take i (drop from xs)) → set ys (at + i) (getD ys (from + i) 0) ≡ putAt xs at (take (i + 1) (drop from xs))
+copied-more xs ys at from i h l e =
+    let b = take i (drop from xs) in
+    let n : length b ≡ i = length-take-le i (drop from xs) (omega (arith, length-drop from xs)) in
+    let v : getD ys (from + i) 0 ≡ getD (drop from xs) i 0 = ap (λ (z : List ℕ). getD z (from + i) 0) e ∙ kept b ∙ sym (getD-drop from xs i 0) in
+    let z : i + 1 ≡ suc i = omega arith in
+    let w : take (i + 1) (drop from xs) ≡ b ++ getD (drop from xs) i 0 ∷ [] = ap (λ m. take m (drop from xs)) z ∙ take-suc (drop from xs) i 0 (omega (arith, length-drop from xs)) in
+    rw (w, v) (ap (λ o. set o (at + i) (getD (drop from xs) i 0)) e ∙ ap (λ m. set (putAt xs at b) (at + m) (getD (drop from xs) i 0)) (sym n) ∙ put-one (putAt xs at b) (at + length b) (getD (drop from xs) i 0) ∙ put-behind xs at b (getD (drop from xs) i 0 ∷ []))
+  where
+    kept : (b : List ℕ) → getD (putAt xs at b) (from + i) 0 ≡ getD xs (from + i) 0
+    kept b = sym (getD-take (suc (from + i)) (putAt xs at b) (from + i) 0 (omega arith)) ∙ ap (λ (z : List ℕ). getD z (from + i) 0) (put-front xs at (suc (from + i)) b (omega (arith, h))) ∙ getD-take (suc (from + i)) xs (from + i) 0 (omega arith)
+
+pub copied-all : (xs ys : List ℕ) (at from i n : ℕ) → i ≡ n → ys ≡ putAt xs at (take i (drop from xs)) → ys ≡ putAt xs at (take n (drop from xs))
+copied-all xs ys at from i n z e = e ∙ ap (λ m. putAt xs at (take m (drop from xs))) z
+
+-- bytes in hexadecimal one after the other
+pub hex-none : (xs bytes : List ℕ) (at : ℕ) → xs ≡ putAt xs at (hexadecimal (take 0 bytes))
+unfolding putAt hexadecimal
+hex-none xs bytes at = refl
+
+pub hex-more : (xs ys bytes : List ℕ) (at i a b : ℕ) → i < length bytes → a ≡ hexDigit (getD bytes i 0 / 16) → b ≡ hexDigit (getD bytes i 0 % 16) → ys ≡ putAt xs at (hexadecimal (take i bytes))
+    → set (set ys (at + 2 * i) a) (at + 2 * i + 1) b ≡ putAt xs at (hexadecimal (take (i + 1) bytes))
+unfolding hexadecimal
+hex-more xs ys bytes at i a b h p q e =
+    let d = hexadecimal (take i bytes) in
+    let n : 2 * i ≡ length d = omega (arith, length-hexadecimal (take i bytes), length-take-le i bytes (omega arith)) in
+    let z : i + 1 ≡ suc i = omega arith in
+    let w : hexadecimal (take (i + 1) bytes) ≡ d ++ a ∷ b ∷ [] = ap (λ m. hexadecimal (take m bytes)) z ∙ ap hexadecimal (take-suc bytes i 0 h) ∙ hexadecimal-behind (take i bytes) (getD bytes i 0 ∷ []) ∙ rw (p, q) in
+    rw w (ap (λ o. set (set o (at + 2 * i) a) (at + 2 * i + 1) b) e ∙ ap (λ m. set (set (putAt xs at d) (at + m) a) (at + m + 1) b) n ∙ put-two (putAt xs at d) (at + length d) a b ∙ put-behind xs at d (a ∷ b ∷ []))
+
+pub hex-all : (xs ys bytes : List ℕ) (at i : ℕ) → i ≡ length bytes → ys ≡ putAt xs at (hexadecimal (take i bytes)) → ys ≡ putAt xs at (hexadecimal bytes)
+hex-all xs ys bytes at i z e = e ∙ ap (λ m. putAt xs at (hexadecimal (take m bytes))) z ∙ ap (λ b. putAt xs at (hexadecimal b)) (take-length bytes)
+
+-- bytes behind bytes, in an output that was written to
+module _ (xs ys : List ℕ) (at n : ℕ) (b : List ℕ) (p : n ≡ at + length b) (e : ys ≡ putAt xs at b) where
+  pub behind-piece : (zs d : List ℕ) → zs ≡ putAt ys n d → zs ≡ putAt xs at (b ++ d)
+  behind-piece zs d f = f ∙ ap (λ o. putAt o n d) e ∙ ap (λ m. putAt (putAt xs at b) m d) p ∙ put-behind xs at b d
+
+  pub behind-one : (a : ℕ) → set ys n a ≡ putAt xs at (b ++ a ∷ [])
+  behind-one a = behind-piece _ _ (put-one ys n a)
+
+  pub behind-three : (a c d : ℕ) → set (set (set ys n a) (n + 1) c) (n + 2) d ≡ putAt xs at (b ++ a ∷ c ∷ d ∷ [])
+  behind-three a c d = behind-piece _ _ (put-three ys n a c d)
+
+-- the length of an output that was written to
+pub put-kept : (xs ys : List ℕ) (at : ℕ) (b : List ℕ) → ys ≡ putAt xs at b → length ys ≡ length xs
+put-kept xs ys at b e = ap length e ∙ length-put xs at b
+
+pub put-set-kept : (xs ys : List ℕ) (i a at : ℕ) (b : List ℕ) → ys ≡ putAt (set xs i a) at b → length ys ≡ length xs
+put-set-kept xs ys i a at b e = put-kept (set xs i a) ys at b e ∙ length-set xs i a

@@ -1,0 +1,29 @@
+use borrow.Author.Needs.{needs}
+use Rattle.sheet_lines.proofs.line.head_length.Statement.{statement}
+use Rattle.sheet_lines.proofs.line.head_length.Tie as tie
+use Rattle.sheet_lines.proofs.line.head_length.Reads as reads
+use Rattle.sheet_lines.proofs.line.head_length.Lts as lts
+use Rattle.sheet_lines.proofs.digits.digit_count.Reads as digit-count-reads
+use mathlib.Core.Path.{_∙_}
+use native.Mathlib.Omega.{arith}
+use Rattle.sheet_lines.proofs.LineLaws.{length-head}
+
+digit-count-requires : tie.Need-digit-count-requires
+digit-count-requires c κs = search needs
+
+digit-count-requires-2 : tie.Need-digit-count-requires-2
+digit-count-requires-2 c κs = search needs
+
+add-result : tie.Need-add-result
+add-result c = search needs
+
+add-result-2 : tie.Need-add-result-2
+add-result-2 c = search needs
+
+returns : tie.Need-returns
+returns c = (omega (arith, length-head (c .before .before .args .point .number) (c .before .before .args .number) (c .before .before .args .point .letter)), omega arith)
+
+pub head-length-spec : {M : Type 1} → statement M
+head-length-spec =
+    tie.close
+    (tie.spec digit-count-requires digit-count-requires-2 add-result add-result-2 returns)

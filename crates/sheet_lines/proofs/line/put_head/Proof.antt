@@ -1,0 +1,64 @@
+use Rattle.sheet_lines.proofs.line.put_head.Statement.{statement}
+use Rattle.sheet_lines.proofs.line.put_head.Tie as tie
+use Rattle.sheet_lines.proofs.line.put_head.Reads as reads
+use Rattle.sheet_lines.proofs.line.put_head.Lts as lts
+use Rattle.sheet_lines.proofs.digits.put_decimal.Reads as put-decimal-reads
+use mathlib.Core.Path.{_∙_, ap}
+use native.Mathlib.Omega.{arith}
+use Prim.Native.Nat.{_+_}
+use lib.ListN.{length, length-set}
+use Rattle.sheet_lines.proofs.LineLaws.{length-head, head-put}
+use Rattle.sheet_lines.proofs.Puts.{put-kept, put-set-kept}
+
+put-decimal-requires : tie.Need-put-decimal-requires
+put-decimal-requires c κs = omega (arith, c .before .before .pre, length-head (c .before .before .args .point .number) (c .before .before .args .number) (c .before .before .args .point .letter))
+
+slice-write-out : tie.Need-slice-write-out
+slice-write-out c = omega (arith, c .before .before .before .before .before .pre, length-head (c .before .before .before .before .before .args .point .number) (c .before .before .before .before .before .args .number) (c .before .before .before .before .before .args .point .letter), c .before .before .put-decimal .ensures .0)
+
+add-put-decimal : tie.Need-add-put-decimal
+add-put-decimal c = omega (arith, c .before .before .before .before .before .before .pre, c .before .before .before .before .before .before .good, length-head (c .before .before .before .before .before .before .args .point .number) (c .before .before .before .before .before .before .args .number) (c .before .before .before .before .before .before .args .point .letter), c .before .before .before .put-decimal .ensures .0)
+
+put-decimal-requires-2 : tie.Need-put-decimal-requires-2
+put-decimal-requires-2 c κs = simp length-set (omega (arith, c .before .before .before .before .before .before .pre, length-head (c .before .before .before .before .before .before .args .point .number) (c .before .before .before .before .before .before .args .number) (c .before .before .before .before .before .before .args .point .letter), c .before .before .before .put-decimal .ensures .0))
+
+slice-write-out-2 : tie.Need-slice-write-out-2
+slice-write-out-2 c = omega (arith, c .before .before .before .before .before .before .before .before .before .pre, length-head (c .before .before .before .before .before .before .before .before .before .args .point .number) (c .before .before .before .before .before .before .before .before .before .args .number) (c .before .before .before .before .before .before .before .before .before .args .point .letter), c .before .before .before .before .before .before .put-decimal .ensures .0, c .before .before .put-decimal2 .ensures .0, put-kept (c .before .before .before .before .before .before .before .before .before .args .out .now) (c .before .before .before .before .before .before .put-decimal .last .0) (c .before .before .before .before .before .before .before .before .before .args .at) _ (c .before .before .before .before .before .before .put-decimal .ensures .1), put-set-kept (c .before .before .before .before .before .before .put-decimal .last .0) (c .before .before .put-decimal2 .last .0) (c .before .before .before .before .before .before .put-decimal .result) 32 (c .before .before .before .before .before .before .put-decimal .result + 1) _ (c .before .before .put-decimal2 .ensures .1))
+
+add-out : tie.Need-add-out
+add-out c = omega (arith, c .before .before .before .before .before .before .before .before .before .pre, c .before .before .before .before .before .before .before .before .before .good, length-head (c .before .before .before .before .before .before .before .before .before .args .point .number) (c .before .before .before .before .before .before .before .before .before .args .number) (c .before .before .before .before .before .before .before .before .before .args .point .letter), c .before .before .before .before .before .before .put-decimal .ensures .0, c .before .before .put-decimal2 .ensures .0)
+
+slice-write-out-3 : tie.Need-slice-write-out-3
+slice-write-out-3 c = simp length-set (omega (arith, c .before .before .before .before .before .before .before .before .before .pre, length-head (c .before .before .before .before .before .before .before .before .before .args .point .number) (c .before .before .before .before .before .before .before .before .before .args .number) (c .before .before .before .before .before .before .before .before .before .args .point .letter), c .before .before .before .before .before .before .put-decimal .ensures .0, c .before .before .put-decimal2 .ensures .0, put-kept (c .before .before .before .before .before .before .before .before .before .args .out .now) (c .before .before .before .before .before .before .put-decimal .last .0) (c .before .before .before .before .before .before .before .before .before .args .at) _ (c .before .before .before .before .before .before .put-decimal .ensures .1), put-set-kept (c .before .before .before .before .before .before .put-decimal .last .0) (c .before .before .put-decimal2 .last .0) (c .before .before .before .before .before .before .put-decimal .result) 32 (c .before .before .before .before .before .before .put-decimal .result + 1) _ (c .before .before .put-decimal2 .ensures .1)))
+
+add-out-2 : tie.Need-add-out-2
+add-out-2 c = omega (arith, c .before .before .before .before .before .before .before .before .before .pre, c .before .before .before .before .before .before .before .before .before .good, length-head (c .before .before .before .before .before .before .before .before .before .args .point .number) (c .before .before .before .before .before .before .before .before .before .args .number) (c .before .before .before .before .before .before .before .before .before .args .point .letter), c .before .before .before .before .before .before .put-decimal .ensures .0, c .before .before .put-decimal2 .ensures .0)
+
+slice-write-out-4 : tie.Need-slice-write-out-4
+slice-write-out-4 c = simp length-set (omega (arith, c .before .before .before .before .before .before .before .before .before .pre, length-head (c .before .before .before .before .before .before .before .before .before .args .point .number) (c .before .before .before .before .before .before .before .before .before .args .number) (c .before .before .before .before .before .before .before .before .before .args .point .letter), c .before .before .before .before .before .before .put-decimal .ensures .0, c .before .before .put-decimal2 .ensures .0, put-kept (c .before .before .before .before .before .before .before .before .before .args .out .now) (c .before .before .before .before .before .before .put-decimal .last .0) (c .before .before .before .before .before .before .before .before .before .args .at) _ (c .before .before .before .before .before .before .put-decimal .ensures .1), put-set-kept (c .before .before .before .before .before .before .put-decimal .last .0) (c .before .before .put-decimal2 .last .0) (c .before .before .before .before .before .before .put-decimal .result) 32 (c .before .before .before .before .before .before .put-decimal .result + 1) _ (c .before .before .put-decimal2 .ensures .1)))
+
+add-result : tie.Need-add-result
+add-result c = omega (arith, c .before .before .before .before .before .before .before .before .before .pre, c .before .before .before .before .before .before .before .before .before .good, length-head (c .before .before .before .before .before .before .before .before .before .args .point .number) (c .before .before .before .before .before .before .before .before .before .args .number) (c .before .before .before .before .before .before .before .before .before .args .point .letter), c .before .before .before .before .before .before .put-decimal .ensures .0, c .before .before .put-decimal2 .ensures .0)
+
+same-length : tie.Need-same-length
+same-length c = simp length-set (put-set-kept (c .before .before .before .before .before .before .put-decimal .last .0) (c .before .before .put-decimal2 .last .0) (c .before .before .before .before .before .before .put-decimal .result) 32 (c .before .before .before .before .before .before .put-decimal .result + 1) _ (c .before .before .put-decimal2 .ensures .1) ∙ put-kept (c .before .before .before .before .before .before .before .before .before .args .out .now) (c .before .before .before .before .before .before .put-decimal .last .0) (c .before .before .before .before .before .before .before .before .before .args .at) _ (c .before .before .before .before .before .before .put-decimal .ensures .1))
+
+returns : tie.Need-returns
+returns c = (omega (arith, length-head (c .before .before .before .before .before .before .before .before .before .args .point .number) (c .before .before .before .before .before .before .before .before .before .args .number) (c .before .before .before .before .before .before .before .before .before .args .point .letter), c .before .before .before .before .before .before .put-decimal .ensures .0, c .before .before .put-decimal2 .ensures .0), head-put _ _ _ _ _ _ _ _ _ (c .before .before .before .before .before .before .put-decimal .ensures .0) (c .before .before .before .before .before .before .put-decimal .ensures .1) (c .before .before .put-decimal2 .ensures .0) (c .before .before .put-decimal2 .ensures .1))
+
+pub put-head-spec : {M : Type 1} → statement M
+put-head-spec =
+    tie.close
+    (tie.spec
+    put-decimal-requires
+    slice-write-out
+    add-put-decimal
+    put-decimal-requires-2
+    slice-write-out-2
+    add-out
+    slice-write-out-3
+    add-out-2
+    slice-write-out-4
+    add-result
+    same-length
+    returns)

@@ -1,0 +1,31 @@
+use borrow.Author.Needs.{needs}
+use Rattle.sheet_lines.proofs.lines.refused_length.Statement.{statement}
+use Rattle.sheet_lines.proofs.lines.refused_length.Tie as tie
+use Rattle.sheet_lines.proofs.lines.refused_length.Reads as reads
+use Rattle.sheet_lines.proofs.lines.refused_length.Lts as lts
+use Rattle.labels.proofs.refusal.Refusal.number.Reads as number-reads
+use Rattle.sheet_lines.proofs.digits.digit_count.Reads as digit-count-reads
+use native.Mathlib.Omega.{arith}
+use mathlib.Core.Path.{sym, _∙_, ap}
+use lib.ListN.{length}
+use Rattle.sheet_lines.specs.Digits.{decimal}
+use Rattle.sheet_lines.proofs.LineLaws.{length-refused, number-small}
+
+number-requires : tie.Need-number-requires
+number-requires c κs = search needs
+
+cast-digit-count : tie.Need-cast-digit-count
+cast-digit-count c = search needs
+
+digit-count-requires : tie.Need-digit-count-requires
+digit-count-requires c κs = search needs
+
+add-result : tie.Need-add-result
+add-result c = search needs
+
+returns : tie.Need-returns
+returns c = omega (arith, length-refused (c .before .before .args .refusal), c .digit-count .ensures .0, ap (λ n. length (decimal n)) (c .before .number .ensures))
+
+pub refused-length-spec : {M : Type 1} → statement M
+refused-length-spec =
+    tie.close (tie.spec number-requires cast-digit-count digit-count-requires add-result returns)

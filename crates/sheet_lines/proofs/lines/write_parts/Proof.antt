@@ -1,0 +1,95 @@
+use borrow.Author.Needs.{needs}
+use Rattle.sheet_lines.proofs.lines.write_parts.Statement.{statement}
+use Rattle.sheet_lines.proofs.lines.write_parts.Tie as tie
+use Rattle.sheet_lines.proofs.lines.write_parts.Reads as reads
+use Rattle.sheet_lines.proofs.lines.write_parts.Lts as lts
+use Rattle.sheet_lines.proofs.lines.smaller.Reads as smaller-reads
+use Rattle.sheet_lines.proofs.lines.write_refused.Reads as write-refused-reads
+use Rattle.sheet_lines.proofs.lines.write_sheet.Reads as write-sheet-reads
+use Rattle.splitting.proofs.count.count.Reads as count-reads
+use mathlib.Core.Path.{refl, sym, _∙_, ap}
+use Prim.Native.Nat.{_*_}
+use native.Mathlib.Omega.{arith}
+use lib.ListN.{length, take, drop}
+use Rattle.sheet_lines.specs.Sheets.{blockAnswer, blockOutput}
+use Rattle.sheet_lines.proofs.SheetLines.{nothing-answer, nothing-output}
+use Rattle.sheet_lines.proofs.FillLaws.{sheet-small}
+use Rattle.sheet_lines.proofs.PartsLines.{points-are, numbered-log, lines-over, lines-due, due-within, none-asked, refused-count}
+
+count-requires : tie.Need-count-requires
+count-requires c κs = search needs
+
+enum-known-splittings : tie.Need-enum-known-splittings
+enum-known-splittings c = search needs
+
+add-total : tie.Need-add-total
+add-total c = search needs
+
+mul-total : tie.Need-mul-total
+mul-total c =
+    let n = numbered-log _ _ _ _ _ (c .before .before .before .before .before .before .before .before .before .pre) _ (sym (c .before .before .before .count .ensures) ∙ c .before .splittings .given .1) in
+    omega (arith, sheet-small _ _ _ _ _ _ n, ap (_* (c .before .splittings .given .0 .0)) (points-are _ _ _ _ _ (c .before .before .before .before .before .before .before .before .before .pre)))
+
+returns : tie.Need-returns
+returns c =
+    let e = lines-over _ _ _ _ _ (c .before .before .before .before .before .before .before .before .before .before .pre) _ (sym (c .before .before .before .before .count .ensures) ∙ c .before .before .splittings .given .1) (c .before .before .before .before .before .before .before .before .before .before .args .first) (c .before .before .before .before .before .before .before .before .before .before .args .most) _ refl (omega arith) in
+    (nothing-answer _ e _, nothing-output _ e _)
+
+returns-2 : tie.Need-returns-2
+returns-2 c =
+    let e = none-asked _ (c .before .before .before .before .before .before .before .before .before .before .before .args .most) (c .if2 .taken) in
+    (nothing-answer _ e _, nothing-output _ e _)
+
+sub-smaller : tie.Need-sub-smaller
+sub-smaller c = search needs
+
+smaller-requires : tie.Need-smaller-requires
+smaller-requires c κs = search needs
+
+write-sheet-requires : tie.Need-write-sheet-requires
+write-sheet-requires c κs =
+    let told = sym (c .before .before .before .before .before .before .before .count .ensures) ∙ c .before .before .before .before .before .splittings .given .1 in
+    (numbered-log _ _ _ _ _ (c .before .before .before .before .before .before .before .before .before .before .before .before .before .pre) _ told, due-within _ _ _ _ _ (c .before .before .before .before .before .before .before .before .before .before .before .before .before .pre) _ told (c .before .before .before .before .before .before .before .before .before .before .before .before .before .args .first) (c .before .before .before .before .before .before .before .before .before .before .before .before .before .args .most) _ _ refl (omega arith) (c .before .before .if2 .left) (c .before .smaller .ensures))
+
+enum-known-refusal : tie.Need-enum-known-refusal
+enum-known-refusal c = search needs
+
+write-refused-requires : tie.Need-write-refused-requires
+write-refused-requires c κs = search needs
+
+same-length : tie.Need-same-length
+same-length c = search needs
+
+returns-3 : tie.Need-returns-3
+returns-3 c =
+    let told = sym (c .before .before .before .before .before .before .before .before .before .before .count .ensures) ∙ c .before .before .before .before .before .before .before .before .splittings .given .1 in
+    let e = lines-due _ _ _ _ _ (c .before .before .before .before .before .before .before .before .before .before .before .before .before .before .before .before .pre) _ told (c .before .before .before .before .before .before .before .before .before .before .before .before .before .before .before .before .args .first) (c .before .before .before .before .before .before .before .before .before .before .before .before .before .before .before .before .args .most) _ _ refl (omega arith) (c .before .before .before .before .smaller .ensures) in
+    (c .before .before .write-sheet .ensures .0 ∙ ap (λ d. blockAnswer d (length (c .before .before .before .before .before .before .before .before .before .before .before .before .before .before .before .before .args .out .now))) (sym e), c .before .before .write-sheet .ensures .1 ∙ ap (λ d. blockOutput d (c .before .before .before .before .before .before .before .before .before .before .before .before .before .before .before .before .args .out .now)) (sym e))
+
+same-length-2 : tie.Need-same-length-2
+same-length-2 c = search needs
+
+returns-4 : tie.Need-returns-4
+returns-4 c =
+    let e = refused-count _ _ _ _ (c .before .before .before .before .before .before .before .before .before .before .before .before .before .args .question .now) _ (sym (c .before .before .before .before .before .before .before .count .ensures) ∙ c .before .before .before .before .before .refusal .given .1) in
+    rw (← e) at (c .before .before .write-refused .ensures)
+
+pub write-parts-spec : {M : Type 1} → statement M
+write-parts-spec =
+    tie.close
+    (tie.spec
+    count-requires
+    enum-known-splittings
+    add-total
+    mul-total
+    returns
+    returns-2
+    sub-smaller
+    smaller-requires
+    write-sheet-requires
+    enum-known-refusal
+    write-refused-requires
+    same-length
+    returns-3
+    same-length-2
+    returns-4)

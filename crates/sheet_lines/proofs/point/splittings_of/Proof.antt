@@ -1,0 +1,26 @@
+use borrow.Author.Needs.{needs}
+use Rattle.sheet_lines.proofs.point.splittings_of.Statement.{statement}
+use Rattle.sheet_lines.proofs.point.splittings_of.Tie as tie
+use Rattle.sheet_lines.proofs.point.splittings_of.Reads as reads
+use Rattle.sheet_lines.proofs.point.splittings_of.Lts as lts
+use Rattle.splitting.proofs.count.count.Reads as count-reads
+use mathlib.Core.Path.{sym, _∙_}
+use Rattle.sheet_lines.proofs.PointLaws.{counted-splittings, counted-refused}
+
+count-requires : tie.Need-count-requires
+count-requires c κs = search needs
+
+enum-known-n : tie.Need-enum-known-n
+enum-known-n c = search needs
+
+enum-told : tie.Need-enum-told
+enum-told c = search needs
+
+returns : tie.Need-returns
+returns c = counted-splittings _ _ (sym (c .before .before .before .count .ensures) ∙ c .before .n .given .1)
+
+returns-2 : tie.Need-returns-2
+returns-2 c = counted-refused _ _ (sym (c .before .before .count .ensures) ∙ c .enum-told .given .1)
+
+pub splittings-of-spec : {M : Type 1} → statement M
+splittings-of-spec = tie.close (tie.spec count-requires enum-known-n enum-told returns returns-2)

@@ -1,0 +1,120 @@
+use borrow.Author.Needs.{needs}
+use Rattle.sheet_lines.proofs.point.write_point.Statement.{statement}
+use Rattle.sheet_lines.proofs.point.write_point.Tie as tie
+use Rattle.sheet_lines.proofs.point.write_point.Reads as reads
+use Rattle.sheet_lines.proofs.point.write_point.Lts as lts
+use Rattle.sheet_lines.proofs.point.forget.Reads as forget-reads
+use Rattle.sheet_lines.proofs.point.letter_of.Reads as letter-of-reads
+use Rattle.sheet_lines.proofs.point.splittings_of.Reads as splittings-of-reads
+use Rattle.sheet_lines.proofs.point.window_start.Reads as window-start-reads
+use Rattle.sheet_lines.proofs.point.write_numbers.Reads as write-numbers-reads
+use Rattle.verdict.proofs.joint.joint.Reads as joint-reads
+use Prim.Native.Nat.{_-_, _≤_, _<_}
+use mathlib.Core.Path.{sym, _∙_, ap}
+use native.Mathlib.Omega.{arith}
+use lib.ListN.{length}
+use Rattle.sheet_lines.specs.Sheets.{letterOf, fitting}
+use Rattle.sheet_lines.specs.Working.{Full}
+use Rattle.sheet_lines.proofs.Standing.{known-forgotten}
+use Rattle.sheet_lines.proofs.PointLines.{window-part, rest-part, point-bytes, point-numbers, point-lines, numbers-few}
+
+window-start-requires : tie.Need-window-start-requires
+window-start-requires c κs = search needs
+
+mul-window : tie.Need-mul-window
+mul-window c = omega (arith, c .window-start .ensures, point-bytes _ _ _ _ _ (c .before .before .before .before .before .before .before .before .pre .0) _ (c .before .before .before .before .before .before .before .before .pre .1 .0 .1))
+
+mul-window-2 : tie.Need-mul-window-2
+mul-window-2 c = omega (arith, point-bytes _ _ _ _ _ (c .before .before .before .before .before .before .before .before .pre .0) _ (c .before .before .before .before .before .before .before .before .pre .1 .0 .1))
+
+add-window : tie.Need-add-window
+add-window c = omega (arith, point-bytes _ _ _ _ _ (c .before .before .before .before .before .before .before .before .pre .0) _ (c .before .before .before .before .before .before .before .before .pre .1 .0 .1))
+
+sub-window : tie.Need-sub-window
+sub-window c = search needs
+
+part-window-start : tie.Need-part-window-start
+part-window-start c = search needs
+
+part-window-end : tie.Need-part-window-end
+part-window-end c = omega (arith, point-bytes _ _ _ _ _ (c .before .before .before .before .before .before .before .before .pre .0) _ (c .before .before .before .before .before .before .before .before .pre .1 .0 .1))
+
+mul-rest : tie.Need-mul-rest
+mul-rest c = omega (arith, point-bytes _ _ _ _ _ (c .before .before .before .before .before .before .before .before .before .pre .0) _ (c .before .before .before .before .before .before .before .before .before .pre .1 .0 .1))
+
+sub-rest : tie.Need-sub-rest
+sub-rest c = omega (arith, point-bytes _ _ _ _ _ (c .before .before .before .before .before .before .before .before .before .pre .0) _ (c .before .before .before .before .before .before .before .before .before .pre .1 .0 .1))
+
+part-rest-start : tie.Need-part-rest-start
+part-rest-start c = omega (arith, point-bytes _ _ _ _ _ (c .before .before .before .before .before .before .before .before .before .pre .0) _ (c .before .before .before .before .before .before .before .before .before .pre .1 .0 .1))
+
+part-rest-end : tie.Need-part-rest-end
+part-rest-end c = search needs
+
+joint-requires : tie.Need-joint-requires
+joint-requires c κs = search needs
+
+letter-of-requires : tie.Need-letter-of-requires
+letter-of-requires c κs = search needs
+
+splittings-of-requires : tie.Need-splittings-of-requires
+splittings-of-requires c κs = search needs
+
+splittings-of-requires-2 : tie.Need-splittings-of-requires-2
+splittings-of-requires-2 c κs = search needs
+
+forget-requires : tie.Need-forget-requires
+forget-requires c κs =
+    let s = c .before .before .before .before .before .before .before .before .before .before .before .before .before .before .before in
+    let numbers = point-numbers _ _ _ _ _ (s .pre .0) _ (s .pre .1 .0 .1) (s .pre .1 .1 .0 .2) _ (s .pre .1 .0 .0) _ _ (window-part _ _ _ _ (c .before .before .before .before .before .before .before .window-start .ensures)) (rest-part _ (s .args .point)) _ _ _ (c .before .before .before .letter-of .ensures ∙ ap letterOf (c .before .before .before .before .joint .ensures)) (c .before .before .splittings-of .ensures) (c .before .splittings-of2 .ensures) in
+    (numbers .2, s .pre .1 .1 .1 .1 .endsSize)
+
+write-numbers-requires : tie.Need-write-numbers-requires
+write-numbers-requires c κs =
+    let s = c .before .before .before .before .before .before .before .before .before .before .before .before .before .before .before .before .before .before .before .before .before in
+    let numbers = point-numbers _ _ _ _ _ (s .pre .0) _ (s .pre .1 .0 .1) (s .pre .1 .1 .0 .2) _ (s .pre .1 .0 .0) _ _ (window-part _ _ _ _ (c .before .before .before .before .before .before .before .before .before .before .before .before .before .window-start .ensures)) (rest-part _ (s .args .point)) _ _ _ (c .before .before .before .before .before .before .before .before .before .letter-of .ensures ∙ ap letterOf (c .before .before .before .before .before .before .before .before .before .before .joint .ensures)) (c .before .before .before .before .before .before .before .before .splittings-of .ensures) (c .before .before .before .before .before .before .before .splittings-of2 .ensures) in
+    let size = s .pre .1 .1 .1 .1 in
+    let few : s .args .point < 100000 = omega (arith, point-bytes _ _ _ _ _ (s .pre .0) _ (s .pre .1 .0 .1)) in
+    let end = numbers-few _ _ (s .pre .1 .1 .0 .1) (s .pre .1 .1 .0 .2) in
+    ((few, s .pre .1 .1 .0 .0, end, s .pre .1 .1 .1 .0), (numbers, (record { fromsSize = size .fromsSize; endsSize = c .before .before .before .before .before .forget .ensures .1; textSize = size .textSize; endingSize = size .endingSize }, known-forgotten _ _ _ _ _ _ (c .before .before .before .before .before .forget .ensures .0))))
+
+same-length : tie.Need-same-length
+same-length c = search needs
+
+same-length-2 : tie.Need-same-length-2
+same-length-2 c = search needs
+
+same-length-3 : tie.Need-same-length-3
+same-length-3 c = search needs
+
+returns : tie.Need-returns
+returns c =
+    let s = c .before .before .before .before .before .before .before .before .before .before .before .before .before .before .before .before .before .before .before .before .before .before .before .before .before .before .before .before in
+    let lines = point-lines _ _ _ _ _ (s .pre .0) _ (s .pre .1 .0 .1) (s .pre .1 .1 .0 .2) _ (s .pre .1 .0 .0) _ _ (window-part _ _ _ _ (c .before .before .before .before .before .before .before .before .before .before .before .before .before .before .before .before .before .before .before .before .window-start .ensures)) (rest-part _ (s .args .point)) _ _ _ (c .before .before .before .before .before .before .before .before .before .before .before .before .before .before .before .before .letter-of .ensures ∙ ap letterOf (c .before .before .before .before .before .before .before .before .before .before .before .before .before .before .before .before .before .joint .ensures)) (c .before .before .before .before .before .before .before .before .before .before .before .before .before .before .before .splittings-of .ensures) (c .before .before .before .before .before .before .before .before .before .before .before .before .before .before .splittings-of2 .ensures) (s .args .number) (s .args .until - s .args .number) (omega (arith, s .pre .1 .1 .0)) in
+    (rw lines at (c .before .before .before .before .before .before .write-numbers .ensures .0), c .before .before .before .before .before .before .write-numbers .ensures .1)
+
+pub write-point-spec : {M : Type 1} → statement M
+write-point-spec =
+    tie.close
+    (tie.spec
+    window-start-requires
+    mul-window
+    mul-window-2
+    add-window
+    sub-window
+    part-window-start
+    part-window-end
+    mul-rest
+    sub-rest
+    part-rest-start
+    part-rest-end
+    joint-requires
+    letter-of-requires
+    splittings-of-requires
+    splittings-of-requires-2
+    forget-requires
+    write-numbers-requires
+    same-length
+    same-length-2
+    same-length-3
+    returns)

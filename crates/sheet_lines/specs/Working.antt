@@ -1,0 +1,93 @@
+-- What functions inside the crate promise each other. No public promise cites this file.
+use Prim.Native.Nat.{ℕ, _+_, _-_, _/_, _%_, _≤_, _<_}
+use mathlib.Core.Path.{_≡_}
+use mathlib.Core.Logic.{_⊎_}
+use mathlib.Core.Bool.{cond}
+use mathlib.Core.List.{List, _++_}
+use lib.ListN.{length, getD, take, drop}
+use lib.Dec.{leb}
+use lib.Seq.{sets}
+use Rattle.labels.specs.declared.refusal.Check.the-variants.{Sound}
+use Rattle.formulas.specs.Formulas.{questionLimit, checkFormula}
+use Rattle.splitting.specs.Splittings.{splittingsOf, splittingLimit, checkLog}
+use Rattle.splitting.specs.declared.count.Counted.{Counted}
+use Rattle.splitting.specs.declared.count.Counted.the-variants as count
+use Rattle.sheet_lines.specs.declared.point.Point.{Point}
+use Rattle.sheet_lines.specs.Sheets.{endingOf, headOf, lineOf, quotientAt, textAt, listed, bytesOf, fitting}
+
+-- bytes written over those of a list, from a place on
+unfoldable pub putAt : List ℕ → ℕ → List ℕ → List ℕ
+putAt xs at bytes = sets xs at bytes
+
+-- a line written at a place if it fits, and the place behind it; else nothing is written, and the place stays
+unfoldable pub putIfFits : List ℕ → List ℕ → ℕ → List ℕ
+putIfFits line xs at = cond (leb (length line) (length xs - at)) (putAt xs at line) xs
+
+unfoldable pub placeBehind : List ℕ → List ℕ → ℕ → ℕ
+placeBehind line xs at = cond (leb (length line) (length xs - at)) (at + length line) at
+
+-- lines i to j are written behind a place, where an output xs begins, and those up to `end` are due: the output is ys now, and the next line's place is `at`
+pub record Filled (g : ℕ → List ℕ) (xs : List ℕ) (start i end : ℕ) (ys : List ℕ) (at j : ℕ) : Type 0 where
+  pub written : ys ≡ putAt xs start (bytesOf (listed g i (j - i)))
+  pub place : at ≡ start + length (bytesOf (listed g i (j - i)))
+  pub left : fitting (length xs - start) (listed g i (end - i)) ≡ listed g i (j - i) ++ fitting (length xs - at) (listed g j (end - j))
+  pub begun : i ≤ j
+  pub due : j ≤ end
+  pub room : at ≤ length xs
+
+-- all of the due lines that fit are written
+pub record Full (block : List (List ℕ)) (xs : List ℕ) (start i : ℕ) (ys : List ℕ) (at j : ℕ) : Type 0 where
+  pub written : ys ≡ putAt xs start (bytesOf block)
+  pub place : at ≡ start + length (bytesOf block)
+  pub counted : j ≡ i + length block
+
+-- a log and a question that no check refuses
+pub record Asked (k : ℕ) (l r s f : List ℕ) : Type 0 where
+  pub log : checkLog k l r s ≡ Sound
+  pub question : checkFormula k questionLimit f ≡ Sound
+
+-- and the number of the log's splittings
+pub record Numbered (k : ℕ) (l r s f : List ℕ) (count : ℕ) : Type 0 where
+  pub asked : Asked k l r s f
+  pub counted : count ≡ length (splittingsOf k l r s)
+  pub few : count ≤ splittingLimit
+  pub some : 1 ≤ count
+
+-- line i of the sheet
+unfoldable pub numberedLine : ℕ → List ℕ → List ℕ → List ℕ → List ℕ → ℕ → ℕ → List ℕ
+numberedLine k l r s f count i = lineOf k l r s f (i / count) (i % count)
+
+-- the ending of the lines whose splitting has number t in a window, at the window's end
+unfoldable pub endingIn : ℕ → List ℕ → List ℕ → List ℕ → List ℕ → ℕ → ℕ → List ℕ
+endingIn k l r w f letter t = endingOf (quotientAt k l r w f (length w / 3) t) (textAt k l r w f (length w / 3) t) letter
+
+-- such a line
+unfoldable pub lineIn : ℕ → List ℕ → List ℕ → List ℕ → List ℕ → ℕ → ℕ → ℕ → ℕ → List ℕ
+lineIn k l r w f letter point n t = headOf point n letter ++ endingIn k l r w f letter t
+
+-- the line of splitting n of a point: its number in the window is n / after % ways
+unfoldable pub lineBy : ℕ → List ℕ → List ℕ → List ℕ → List ℕ → Point → ℕ → List ℕ
+lineBy k l r w f p n = lineIn k l r w f (p .letter) (p .number) n (n / p .after % p .ways)
+
+-- where endings stand in an output, from one place to another in front of `at`, for each number below `ways`; 0 as the second place if it stands nowhere
+unfoldable pub Standing : (ℕ → List ℕ) → List ℕ → ℕ → ℕ → ℕ → ℕ → Type 0
+Standing e out at from end t = (take (length (e t)) (drop from out) ≡ e t) × (from + length (e t) ≡ end) × (end ≤ at)
+
+unfoldable pub Known : (ℕ → List ℕ) → ℕ → List ℕ → List ℕ → List ℕ → ℕ → Type 0
+Known e ways froms ends out at = (t : ℕ) → t < ways → (getD ends t 0 ≡ 0) ⊎ Standing e out at (getD froms t 0) (getD ends t 0) t
+
+-- what the writing of lines works with: where endings stand in the output, a quotient's bytes, and an ending
+pub record Scratch (froms ends text ending : List ℕ) : Type 0 where
+  pub fromsSize : length froms ≡ 65536
+  pub endsSize : length ends ≡ 65536
+  pub textSize : length text ≡ 8192
+  pub endingSize : length ending ≡ 16387
+
+-- how many splittings are counted; 1 where the count is refused
+unfoldable pub countedAs : Counted → ℕ
+countedAs (count.Splittings n) = n
+countedAs (count.Refused x) = 1
+
+-- the first n entries are 0
+unfoldable pub Forgotten : List ℕ → ℕ → Type 0
+Forgotten ends n = (t : ℕ) → t < n → getD ends t 0 ≡ 0

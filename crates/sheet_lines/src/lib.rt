@@ -1,0 +1,6 @@
+// The lines of a sheet as bytes: document 01, "The casebook".
+mod digits;
+mod ending;
+mod line;
+pub mod lines;
+mod point;

@@ -1,0 +1,218 @@
+// Lines of the sheet of any bytes, as many as fit into an output.
+use crate::digits::digit_count;
+use crate::digits::put_decimal;
+use crate::point::Progress;
+use crate::point::write_point;
+use casebook::read::Reading;
+use casebook::read::read;
+use formulas::backs::back_depth;
+use labels::refusal::Refusal;
+use splitting::count::Counted;
+use splitting::count::count;
+ghost use mathlib.Core.Path.{_≡_};
+ghost use mathlib.Core.List.{[], _∷_};
+ghost use Prim.Native.Nat.{suc, _+_, _*_, _≤_, min};
+ghost use lib.ListN.{length, take, drop};
+ghost use Rattle.hml.specs.System.{steps};
+ghost use Rattle.machines.specs.Joints.{jointOf};
+ghost use Rattle.sheet_lines.specs.Sheets.{refusedLine, partsLines, linesDue, listed, fitting, blockAnswer, blockOutput};
+ghost use Rattle.sheet_lines.specs.Working.{putAt, Asked, Numbered, numberedLine, Full};
+
+// How many lines were written, and how many bytes they are.
+pub struct Block {
+    pub lines: usize,
+    pub bytes: usize,
+}
+
+pub enum Lines {
+    Written(Block),
+    Refused(Refusal),
+}
+
+// Writes lines of the sheet of any bytes: from line `first` on, at most so many, and no more than fit. Where a line is due and does not fit, 18.
+pub fn write_lines(casebook: &[u8], first: usize, most: usize, out: &mut [u8]) -> Lines
+    ensures { λ r. ⌜ r ≡ blockAnswer (linesDue (now (casebook .entry)) first most) (length (now (out .entry))) ⌝ }
+    ensures { λ r. ⌜ now (out .exit) ≡ blockOutput (linesDue (now (casebook .entry)) first most) (now (out .entry)) ⌝ }
+{
+    match read(casebook) {
+        Reading::Casebook(parts) => {
+            let left = parts.left;
+            let right = parts.right;
+            let run = parts.run;
+            let question = parts.question;
+            write_parts(
+                parts.pairs,
+                left.body(casebook),
+                right.body(casebook),
+                run.body(casebook),
+                question.body(casebook),
+                first,
+                most,
+                out,
+            )
+        }
+        Reading::Refused(refusal) => write_refused(refusal, first, most, out),
+    }
+}
+
+// The lines of a log and a question that no check refuses, unless the count does.
+fn write_parts<'a>(
+    k: u8,
+    left: &'a [u8],
+    right: &'a [u8],
+    run: &[u8],
+    question: &[u8],
+    first: usize,
+    most: usize,
+    out: &mut [u8],
+) -> Lines
+    requires { ⌜ Asked k (now left) (now right) (now run) (now question) ⌝ }
+    ensures { λ r. ⌜ r ≡ blockAnswer (take most (drop first (partsLines k (now (left .entry)) (now (right .entry)) (now (run .entry)) (now (question .entry))))) (length (now (out .entry))) ⌝ }
+    ensures { λ r. ⌜ now (out .exit) ≡ blockOutput (take most (drop first (partsLines k (now (left .entry)) (now (right .entry)) (now (run .entry)) (now (question .entry))))) (now (out .entry)) ⌝ }
+{
+    match count(k, left, right, run) {
+        Counted::Splittings(splittings) => {
+            let total = (run.len() / 3 + 1) * splittings;
+            if total <= first {
+                return Lines::Written(Block { lines: 0, bytes: 0 });
+            }
+            if most == 0 {
+                return Lines::Written(Block { lines: 0, bytes: 0 });
+            }
+            let due = smaller(most, total - first);
+            write_sheet(k, left, right, run, question, splittings, first, due, out)
+        }
+        Counted::Refused(refusal) => write_refused(refusal, first, most, out),
+    }
+}
+
+// So many lines, from line `first` on, or as many of them as fit.
+fn write_sheet<'a>(
+    k: u8,
+    left: &'a [u8],
+    right: &'a [u8],
+    run: &[u8],
+    question: &[u8],
+    splittings: usize,
+    first: usize,
+    due: usize,
+    out: &mut [u8],
+) -> Lines
+    requires { ⌜ Numbered k (now left) (now right) (now run) (now question) splittings ⌝ }
+    requires { ⌜ (1 ≤ due) × (first + due ≤ suc (steps (jointOf (now run))) * splittings) ⌝ }
+    ensures { λ r. ⌜ r ≡ blockAnswer (listed (numberedLine k (now (left .entry)) (now (right .entry)) (now (run .entry)) (now (question .entry)) splittings) first due) (length (now (out .entry))) ⌝ }
+    ensures { λ r. ⌜ now (out .exit) ≡ blockOutput (listed (numberedLine k (now (left .entry)) (now (right .entry)) (now (run .entry)) (now (question .entry)) splittings) first due) (now (out .entry)) ⌝ }
+{
+    let done = fill(k, left, right, run, question, splittings, first, due, out);
+    if done.number == first {
+        return Lines::Refused(Refusal::OutputTooShort);
+    }
+    Lines::Written(Block {
+        lines: done.number - first,
+        bytes: done.at,
+    })
+}
+
+// Fills an output with lines, point by point: line i is that of point i / splittings and of splitting i % splittings. Gives the line that is due next, and
+// how many bytes are written.
+fn fill<'a>(
+    k: u8,
+    left: &'a [u8],
+    right: &'a [u8],
+    run: &[u8],
+    question: &[u8],
+    splittings: usize,
+    first: usize,
+    due: usize,
+    out: &mut [u8],
+) -> Progress
+    requires { ⌜ Numbered k (now left) (now right) (now run) (now question) splittings ⌝ }
+    requires { ⌜ first + due ≤ suc (steps (jointOf (now run))) * splittings ⌝ }
+    ensures { λ r. ⌜ Full (fitting (length (now (out .entry))) (listed (numberedLine k (now (left .entry)) (now (right .entry)) (now (run .entry)) (now (question .entry)) splittings) first due)) (now (out .entry)) 0 first (now (out .exit)) (r .at) (r .number) ⌝ }
+{
+    let back = back_depth(question);
+    let mut froms = [0usize; 65536];
+    let mut ends = [0usize; 65536];
+    let mut text = [0u8; 8192];
+    let mut ending = [0u8; 16387];
+    let end = first + due;
+    let mut i = first;
+    let mut at: usize = 0;
+    while i < end {
+        let point = i / splittings;
+        let number = i % splittings;
+        let until = smaller(splittings, number + (end - i));
+        let done = write_point(
+            k,
+            left,
+            right,
+            run,
+            question,
+            back,
+            point,
+            number,
+            until,
+            at,
+            out,
+            &mut froms,
+            &mut ends,
+            &mut text,
+            &mut ending,
+        );
+        at = done.at;
+        i = i + (done.number - number);
+        if done.number < until {
+            return Progress { number: i, at };
+        }
+    }
+    Progress { number: i, at }
+}
+
+// The line of a refused casebook or count, if it is among the lines asked for.
+fn write_refused(refusal: Refusal, first: usize, most: usize, out: &mut [u8]) -> Lines
+    ensures { λ r. ⌜ r ≡ blockAnswer (take most (drop first (refusedLine refusal ∷ []))) (length (now (out .entry))) ⌝ }
+    ensures { λ r. ⌜ now (out .exit) ≡ blockOutput (take most (drop first (refusedLine refusal ∷ []))) (now (out .entry)) ⌝ }
+{
+    if 0 < first {
+        return Lines::Written(Block { lines: 0, bytes: 0 });
+    }
+    if most == 0 {
+        return Lines::Written(Block { lines: 0, bytes: 0 });
+    }
+    let len = refused_length(refusal);
+    if out.len() < len {
+        return Lines::Refused(Refusal::OutputTooShort);
+    }
+    put_refused(refusal, out);
+    Lines::Written(Block {
+        lines: 1,
+        bytes: len,
+    })
+}
+
+// How many bytes that line has.
+fn refused_length(refusal: Refusal) -> usize
+    ensures { λ r. ⌜ r ≡ length (refusedLine refusal) ⌝ }
+{
+    digit_count(refusal.number() as usize) + 3
+}
+
+// The line itself, as "R 8".
+fn put_refused(refusal: Refusal, out: &mut [u8])
+    requires { ⌜ length (refusedLine refusal) ≤ length (now out) ⌝ }
+    ensures { λ r. ⌜ now (out .exit) ≡ putAt (now (out .entry)) 0 (refusedLine refusal) ⌝ }
+{
+    out[0] = b'R';
+    out[1] = b' ';
+    let at = put_decimal(out, 2, refusal.number() as usize);
+    out[at] = b'\n';
+}
+
+fn smaller(a: usize, b: usize) -> usize
+    ensures { λ r. ⌜ r ≡ min a b ⌝ }
+{
+    if a < b {
+        return a;
+    }
+    b
+}
