@@ -18,10 +18,10 @@ fn main() {
 }
 
 // Room for a block.
-fn empty_block() -> [u8; 1048576]
-    ensures { λ r. ⌜ 1048576 ≡ length r ⌝ }
+fn empty_block() -> [u8; 4194304]
+    ensures { λ r. ⌜ 4194304 ≡ length r ⌝ }
 {
-    [0; 1048576]
+    [0; 4194304]
 }
 
 // Prints the sheet of any bytes, block by block, until no line is left or standard output takes no more.

@@ -83,3 +83,36 @@ hex-low d h = rw (lt-ltb d 10 h)
 pub hex-high : (d : ℕ) → 10 ≤ d → 87 + d ≡ hexDigit d
 unfolding hexDigit
 hex-high d h = rw (le-ltb d 10 h)
+
+-- the digits of a number below 100, 1000 and so on
+pub decimal-2 : (n : ℕ) → 10 ≤ n → n < 100 → decimal n ≡ (48 + n / 10) ∷ (48 + n % 10) ∷ []
+decimal-2 n h i = decimal-more n h ∙ ap (_++ ((48 + n % 10) ∷ [])) (decimal-small (n / 10) (omega arith))
+
+pub decimal-3 : (n : ℕ) → 100 ≤ n → n < 1000 → decimal n ≡ (48 + n / 100) ∷ (48 + n / 10 % 10) ∷ (48 + n % 10) ∷ []
+decimal-3 n h i =
+    let z : n / 10 / 10 ≡ n / 100 = omega arith in
+    decimal-more n (omega arith) ∙ ap (_++ ((48 + n % 10) ∷ [])) (decimal-2 (n / 10) (omega arith) (omega arith)) ∙ rw z
+
+pub decimal-4 : (n : ℕ) → 1000 ≤ n → n < 10000 → decimal n ≡ (48 + n / 1000) ∷ (48 + n / 100 % 10) ∷ (48 + n / 10 % 10) ∷ (48 + n % 10) ∷ []
+decimal-4 n h i =
+    let z : n / 10 / 100 ≡ n / 1000 = omega arith in
+    let w : n / 10 / 10 ≡ n / 100 = omega arith in
+    decimal-more n (omega arith) ∙ ap (_++ ((48 + n % 10) ∷ [])) (decimal-3 (n / 10) (omega arith) (omega arith)) ∙ rw (z, w)
+
+pub decimal-5 : (n : ℕ) → 10000 ≤ n → n < 100000 → decimal n ≡ (48 + n / 10000) ∷ (48 + n / 1000 % 10) ∷ (48 + n / 100 % 10) ∷ (48 + n / 10 % 10) ∷ (48 + n % 10) ∷ []
+decimal-5 n h i =
+    let z : n / 10 / 1000 ≡ n / 10000 = omega arith in
+    let w : n / 10 / 100 ≡ n / 1000 = omega arith in
+    let v : n / 10 / 10 ≡ n / 100 = omega arith in
+    decimal-more n (omega arith) ∙ ap (_++ ((48 + n % 10) ∷ [])) (decimal-4 (n / 10) (omega arith) (omega arith)) ∙ rw (z, w, v)
+
+-- a number below 100000 has five digits at most
+count-step : (n m : ℕ) → length (decimal (n / 10)) ≤ m → length (decimal n) ≤ suc m
+count-step n m h = go (ltb n 10) refl
+  where
+    go : (b : Bool) → ltb n 10 ≡ b → length (decimal n) ≤ suc m
+    go true e = omega (arith, count-small n (ltb-true n 10 e))
+    go false e = omega (arith, count-more n _ (ltb-false n 10 e) refl, h)
+
+pub count-few : (n : ℕ) → n < 100000 → length (decimal n) ≤ 5
+count-few n h = count-step n 4 (count-step (n / 10) 3 (count-step (n / 10 / 10) 2 (count-step (n / 10 / 10 / 10) 1 (omega (arith, count-small (n / 10 / 10 / 10 / 10) (omega arith))))))

@@ -1,9 +1,11 @@
 pub mod DigitLaws
 pub mod Puts
+pub mod CopyLaws
 pub mod LineLaws
 pub mod Filling
 pub mod SheetLines
 pub mod PointLaws
+pub mod Turns
 pub mod EndingLaws
 pub mod WriteLine
 pub mod WindowLines

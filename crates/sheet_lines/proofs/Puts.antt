@@ -7,7 +7,7 @@ use lib.ListN.{length, getD, set, take, drop, length-drop, length-set}
 use lib.Seq.{sets, length-sets, take-set-le, length-take-le, take-nil, drop-nil, getD-take, getD-drop, take-suc, take-length}
 use Rattle.sheet_lines.specs.Digits.{decimal, hexDigit, hexadecimal}
 use Rattle.sheet_lines.specs.Working.{putAt}
-use Rattle.sheet_lines.proofs.DigitLaws.{decimal-small, decimal-more, length-hexadecimal, hexadecimal-behind}
+use Rattle.sheet_lines.proofs.DigitLaws.{decimal-small, decimal-2, decimal-3, decimal-4, decimal-5, length-hexadecimal, hexadecimal-behind}
 
 -- the list keeps its length
 pub length-put : (xs : List ℕ) (at : ℕ) (b : List ℕ) → length (putAt xs at b) ≡ length xs
@@ -51,13 +51,6 @@ put-part xs at from n b h = part-front (putAt xs at b) from n ∙ ap (drop from)
     part-front l zero m = let z : zero + m ≡ m = omega arith in ap (λ x. take x l) (sym z)
     part-front [] (suc f) m = rw (take-nil, take-nil)
     part-front (x ∷ l) (suc f) m = let z : suc f + m ≡ suc (f + m) = omega arith in rw z (part-front l f m)
-
--- a decimal number, of one digit or of more
-pub small-put : (xs : List ℕ) (at n : ℕ) → n < 10 → set xs at (48 + n % 10) ≡ putAt xs at (decimal n)
-small-put xs at n h = let z : n % 10 ≡ n = omega arith in rw (decimal-small n h, z) (put-one xs at (48 + n))
-
-pub more-put : (xs ys : List ℕ) (at last n : ℕ) → 10 ≤ n → last ≡ at + length (decimal (n / 10)) → ys ≡ putAt xs at (decimal (n / 10)) → set ys last (48 + n % 10) ≡ putAt xs at (decimal n)
-more-put xs ys at last n h e f = rw (decimal-more n h, e, f) (put-one _ _ _ ∙ put-behind xs at (decimal (n / 10)) ((48 + n % 10) ∷ []))
 
 -- bytes copied one after the other
 pub copied-none : (xs : List ℕ) (at from : ℕ) → xs ≡ putAt xs at (take 0 (drop from xs))
@@ -114,3 +107,45 @@ put-kept xs ys at b e = ap length e ∙ length-put xs at b
 
 pub put-set-kept : (xs ys : List ℕ) (i a at : ℕ) (b : List ℕ) → ys ≡ putAt (set xs i a) at b → length ys ≡ length xs
 put-set-kept xs ys i a at b e = put-kept (set xs i a) ys at b e ∙ length-set xs i a
+
+-- a byte, then more
+pub put-first : (xs : List ℕ) (at a : ℕ) (b : List ℕ) → putAt (set xs at a) (at + 1) b ≡ putAt xs at (a ∷ b)
+unfolding putAt
+put-first xs at a b = let z : at + 1 ≡ suc at = omega arith in rw z
+
+-- a decimal number by its size
+pub put-1 : (xs : List ℕ) (at n : ℕ) → n < 10 → set xs at (48 + n) ≡ putAt xs at (decimal n)
+put-1 xs at n h = put-one xs at (48 + n) ∙ ap (putAt xs at) (sym (decimal-small n h))
+
+pub put-2 : (xs ys : List ℕ) (at n : ℕ) → 10 ≤ n → n < 100 → ys ≡ putAt xs at ((48 + n / 10) ∷ (48 + n % 10) ∷ []) → ys ≡ putAt xs at (decimal n)
+put-2 xs ys at n h i e = e ∙ ap (putAt xs at) (sym (decimal-2 n h i))
+
+pub put-3 : (xs ys : List ℕ) (at n : ℕ) → 100 ≤ n → n < 1000 → ys ≡ putAt (set xs at (48 + n / 100)) (at + 1) ((48 + n % 100 / 10) ∷ (48 + n % 100 % 10) ∷ []) → ys ≡ putAt xs at (decimal n)
+put-3 xs ys at n h i e =
+    let z : n % 100 / 10 ≡ n / 10 % 10 = omega arith in
+    let w : n % 100 % 10 ≡ n % 10 = omega arith in
+    let d : (48 + n / 100) ∷ (48 + n % 100 / 10) ∷ (48 + n % 100 % 10) ∷ [] ≡ decimal n = rw (z, w) (sym (decimal-3 n h i)) in
+    e ∙ put-first xs at _ _ ∙ ap (putAt xs at) d
+
+pub put-4 : (xs ys : List ℕ) (at n : ℕ) → 1000 ≤ n → n < 10000 → ys ≡ putAt xs at ((48 + n / 1000) ∷ (48 + n / 100 % 10) ∷ (48 + n / 10 % 10) ∷ (48 + n % 10) ∷ []) → ys ≡ putAt xs at (decimal n)
+put-4 xs ys at n h i e = e ∙ ap (putAt xs at) (sym (decimal-4 n h i))
+
+pub put-5 : (xs ys : List ℕ) (at n m : ℕ) → 10000 ≤ n → n < 100000 → m ≡ n % 10000 → ys ≡ putAt (set xs at (48 + n / 10000)) (at + 1) ((48 + m / 1000) ∷ (48 + m / 100 % 10) ∷ (48 + m / 10 % 10) ∷ (48 + m % 10) ∷ [])
+    → ys ≡ putAt xs at (decimal n)
+put-5 xs ys at n m h i q e =
+    let z : m / 1000 ≡ n / 1000 % 10 = omega (arith, q) in
+    let w : m / 100 % 10 ≡ n / 100 % 10 = omega (arith, q) in
+    let v : m / 10 % 10 ≡ n / 10 % 10 = omega (arith, q) in
+    let u : m % 10 ≡ n % 10 = omega (arith, q) in
+    let d : (48 + n / 10000) ∷ (48 + m / 1000) ∷ (48 + m / 100 % 10) ∷ (48 + m / 10 % 10) ∷ (48 + m % 10) ∷ [] ≡ decimal n = rw (z, w, v, u) (sym (decimal-5 n h i)) in
+    e ∙ put-first xs at _ _ ∙ ap (putAt xs at) d
+
+-- four digits as two pairs
+pub put-pairs : (xs ys zs : List ℕ) (at n : ℕ) → n < 10000 → ys ≡ putAt xs at ((48 + n / 100 / 10) ∷ (48 + n / 100 % 10) ∷ []) → zs ≡ putAt ys (at + 2) ((48 + n % 100 / 10) ∷ (48 + n % 100 % 10) ∷ [])
+    → zs ≡ putAt xs at ((48 + n / 1000) ∷ (48 + n / 100 % 10) ∷ (48 + n / 10 % 10) ∷ (48 + n % 10) ∷ [])
+put-pairs xs ys zs at n h e f =
+    let z : n / 100 / 10 ≡ n / 1000 = omega arith in
+    let w : n % 100 / 10 ≡ n / 10 % 10 = omega arith in
+    let v : n % 100 % 10 ≡ n % 10 = omega arith in
+    let d : (48 + n / 100 / 10) ∷ (48 + n / 100 % 10) ∷ (48 + n % 100 / 10) ∷ (48 + n % 100 % 10) ∷ [] ≡ (48 + n / 1000) ∷ (48 + n / 100 % 10) ∷ (48 + n / 10 % 10) ∷ (48 + n % 10) ∷ [] = rw (z, w, v) in
+    behind-piece xs ys at (at + 2) ((48 + n / 100 / 10) ∷ (48 + n / 100 % 10) ∷ []) refl e zs ((48 + n % 100 / 10) ∷ (48 + n % 100 % 10) ∷ []) f ∙ ap (putAt xs at) d

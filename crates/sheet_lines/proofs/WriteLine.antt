@@ -8,8 +8,9 @@ use lib.Seq.{sets-eq, take-length, drop-length, drop-drop, length-take-le}
 use borrow.Rule.Slice.PartMut.{putMid, postOf, post-is}
 use Rattle.labels.proofs.Slices.{rest, rest-of}
 use Rattle.sheet_lines.specs.Sheets.{headOf, listed, fitting}
-use Rattle.sheet_lines.specs.Working.{putAt, putIfFits, placeBehind, endingIn, lineIn, lineBy, Standing, Known, Filled, Full}
+use Rattle.sheet_lines.specs.Working.{putAt, putIfFits, placeBehind, endingIn, lineIn, lineBy, Standing, Known, Filled, Full, turnOf}
 use Rattle.sheet_lines.specs.declared.point.Point.{Point}
+use Rattle.sheet_lines.specs.declared.point.Turn.{Turn}
 use Rattle.sheet_lines.proofs.Puts.{put-part, behind-piece, put-kept}
 use Rattle.sheet_lines.proofs.LineLaws.{length-head}
 use Rattle.sheet_lines.proofs.Filling.{filled-line, filled-stop}
@@ -112,10 +113,10 @@ pub line-some : (k : ℕ) (l r w f : List ℕ) (letter point n t : ℕ) → 1 �
 unfolding lineIn
 line-some k l r w f letter point n t = omega (arith, length-append (headOf point n letter) (endingIn k l r w f letter t), length-head point n letter)
 
--- by what the lines of a point share
-pub line-by : (k : ℕ) (l r w f : List ℕ) (p : Point) (n : ℕ) → lineIn k l r w f (p .letter) (p .number) n (n / p .after % p .ways) ≡ lineBy k l r w f p n
-unfolding lineBy
-line-by k l r w f p n = refl
+-- by what the lines of a point share, and the splitting's turn
+pub line-turn : (k : ℕ) (l r w f : List ℕ) (p : Point) (n : ℕ) (t : Turn) → t ≡ turnOf (p .ways) (p .after) n → lineIn k l r w f (p .letter) (p .number) n (t .number) ≡ lineBy k l r w f p n
+unfolding lineBy turnOf
+line-turn k l r w f p n t e = ap (λ (x : Turn). lineIn k l r w f (p .letter) (p .number) n (x .number)) e
 
 -- the next of some lines that an output is filled with: it fits, or it is the first that does not
 module _ (g : ℕ → List ℕ) (xs : List ℕ) (start i end : ℕ) (ys : List ℕ) (at j : ℕ) (f : Filled g xs start i end ys at j) (due : j < end) (line : List ℕ) (same : line ≡ g j)

@@ -5,7 +5,7 @@ use mathlib.Core.Logic.{_⊎_}
 use mathlib.Core.Bool.{cond}
 use mathlib.Core.List.{List, _++_}
 use lib.ListN.{length, getD, take, drop}
-use lib.Dec.{leb}
+use lib.Dec.{leb, ltb}
 use lib.Seq.{sets}
 use Rattle.labels.specs.declared.refusal.Check.the-variants.{Sound}
 use Rattle.formulas.specs.Formulas.{questionLimit, checkFormula}
@@ -13,6 +13,7 @@ use Rattle.splitting.specs.Splittings.{splittingsOf, splittingLimit, checkLog}
 use Rattle.splitting.specs.declared.count.Counted.{Counted}
 use Rattle.splitting.specs.declared.count.Counted.the-variants as count
 use Rattle.sheet_lines.specs.declared.point.Point.{Point}
+use Rattle.sheet_lines.specs.declared.point.Turn.{Turn}
 use Rattle.sheet_lines.specs.Sheets.{endingOf, headOf, lineOf, quotientAt, textAt, listed, bytesOf, fitting}
 
 -- bytes written over those of a list, from a place on
@@ -91,3 +92,13 @@ countedAs (count.Refused x) = 1
 -- the first n entries are 0
 unfoldable pub Forgotten : List ℕ → ℕ → Type 0
 Forgotten ends n = (t : ℕ) → t < n → getD ends t 0 ≡ 0
+
+-- the turn of splitting n: its number in the window, and how many splittings from it on have that number in turn
+unfoldable pub turnOf : ℕ → ℕ → ℕ → Turn
+turnOf ways after n = record { number = n / after % ways; left = after - n % after }
+
+-- the turn behind a turn
+unfoldable pub turnAfter : ℕ → ℕ → Turn → Turn
+turnAfter ways after t = cond (ltb 1 (t .left))
+    (record { number = t .number; left = t .left - 1 })
+    (cond (ltb (t .number + 1) ways) (record { number = t .number + 1; left = after }) (record { number = 0; left = after }))

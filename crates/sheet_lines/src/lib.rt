@@ -1,4 +1,5 @@
 // The lines of a sheet as bytes: document 01, "The casebook".
+mod copy;
 mod digits;
 mod ending;
 mod line;

@@ -1,17 +1,19 @@
 // One line of the sheet.
+use crate::copy::copy_behind;
 use crate::digits::digit_count;
 use crate::digits::put_decimal;
 use crate::ending::find_ending;
 use crate::point::Point;
 ghost use mathlib.Core.Path.{_≡_};
 ghost use mathlib.Core.List.{_++_};
-ghost use Prim.Native.Nat.{_+_, _/_, _%_, _≤_, _<_};
+ghost use Prim.Native.Nat.{_+_, _≤_, _<_};
 ghost use lib.ListN.{length, take, drop};
+ghost use lib.Dec.{ltb};
 ghost use Rattle.sheet_lines.specs.Sheets.{headOf};
 ghost use Rattle.sheet_lines.specs.Working.{putAt, putIfFits, placeBehind, endingIn, lineIn, Known, Scratch};
 
 // Writes the line of splitting `number` at a place, if it fits, and gives the place behind it, else the same place. The line ends as all do whose splitting
-// has the same number in the point's window: where such an ending stands in the output, it is copied from there.
+// has the same number t in the point's window: where such an ending stands in the output, it is copied from there.
 pub(crate) fn write_line<'a>(
     k: u8,
     left: &'a [u8],
@@ -20,6 +22,7 @@ pub(crate) fn write_line<'a>(
     question: &[u8],
     point: Point,
     number: usize,
+    t: usize,
     at: usize,
     out: &mut [u8],
     froms: &mut [usize; 65536],
@@ -28,15 +31,14 @@ pub(crate) fn write_line<'a>(
     ending: &mut [u8],
 ) -> usize
     requires { ⌜ (point .number < 100000) × (number < 100000) × (at ≤ length (now out)) ⌝ }
-    requires { ⌜ (0 < point .after) × (0 < point .ways) × (point .ways ≤ 65536) ⌝ }
+    requires { ⌜ (t < point .ways) × (point .ways ≤ 65536) ⌝ }
     requires { ⌜ Scratch (now froms) (now ends) (now text) (now ending) ⌝ }
     requires { ⌜ Known (endingIn k (now left) (now right) (now window) (now question) (point .letter)) (point .ways) (now froms) (now ends) (now out) at ⌝ }
-    ensures { λ r. ⌜ r ≡ placeBehind (lineIn k (now (left .entry)) (now (right .entry)) (now (window .entry)) (now (question .entry)) (point .letter) (point .number) number (number / point .after % point .ways)) (now (out .entry)) at ⌝ }
-    ensures { λ r. ⌜ now (out .exit) ≡ putIfFits (lineIn k (now (left .entry)) (now (right .entry)) (now (window .entry)) (now (question .entry)) (point .letter) (point .number) number (number / point .after % point .ways)) (now (out .entry)) at ⌝ }
+    ensures { λ r. ⌜ r ≡ placeBehind (lineIn k (now (left .entry)) (now (right .entry)) (now (window .entry)) (now (question .entry)) (point .letter) (point .number) number t) (now (out .entry)) at ⌝ }
+    ensures { λ r. ⌜ now (out .exit) ≡ putIfFits (lineIn k (now (left .entry)) (now (right .entry)) (now (window .entry)) (now (question .entry)) (point .letter) (point .number) number t) (now (out .entry)) at ⌝ }
     ensures { λ r. ⌜ Known (endingIn k (now (left .entry)) (now (right .entry)) (now (window .entry)) (now (question .entry)) (point .letter)) (point .ways) (now (froms .exit)) (now (ends .exit)) (now (out .exit)) r ⌝ }
     ensures { λ r. ⌜ Scratch (now (froms .exit)) (now (ends .exit)) (now (text .exit)) (now (ending .exit)) ⌝ }
 {
-    let t = number / point.after % point.ways;
     let end = ends[t];
     if end != 0 {
         let from = froms[t];
@@ -94,12 +96,23 @@ fn copy_line(
     if room < len {
         return at;
     }
-    if room - len < head_length(point, number) {
+    if lacks_room(point, number, room - len) {
         return at;
     }
     let to = put_head(point, number, at, out);
     copy_behind(out, from, len, to);
     to + len
+}
+
+// Whether the three first fields have no room in so many bytes. For 14 bytes no digits need be counted, and nearly all lines have them.
+fn lacks_room(point: Point, number: usize, room: usize) -> bool
+    requires { ⌜ (point .number < 100000) × (number < 100000) ⌝ }
+    ensures { λ r. ⌜ r ≡ ltb room (length (headOf (point .number) number (point .letter))) ⌝ }
+{
+    if 14 <= room {
+        return false;
+    }
+    room < head_length(point, number)
 }
 
 // How many bytes the three first fields have, each with the blank behind it.
@@ -113,6 +126,7 @@ fn head_length(point: Point, number: usize) -> usize
 
 // Writes the three first fields at a place, each with the blank behind it, and gives the place behind them.
 fn put_head(point: Point, number: usize, at: usize, out: &mut [u8]) -> usize
+    requires { ⌜ (point .number < 100000) × (number < 100000) ⌝ }
     requires { ⌜ at + length (headOf (point .number) number (point .letter)) ≤ length (now out) ⌝ }
     ensures { λ r. ⌜ r ≡ at + length (headOf (point .number) number (point .letter)) ⌝ }
     ensures { λ r. ⌜ now (out .exit) ≡ putAt (now (out .entry)) at (headOf (point .number) number (point .letter)) ⌝ }
@@ -124,16 +138,4 @@ fn put_head(point: Point, number: usize, at: usize, out: &mut [u8]) -> usize
     out[second + 1] = point.letter;
     out[second + 2] = b' ';
     second + 3
-}
-
-// Copies bytes of the output to a place behind them.
-fn copy_behind(out: &mut [u8], from: usize, len: usize, at: usize)
-    requires { ⌜ (from + len ≤ at) × (at + len ≤ length (now out)) ⌝ }
-    ensures { λ r. ⌜ now (out .exit) ≡ putAt (now (out .entry)) at (take len (drop from (now (out .entry)))) ⌝ }
-{
-    let mut i: usize = 0;
-    while i < len {
-        out[at + i] = out[from + i];
-        i += 1;
-    }
 }

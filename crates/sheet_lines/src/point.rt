@@ -12,7 +12,7 @@ ghost use Rattle.machines.specs.Joints.{jointOf};
 ghost use Rattle.splitting.specs.Splittings.{splittingsOf, splittingLimit, countOf};
 ghost use Rattle.formulas.specs.Backs.{backsOf};
 ghost use Rattle.sheet_lines.specs.Sheets.{letterOf, lineOf, listed, fitting};
-ghost use Rattle.sheet_lines.specs.Working.{Asked, Full, countedAs, Forgotten, Scratch, endingIn, lineBy, Known};
+ghost use Rattle.sheet_lines.specs.Working.{Asked, Full, countedAs, Forgotten, Scratch, endingIn, lineBy, Known, turnOf, turnAfter};
 
 // What the lines of a point share: the point's number, the joint verdict's letter, and how many splittings there are of its window, the steps before it by
 // which quotients differ, and of what follows it.
@@ -21,6 +21,12 @@ pub(crate) struct Point {
     pub letter: u8,
     pub ways: usize,
     pub after: usize,
+}
+
+// A splitting's number in the window, and how many splittings, from this one on, have it in turn.
+pub(crate) struct Turn {
+    pub number: usize,
+    pub left: usize,
 }
 
 // How far the lines of a point were written: the splitting whose line is due next, and its place in the output.
@@ -107,6 +113,9 @@ fn write_numbers<'a>(
     ensures { λ r. ⌜ Full (fitting (length (now (out .entry)) - at) (listed (lineBy k (now (left .entry)) (now (right .entry)) (now (window .entry)) (now (question .entry)) point) number (until - number))) (now (out .entry)) at number (now (out .exit)) (r .at) (r .number) ⌝ }
     ensures { λ r. ⌜ Scratch (now (froms .exit)) (now (ends .exit)) (now (text .exit)) (now (ending .exit)) ⌝ }
 {
+    let ways = point.ways;
+    let after = point.after;
+    let mut turn = first_turn(number, ways, after);
     let mut n = number;
     let mut to = at;
     while n < until {
@@ -118,6 +127,7 @@ fn write_numbers<'a>(
             question,
             point,
             n,
+            turn.number,
             to,
             out,
             froms,
@@ -130,8 +140,43 @@ fn write_numbers<'a>(
         }
         to = next;
         n += 1;
+        turn = next_turn(turn, ways, after);
     }
     Progress { number: n, at: to }
+}
+
+// The turn of splitting n: n / after % ways, and how far it is to the next one.
+fn first_turn(n: usize, ways: usize, after: usize) -> Turn
+    requires { ⌜ (0 < ways) × (0 < after) ⌝ }
+    ensures { λ r. ⌜ r ≡ turnOf ways after n ⌝ }
+{
+    Turn {
+        number: n / after % ways,
+        left: after - n % after,
+    }
+}
+
+// The turn of the next splitting, found without dividing.
+fn next_turn(turn: Turn, ways: usize, after: usize) -> Turn
+    requires { ⌜ (1 ≤ turn .left) × (turn .number < ways) ⌝ }
+    ensures { λ r. ⌜ r ≡ turnAfter ways after turn ⌝ }
+{
+    if 1 < turn.left {
+        return Turn {
+            number: turn.number,
+            left: turn.left - 1,
+        };
+    }
+    if turn.number + 1 < ways {
+        return Turn {
+            number: turn.number + 1,
+            left: after,
+        };
+    }
+    Turn {
+        number: 0,
+        left: after,
+    }
 }
 
 // Where the window of a point begins: so many steps before it, or where the run does.

@@ -11,7 +11,7 @@ use Rattle.sheet_lines.proofs.LineLaws.{length-head, head-put}
 use Rattle.sheet_lines.proofs.Puts.{put-kept, put-set-kept}
 
 put-decimal-requires : tie.Need-put-decimal-requires
-put-decimal-requires c κs = omega (arith, c .before .before .pre, length-head (c .before .before .args .point .number) (c .before .before .args .number) (c .before .before .args .point .letter))
+put-decimal-requires c κs = omega (arith, c .before .before .pre .0, c .before .before .pre .1, length-head (c .before .before .args .point .number) (c .before .before .args .number) (c .before .before .args .point .letter))
 
 slice-write-out : tie.Need-slice-write-out
 slice-write-out c = omega (arith, c .before .before .before .before .before .pre, length-head (c .before .before .before .before .before .args .point .number) (c .before .before .before .before .before .args .number) (c .before .before .before .before .before .args .point .letter), c .before .before .put-decimal .ensures .0)

@@ -1,7 +1,7 @@
-use Rattle.sheet_lines.proofs.line.copy_behind.Statement.{statement}
-use Rattle.sheet_lines.proofs.line.copy_behind.Tie as tie
-use Rattle.sheet_lines.proofs.line.copy_behind.Reads as reads
-use Rattle.sheet_lines.proofs.line.copy_behind.Lts as lts
+use Rattle.sheet_lines.proofs.copy.copy_few.Statement.{statement}
+use Rattle.sheet_lines.proofs.copy.copy_few.Tie as tie
+use Rattle.sheet_lines.proofs.copy.copy_few.Reads as reads
+use Rattle.sheet_lines.proofs.copy.copy_few.Lts as lts
 use Prim.Native.Nat.{_-_, _≤_}
 use mathlib.Core.Path.{_≡_, sym, _∙_, ap}
 use native.Mathlib.Omega.{arith}
@@ -45,8 +45,8 @@ same-length c = ap length (c .before .loop .inv .0) ∙ length-put _ _ _
 returns : tie.Need-returns Inv-loop μ-loop
 returns c = copied-all _ _ _ (c .before .before .args .from) (c .before .loop .i) (c .before .before .args .len) (omega (arith, c .before .loop .inv .1)) (c .before .loop .inv .0)
 
-pub copy-behind-spec : {M : Type 1} → statement M
-copy-behind-spec =
+pub copy-few-spec : {M : Type 1} → statement M
+copy-few-spec =
     tie.close
     (tie.spec
     Inv-loop
