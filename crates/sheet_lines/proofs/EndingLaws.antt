@@ -1,7 +1,6 @@
 -- The ending of a line, from what the quotient's call answers and writes.
-use Prim.Native.Nat.{ℕ, _+_, _*_, _/_, _≤_, _<_}
+use Prim.Native.Nat.{ℕ, _+_, _*_, _/_, _≤_}
 use mathlib.Core.Path.{_≡_, refl, sym, _∙_, ap}
-use mathlib.Core.Bool.{Bool, true, false}
 use mathlib.Core.List.{List, [], _∷_, _++_}
 use mathlib.Core.Option.{Option, none, some}
 use native.Mathlib.Omega.{arith}
@@ -19,7 +18,6 @@ use Rattle.labels.specs.declared.refusal.Check.the-variants as check
 use Rattle.labels.proofs.Refusals.{both-sound, unrefused}
 use Rattle.halves.specs.declared.side.Side.the-variants as side
 use Rattle.dividing.specs.Quotients.{nodesOf, textOf, checkSize, checkTree, written, answerOf, outputAfter}
-use Rattle.dividing.specs.declared.divide.Quotient.{Quotient}
 use Rattle.dividing.specs.declared.divide.Quotient.the-variants as quotient
 use Rattle.dividing.proofs.Answers.{text-length}
 use Rattle.quotient.specs.Calls.{treeByNumber, checkByNumber, byNumber, byNumberOutput}

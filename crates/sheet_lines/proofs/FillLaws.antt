@@ -13,7 +13,7 @@ use Rattle.splitting.specs.Splittings.{splittingsOf, splittingLimit}
 use Rattle.splitting.proofs.LogRuns.{sound-log}
 use Rattle.sheet_lines.specs.Sheets.{lineOf, listed, fitting}
 use Rattle.sheet_lines.specs.Working.{Numbered, numberedLine, Filled, Full}
-use Rattle.sheet_lines.proofs.Filling.{length-listed, kept, filled-point, full-point, filled-end}
+use Rattle.sheet_lines.proofs.Filling.{length-listed, filled-point, full-point, filled-end}
 
 -- what fits is no more than what is due
 pub fitting-few : (room : ℕ) (xs : List (List ℕ)) → length (fitting room xs) ≤ length xs

@@ -23,7 +23,7 @@ use Rattle.splitting.specs.declared.count.Counted.the-variants as count
 use Rattle.splitting.proofs.LogRuns.{sound-log}
 use Rattle.splitting.proofs.AllSplittings.{count-some}
 use Rattle.splitting.proofs.Outcomes.{count-answered}
-use Rattle.sheet_lines.specs.Sheets.{linesOf, refusedLine, countedLines, partsLines, readLines, sheetOf, listed, linesDue}
+use Rattle.sheet_lines.specs.Sheets.{refusedLine, countedLines, partsLines, readLines, sheetOf, listed, linesDue}
 use Rattle.sheet_lines.specs.Working.{Asked, Numbered, numberedLine}
 use Rattle.sheet_lines.proofs.SheetLines.{lines-numbered, due-listed, none-due}
 

@@ -1,7 +1,7 @@
 -- The lines of a point, from what they share.
-use Prim.Native.Nat.{ℕ, suc, _+_, _-_, _*_, _/_, _%_, _≤_, _<_}
-use mathlib.Core.Path.{_≡_, refl, sym, _∙_, ap, ap₂}
-use mathlib.Core.List.{List, []}
+use Prim.Native.Nat.{ℕ, _+_, _-_, _*_, _≤_, _<_}
+use mathlib.Core.Path.{_≡_, sym, _∙_, ap}
+use mathlib.Core.List.{List}
 use native.Mathlib.Omega.{arith}
 use lib.ListN.{length, take, drop}
 use borrow.Author.Tests.{le-ltb}
@@ -16,8 +16,8 @@ use Rattle.splitting.specs.Splittings.{splittingsOf, splittingLimit, checkLog, 
 use Rattle.splitting.proofs.LogRuns.{sound-log}
 use Rattle.quotient.specs.Windows.{windowOf, restOf}
 use Rattle.quotient.proofs.Windows.{Windowed, windowed}
-use Rattle.sheet_lines.specs.Sheets.{letterOf, lineOf, listed, fitting}
-use Rattle.sheet_lines.specs.Working.{Asked, countedAs, lineIn, lineBy, Full}
+use Rattle.sheet_lines.specs.Sheets.{letterOf, lineOf, listed}
+use Rattle.sheet_lines.specs.Working.{Asked, countedAs, lineBy}
 use Rattle.sheet_lines.specs.declared.point.Point.{Point}
 use Rattle.sheet_lines.proofs.Filling.{listed-agree}
 use Rattle.sheet_lines.proofs.WindowLines.{line-windowed}

@@ -4,7 +4,7 @@ use mathlib.Core.Path.{_≡_, refl, sym, _∙_, ap}
 use mathlib.Core.List.{List, [], _∷_, _++_}
 use native.Mathlib.Omega.{arith}
 use lib.ListN.{length, getD, set, take, drop, length-drop, length-set}
-use lib.Seq.{sets, length-sets, take-set-le, length-take-le, take-nil, drop-nil, getD-take, getD-drop, take-suc, take-length}
+use lib.Seq.{sets, length-sets, take-set-le, length-take-le, take-nil, getD-take, getD-drop, take-suc, take-length}
 use Rattle.sheet_lines.specs.Digits.{decimal, hexDigit, hexadecimal}
 use Rattle.sheet_lines.specs.Working.{putAt}
 use Rattle.sheet_lines.proofs.DigitLaws.{decimal-small, decimal-2, decimal-3, decimal-4, decimal-5, length-hexadecimal, hexadecimal-behind}

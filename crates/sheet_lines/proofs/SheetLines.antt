@@ -6,18 +6,17 @@ use mathlib.Core.List.{List, [], _∷_, _++_, append-nil}
 use native.Mathlib.Omega.{arith}
 use native.Mathlib.Nat.{zero-mul, suc-mul, mul-add-div-right, mul-add-mod-self-right, div-eq-of-lt, mod-eq-of-lt}
 use lib.ListN.{length, take, drop, length-append}
-use lib.Dec.{ltb, leb}
+use lib.Dec.{leb}
 use lib.Seq.{sets-eq, take-nil, drop-nil}
-use borrow.Author.Tests.{lt-ltb, le-ltb, le-leb, lt-leb, leb-true, leb-false}
+use borrow.Author.Tests.{lt-ltb, le-ltb, leb-true, leb-false}
 use Rattle.hml.specs.Lists.{each}
 use Rattle.hml.specs.System.{steps}
 use Rattle.machines.specs.Joints.{jointOf}
 use Rattle.labels.specs.declared.refusal.Refusal.the-variants.{OutputTooShort}
 use Rattle.sheet_lines.specs.Sheets.{lineOf, linesOf, listed, bytesOf, fitting, firstTooLong, checkRoom, writtenOr, blockAnswer, blockOutput}
 use Rattle.sheet_lines.specs.Working.{putAt, Full, numberedLine}
-use Rattle.sheet_lines.specs.declared.lines.Lines.{Lines}
 use Rattle.sheet_lines.specs.declared.lines.Lines.the-variants as answer
-use Rattle.sheet_lines.proofs.Filling.{listed-behind, listed-agree, length-listed, fitting-first, fitting-none}
+use Rattle.sheet_lines.proofs.Filling.{listed-behind, listed-agree, fitting-first, fitting-none}
 
 module _ {A : Type 0} (f : ℕ → ℕ → A) (c : ℕ) (some : 1 ≤ c) where
   -- what f gives by the quotient and the remainder

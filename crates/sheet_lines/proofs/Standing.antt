@@ -1,13 +1,13 @@
 -- Endings that stand in an output: what is known of them when a line is written behind.
-use Prim.Native.Nat.{ℕ, zero, suc, _+_, _-_, _≤_, _<_}
-use mathlib.Core.Path.{_≡_, refl, sym, _∙_, ap}
+use Prim.Native.Nat.{ℕ, _+_, _-_, _≤_, _<_}
+use mathlib.Core.Path.{_≡_, refl, _∙_, ap}
 use mathlib.Core.Logic.{_⊎_, inl, inr}
 use mathlib.Core.Bool.{Bool, true, false}
-use mathlib.Core.List.{List, [], _∷_, _++_, append-assoc}
+use mathlib.Core.List.{List, _++_, append-assoc}
 use native.Mathlib.Omega.{arith}
-use lib.ListN.{length, getD, set, take, drop, length-append, length-take}
+use lib.ListN.{length, getD, set, take, drop, length-append}
 use lib.Dec.{leb, eqb}
-use lib.Seq.{sets-eq, drop-at, take-at, drop-append-add, length-take-le, getD-set-same, getD-set-other}
+use lib.Seq.{sets-eq, drop-at, take-at, length-take-le, getD-set-same, getD-set-other}
 use borrow.Author.Tests.{le-leb, lt-leb, leb-true, leb-false, eqb-true, eqb-false}
 use Rattle.sheet_lines.specs.Working.{putAt, putIfFits, placeBehind, Standing, Known, Forgotten}
 use Rattle.sheet_lines.proofs.Puts.{put-part}

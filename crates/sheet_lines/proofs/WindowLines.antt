@@ -1,10 +1,9 @@
 -- A line of the sheet, by its window: the quotient is that by a splitting of the window (Windows of quotient), and the left half's verdict is the joint one
 -- (demand 3).
-use Prim.Native.Nat.{ℕ, _+_, _-_, _*_, _/_, _%_, _≤_, _<_}
+use Prim.Native.Nat.{ℕ, _+_, _-_, _/_, _%_, _≤_, _<_}
 use mathlib.Core.Path.{_≡_, refl, sym, _∙_, ap, ap₂}
 use mathlib.Core.Bool.{Bool, true, false}
 use mathlib.Core.List.{List, [], _++_}
-use mathlib.Core.Option.{some}
 use native.Mathlib.Nat.{mod-lt}
 use native.Mathlib.Omega.{arith}
 use lib.ListN.{length}
@@ -15,7 +14,6 @@ use Rattle.hml.specs.Formula.{size}
 use Rattle.hml.specs.Spell.{spell}
 use Rattle.hml.specs.Window.{backs}
 use Rattle.labels.specs.declared.refusal.Check.the-variants.{Sound}
-use Rattle.labels.specs.declared.refusal.Refusal.the-variants.{QuotientTooLarge}
 use Rattle.halves.specs.declared.side.Side.the-variants as side
 use Rattle.machines.specs.Joints.{jointOf}
 use Rattle.formulas.specs.Formulas.{formulaOf}
@@ -25,7 +23,6 @@ use Rattle.verdict.specs.Verdicts.{jointVerdict, halfVerdict}
 use Rattle.splitting.specs.Splittings.{splittingsOf, splittingLimit, leftHalf, rightHalf}
 use Rattle.splitting.proofs.LogRuns.{sound-log}
 use Rattle.dividing.specs.Quotients.{quotientLimit, textOf, answerOf}
-use Rattle.dividing.specs.declared.divide.Quotient.the-variants as quotient
 use Rattle.dividing.proofs.Answers.{text-length}
 use Rattle.quotient.specs.Calls.{treeByNumber, byNumber, byNumberOutput}
 use Rattle.quotient.specs.Windows.{windowOf, restOf}

@@ -1,5 +1,5 @@
 -- The cases of writing a line: it fits or not, and its ending stands in the output or is new.
-use Prim.Native.Nat.{ℕ, _+_, _-_, _/_, _%_, _≤_, _<_}
+use Prim.Native.Nat.{ℕ, _+_, _-_, _≤_, _<_}
 use mathlib.Core.Path.{_≡_, refl, sym, _∙_, ap, ap₂}
 use mathlib.Core.List.{List, [], _++_, append-nil, append-assoc}
 use native.Mathlib.Omega.{arith}
@@ -11,7 +11,7 @@ use Rattle.sheet_lines.specs.Sheets.{headOf, listed, fitting}
 use Rattle.sheet_lines.specs.Working.{putAt, putIfFits, placeBehind, endingIn, lineIn, lineBy, Standing, Known, Filled, Full, turnOf}
 use Rattle.sheet_lines.specs.declared.point.Point.{Point}
 use Rattle.sheet_lines.specs.declared.point.Turn.{Turn}
-use Rattle.sheet_lines.proofs.Puts.{put-part, behind-piece, put-kept}
+use Rattle.sheet_lines.proofs.Puts.{put-part, behind-piece}
 use Rattle.sheet_lines.proofs.LineLaws.{length-head}
 use Rattle.sheet_lines.proofs.Filling.{filled-line, filled-stop}
 use Rattle.sheet_lines.proofs.Standing.{fits-place, fits-put, stays-place, stays-put, moved-fits, stayed-not, known-line, known-read, known-new}

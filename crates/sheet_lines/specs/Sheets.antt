@@ -16,7 +16,6 @@ use Rattle.halves.specs.declared.side.Side.the-variants as side
 use Rattle.machines.specs.Joints.{jointOf}
 use Rattle.casebook.specs.Records.{bodyOf}
 use Rattle.casebook.specs.Reading.{readOf}
-use Rattle.casebook.specs.declared.read.Parts.{Parts}
 use Rattle.casebook.specs.declared.read.Reading.{Reading}
 use Rattle.casebook.specs.declared.read.Reading.the-variants as reading
 use Rattle.verdict.specs.Verdicts.{jointVerdict, halfVerdict}

@@ -1,10 +1,6 @@
 use borrow.Author.Needs.{needs}
 use Rattle.sheet.proofs.print_block.Statement.{statement}
 use Rattle.sheet.proofs.print_block.Tie as tie
-use Rattle.sheet.proofs.print_block.Reads as reads
-use Rattle.sheet.proofs.print_block.Lts as lts
-use Rattle.io.proofs.write_all.Reads as write-all-reads
-use Rattle.sheet_lines.proofs.lines.write_lines.Reads as write-lines-reads
 use mathlib.Core.Path.{sym, _∙_}
 use native.Mathlib.Omega.{arith}
 use lib.Seq.{length-take-le}

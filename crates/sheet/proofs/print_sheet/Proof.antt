@@ -1,9 +1,6 @@
 use borrow.Author.Needs.{needs}
 use Rattle.sheet.proofs.print_sheet.Statement.{statement}
 use Rattle.sheet.proofs.print_sheet.Tie as tie
-use Rattle.sheet.proofs.print_sheet.Reads as reads
-use Rattle.sheet.proofs.print_sheet.Lts as lts
-use Rattle.sheet.proofs.print_block.Reads as print-block-reads
 use Prim.Native.Nat.{_+_, _-_, _≤_}
 use mathlib.Core.Path.{_≡_, refl, _∙_}
 use native.Mathlib.Omega.{arith}

@@ -1,9 +1,5 @@
 use Rattle.sheet_lines.proofs.copy.copy_behind.Statement.{statement}
 use Rattle.sheet_lines.proofs.copy.copy_behind.Tie as tie
-use Rattle.sheet_lines.proofs.copy.copy_behind.Reads as reads
-use Rattle.sheet_lines.proofs.copy.copy_behind.Lts as lts
-use Rattle.sheet_lines.proofs.copy.copy_eight.Reads as copy-eight-reads
-use Rattle.sheet_lines.proofs.copy.copy_few.Reads as copy-few-reads
 use Prim.Native.Nat.{_-_, _≤_}
 use mathlib.Core.Path.{_≡_, refl, _∙_}
 use native.Mathlib.Omega.{arith}

@@ -1,8 +1,6 @@
 use borrow.Author.Needs.{needs}
 use Rattle.sheet_lines.proofs.copy.copy_eight.Statement.{statement}
 use Rattle.sheet_lines.proofs.copy.copy_eight.Tie as tie
-use Rattle.sheet_lines.proofs.copy.copy_eight.Reads as reads
-use Rattle.sheet_lines.proofs.copy.copy_eight.Lts as lts
 use native.Mathlib.Omega.{arith}
 use lib.ListN.{length-set}
 use Rattle.sheet_lines.proofs.CopyLaws.{copied-eight}

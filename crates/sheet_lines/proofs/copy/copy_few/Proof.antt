@@ -1,11 +1,9 @@
 use Rattle.sheet_lines.proofs.copy.copy_few.Statement.{statement}
 use Rattle.sheet_lines.proofs.copy.copy_few.Tie as tie
-use Rattle.sheet_lines.proofs.copy.copy_few.Reads as reads
-use Rattle.sheet_lines.proofs.copy.copy_few.Lts as lts
 use Prim.Native.Nat.{_-_, _≤_}
-use mathlib.Core.Path.{_≡_, sym, _∙_, ap}
+use mathlib.Core.Path.{_≡_, _∙_, ap}
 use native.Mathlib.Omega.{arith}
-use lib.ListN.{length, length-set, take, drop}
+use lib.ListN.{length, take, drop}
 use Rattle.sheet_lines.specs.Working.{putAt}
 use Rattle.sheet_lines.proofs.Puts.{length-put, copied-none, copied-more, copied-all}
 

@@ -1,7 +1,5 @@
 use Rattle.sheet_lines.proofs.digits.digit_count.Statement.{statement}
 use Rattle.sheet_lines.proofs.digits.digit_count.Tie as tie
-use Rattle.sheet_lines.proofs.digits.digit_count.Reads as reads
-use Rattle.sheet_lines.proofs.digits.digit_count.Lts as lts
 use mathlib.Core.Path.{sym}
 use native.Mathlib.Omega.{arith}
 use Rattle.sheet_lines.proofs.DigitLaws.{count-small, count-2, count-3, count-4, count-5}

@@ -1,8 +1,6 @@
 use borrow.Author.Needs.{needs}
 use Rattle.sheet_lines.proofs.digits.hex_digit.Statement.{statement}
 use Rattle.sheet_lines.proofs.digits.hex_digit.Tie as tie
-use Rattle.sheet_lines.proofs.digits.hex_digit.Reads as reads
-use Rattle.sheet_lines.proofs.digits.hex_digit.Lts as lts
 use native.Mathlib.Omega.{arith}
 use Rattle.sheet_lines.proofs.DigitLaws.{hex-low, hex-high}
 

@@ -1,10 +1,6 @@
 use borrow.Author.Needs.{needs}
 use Rattle.sheet_lines.proofs.digits.put_decimal.Statement.{statement}
 use Rattle.sheet_lines.proofs.digits.put_decimal.Tie as tie
-use Rattle.sheet_lines.proofs.digits.put_decimal.Reads as reads
-use Rattle.sheet_lines.proofs.digits.put_decimal.Lts as lts
-use Rattle.sheet_lines.proofs.digits.put_four.Reads as put-four-reads
-use Rattle.sheet_lines.proofs.digits.put_two.Reads as put-two-reads
 use Prim.Native.Nat.{_+_, _/_}
 use mathlib.Core.Path.{refl}
 use native.Mathlib.Omega.{arith}

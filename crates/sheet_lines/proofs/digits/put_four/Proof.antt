@@ -1,9 +1,6 @@
 use borrow.Author.Needs.{needs}
 use Rattle.sheet_lines.proofs.digits.put_four.Statement.{statement}
 use Rattle.sheet_lines.proofs.digits.put_four.Tie as tie
-use Rattle.sheet_lines.proofs.digits.put_four.Reads as reads
-use Rattle.sheet_lines.proofs.digits.put_four.Lts as lts
-use Rattle.sheet_lines.proofs.digits.put_two.Reads as put-two-reads
 use native.Mathlib.Omega.{arith}
 use Rattle.sheet_lines.proofs.Puts.{put-pairs}
 

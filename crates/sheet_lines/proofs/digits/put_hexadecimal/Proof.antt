@@ -1,15 +1,12 @@
 use Rattle.sheet_lines.proofs.digits.put_hexadecimal.Statement.{statement}
 use Rattle.sheet_lines.proofs.digits.put_hexadecimal.Tie as tie
-use Rattle.sheet_lines.proofs.digits.put_hexadecimal.Reads as reads
-use Rattle.sheet_lines.proofs.digits.put_hexadecimal.Lts as lts
-use Rattle.sheet_lines.proofs.digits.hex_digit.Reads as hex-digit-reads
-use Prim.Native.Nat.{_+_, _-_, _*_, _≤_}
-use mathlib.Core.Path.{_≡_, refl, sym, _∙_, ap}
+use Prim.Native.Nat.{_-_, _≤_}
+use mathlib.Core.Path.{_≡_, refl}
 use native.Mathlib.Omega.{arith}
 use lib.ListN.{length, length-set, take}
 use Rattle.sheet_lines.specs.Digits.{hexadecimal}
 use Rattle.sheet_lines.specs.Working.{putAt}
-use Rattle.sheet_lines.proofs.Puts.{length-put, hex-none, hex-more, hex-all}
+use Rattle.sheet_lines.proofs.Puts.{hex-none, hex-more, hex-all}
 
 abbrev Inv-loop : tie.InvT-loop
 Inv-loop out₀ at bytes i₀ out i = (out ≡ putAt out₀ at (hexadecimal (take i bytes))) × (length out ≡ length out₀) × (i ≤ length bytes)

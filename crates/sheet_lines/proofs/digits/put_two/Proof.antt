@@ -1,8 +1,6 @@
 use borrow.Author.Needs.{needs}
 use Rattle.sheet_lines.proofs.digits.put_two.Statement.{statement}
 use Rattle.sheet_lines.proofs.digits.put_two.Tie as tie
-use Rattle.sheet_lines.proofs.digits.put_two.Reads as reads
-use Rattle.sheet_lines.proofs.digits.put_two.Lts as lts
 use native.Mathlib.Omega.{arith}
 use lib.ListN.{length-set}
 use Rattle.sheet_lines.proofs.Puts.{put-two}

@@ -1,11 +1,6 @@
 use borrow.Author.Needs.{needs}
 use Rattle.sheet_lines.proofs.ending.find_ending.Statement.{statement}
 use Rattle.sheet_lines.proofs.ending.find_ending.Tie as tie
-use Rattle.sheet_lines.proofs.ending.find_ending.Reads as reads
-use Rattle.sheet_lines.proofs.ending.find_ending.Lts as lts
-use Rattle.quotient.proofs.number.by_number.Reads as by-number-reads
-use Rattle.sheet_lines.proofs.ending.put_fields.Reads as put-fields-reads
-use Rattle.sheet_lines.proofs.ending.put_refusal.Reads as put-refusal-reads
 use mathlib.Core.Path.{sym, _∙_}
 use native.Mathlib.Omega.{arith}
 use lib.ListN.{length-take}

@@ -1,10 +1,6 @@
 use borrow.Author.Needs.{needs}
 use Rattle.sheet_lines.proofs.ending.put_fields.Statement.{statement}
 use Rattle.sheet_lines.proofs.ending.put_fields.Tie as tie
-use Rattle.sheet_lines.proofs.ending.put_fields.Reads as reads
-use Rattle.sheet_lines.proofs.ending.put_fields.Lts as lts
-use Rattle.sheet_lines.proofs.digits.put_hexadecimal.Reads as put-hexadecimal-reads
-use mathlib.Core.Path.{_∙_, ap}
 use native.Mathlib.Omega.{arith}
 use lib.ListN.{length-set}
 use Rattle.sheet_lines.proofs.DigitLaws.{length-hexadecimal}

@@ -1,14 +1,8 @@
 use borrow.Author.Needs.{needs}
 use Rattle.sheet_lines.proofs.ending.put_refusal.Statement.{statement}
 use Rattle.sheet_lines.proofs.ending.put_refusal.Tie as tie
-use Rattle.sheet_lines.proofs.ending.put_refusal.Reads as reads
-use Rattle.sheet_lines.proofs.ending.put_refusal.Lts as lts
-use Rattle.labels.proofs.refusal.Refusal.number.Reads as number-reads
-use Rattle.sheet_lines.proofs.digits.put_decimal.Reads as put-decimal-reads
-use mathlib.Core.Path.{_∙_, ap}
 use native.Mathlib.Omega.{arith}
-use lib.ListN.{length, length-set}
-use Rattle.sheet_lines.specs.Digits.{decimal}
+use lib.ListN.{length-set}
 use Rattle.sheet_lines.proofs.Puts.{behind-three}
 use Rattle.sheet_lines.proofs.LineLaws.{number-small, digits-two}
 

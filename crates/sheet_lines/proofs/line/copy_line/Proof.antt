@@ -1,11 +1,6 @@
 use borrow.Author.Needs.{needs}
 use Rattle.sheet_lines.proofs.line.copy_line.Statement.{statement}
 use Rattle.sheet_lines.proofs.line.copy_line.Tie as tie
-use Rattle.sheet_lines.proofs.line.copy_line.Reads as reads
-use Rattle.sheet_lines.proofs.line.copy_line.Lts as lts
-use Rattle.sheet_lines.proofs.copy.copy_behind.Reads as copy-behind-reads
-use Rattle.sheet_lines.proofs.line.lacks_room.Reads as lacks-room-reads
-use Rattle.sheet_lines.proofs.line.put_head.Reads as put-head-reads
 use Prim.Native.Nat.{_-_}
 use mathlib.Core.Path.{sym, _∙_}
 use native.Mathlib.Omega.{arith}

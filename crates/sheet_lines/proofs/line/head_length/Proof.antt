@@ -1,10 +1,6 @@
 use borrow.Author.Needs.{needs}
 use Rattle.sheet_lines.proofs.line.head_length.Statement.{statement}
 use Rattle.sheet_lines.proofs.line.head_length.Tie as tie
-use Rattle.sheet_lines.proofs.line.head_length.Reads as reads
-use Rattle.sheet_lines.proofs.line.head_length.Lts as lts
-use Rattle.sheet_lines.proofs.digits.digit_count.Reads as digit-count-reads
-use mathlib.Core.Path.{_∙_}
 use native.Mathlib.Omega.{arith}
 use Rattle.sheet_lines.proofs.LineLaws.{length-head}
 

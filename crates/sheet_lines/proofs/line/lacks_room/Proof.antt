@@ -1,9 +1,6 @@
 use borrow.Author.Needs.{needs}
 use Rattle.sheet_lines.proofs.line.lacks_room.Statement.{statement}
 use Rattle.sheet_lines.proofs.line.lacks_room.Tie as tie
-use Rattle.sheet_lines.proofs.line.lacks_room.Reads as reads
-use Rattle.sheet_lines.proofs.line.lacks_room.Lts as lts
-use Rattle.sheet_lines.proofs.line.head_length.Reads as head-length-reads
 use mathlib.Core.Path.{ap}
 use native.Mathlib.Omega.{arith}
 use lib.Dec.{ltb}

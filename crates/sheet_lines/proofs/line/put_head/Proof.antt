@@ -1,12 +1,9 @@
 use Rattle.sheet_lines.proofs.line.put_head.Statement.{statement}
 use Rattle.sheet_lines.proofs.line.put_head.Tie as tie
-use Rattle.sheet_lines.proofs.line.put_head.Reads as reads
-use Rattle.sheet_lines.proofs.line.put_head.Lts as lts
-use Rattle.sheet_lines.proofs.digits.put_decimal.Reads as put-decimal-reads
-use mathlib.Core.Path.{_∙_, ap}
+use mathlib.Core.Path.{_∙_}
 use native.Mathlib.Omega.{arith}
 use Prim.Native.Nat.{_+_}
-use lib.ListN.{length, length-set}
+use lib.ListN.{length-set}
 use Rattle.sheet_lines.proofs.LineLaws.{length-head, head-put}
 use Rattle.sheet_lines.proofs.Puts.{put-kept, put-set-kept}
 

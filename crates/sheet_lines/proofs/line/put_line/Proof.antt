@@ -1,13 +1,7 @@
 use borrow.Author.Needs.{needs}
 use Rattle.sheet_lines.proofs.line.put_line.Statement.{statement}
 use Rattle.sheet_lines.proofs.line.put_line.Tie as tie
-use Rattle.sheet_lines.proofs.line.put_line.Reads as reads
-use Rattle.sheet_lines.proofs.line.put_line.Lts as lts
-use Rattle.bytes.proofs.copy.Reads as copy-reads
-use Rattle.sheet_lines.proofs.line.head_length.Reads as head-length-reads
-use Rattle.sheet_lines.proofs.line.put_head.Reads as put-head-reads
 use native.Mathlib.Omega.{arith}
-use lib.ListN.{length}
 use Rattle.sheet_lines.specs.Sheets.{headOf}
 use Rattle.sheet_lines.proofs.Puts.{put-kept}
 use Rattle.sheet_lines.proofs.WriteLine.{line-stays, line-put, rest-copied}

@@ -1,14 +1,9 @@
 use borrow.Author.Needs.{needs}
 use Rattle.sheet_lines.proofs.line.write_line.Statement.{statement}
 use Rattle.sheet_lines.proofs.line.write_line.Tie as tie
-use Rattle.sheet_lines.proofs.line.write_line.Reads as reads
-use Rattle.sheet_lines.proofs.line.write_line.Lts as lts
-use Rattle.sheet_lines.proofs.ending.find_ending.Reads as find-ending-reads
-use Rattle.sheet_lines.proofs.line.copy_line.Reads as copy-line-reads
-use Rattle.sheet_lines.proofs.line.put_line.Reads as put-line-reads
-use mathlib.Core.Path.{_≡_, sym, _∙_, ap}
+use mathlib.Core.Path.{sym, _∙_}
 use native.Mathlib.Omega.{arith}
-use lib.ListN.{length, length-take, length-set}
+use lib.ListN.{length-take, length-set}
 use lib.Seq.{length-take-le}
 use Rattle.sheet_lines.proofs.WriteLine.{standing-within, copied-line, unfit-line, ending-behind, new-line}
 

@@ -1,13 +1,8 @@
 use borrow.Author.Needs.{needs}
 use Rattle.sheet_lines.proofs.lines.fill.Statement.{statement}
 use Rattle.sheet_lines.proofs.lines.fill.Tie as tie
-use Rattle.sheet_lines.proofs.lines.fill.Reads as reads
-use Rattle.sheet_lines.proofs.lines.fill.Lts as lts
-use Rattle.formulas.proofs.backs.back_depth.Reads as back-depth-reads
-use Rattle.sheet_lines.proofs.lines.smaller.Reads as smaller-reads
-use Rattle.sheet_lines.proofs.point.write_point.Reads as write-point-reads
 use Prim.Native.Nat.{_+_, _-_, _<_}
-use mathlib.Core.Path.{_≡_, refl, sym, _∙_}
+use mathlib.Core.Path.{refl, sym, _∙_}
 use native.Mathlib.Omega.{arith}
 use native.Mathlib.Nat.{mod-lt}
 use Rattle.sheet_lines.specs.Working.{Filled, Scratch, numberedLine}

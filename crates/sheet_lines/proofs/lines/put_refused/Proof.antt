@@ -1,10 +1,6 @@
 use borrow.Author.Needs.{needs}
 use Rattle.sheet_lines.proofs.lines.put_refused.Statement.{statement}
 use Rattle.sheet_lines.proofs.lines.put_refused.Tie as tie
-use Rattle.sheet_lines.proofs.lines.put_refused.Reads as reads
-use Rattle.sheet_lines.proofs.lines.put_refused.Lts as lts
-use Rattle.labels.proofs.refusal.Refusal.number.Reads as number-reads
-use Rattle.sheet_lines.proofs.digits.put_decimal.Reads as put-decimal-reads
 use native.Mathlib.Omega.{arith}
 use mathlib.Core.Path.{ap, _∙_}
 use lib.ListN.{length, set, length-set}

@@ -1,15 +1,11 @@
 use borrow.Author.Needs.{needs}
 use Rattle.sheet_lines.proofs.lines.refused_length.Statement.{statement}
 use Rattle.sheet_lines.proofs.lines.refused_length.Tie as tie
-use Rattle.sheet_lines.proofs.lines.refused_length.Reads as reads
-use Rattle.sheet_lines.proofs.lines.refused_length.Lts as lts
-use Rattle.labels.proofs.refusal.Refusal.number.Reads as number-reads
-use Rattle.sheet_lines.proofs.digits.digit_count.Reads as digit-count-reads
 use native.Mathlib.Omega.{arith}
-use mathlib.Core.Path.{sym, _∙_, ap}
+use mathlib.Core.Path.{ap}
 use lib.ListN.{length}
 use Rattle.sheet_lines.specs.Digits.{decimal}
-use Rattle.sheet_lines.proofs.LineLaws.{length-refused, number-small}
+use Rattle.sheet_lines.proofs.LineLaws.{length-refused}
 
 number-requires : tie.Need-number-requires
 number-requires c κs = search needs

@@ -1,12 +1,6 @@
 use borrow.Author.Needs.{needs}
 use Rattle.sheet_lines.proofs.lines.write_lines.Statement.{statement}
 use Rattle.sheet_lines.proofs.lines.write_lines.Tie as tie
-use Rattle.sheet_lines.proofs.lines.write_lines.Reads as reads
-use Rattle.sheet_lines.proofs.lines.write_lines.Lts as lts
-use Rattle.casebook.proofs.read.read.Reads as read-reads
-use Rattle.casebook.proofs.record.Record.body.Reads as body-reads
-use Rattle.sheet_lines.proofs.lines.write_parts.Reads as write-parts-reads
-use Rattle.sheet_lines.proofs.lines.write_refused.Reads as write-refused-reads
 use mathlib.Core.Path.{sym, _∙_, ap}
 use lib.ListN.{length}
 use Rattle.sheet_lines.specs.Sheets.{blockAnswer, blockOutput}

@@ -1,16 +1,10 @@
 use borrow.Author.Needs.{needs}
 use Rattle.sheet_lines.proofs.lines.write_parts.Statement.{statement}
 use Rattle.sheet_lines.proofs.lines.write_parts.Tie as tie
-use Rattle.sheet_lines.proofs.lines.write_parts.Reads as reads
-use Rattle.sheet_lines.proofs.lines.write_parts.Lts as lts
-use Rattle.sheet_lines.proofs.lines.smaller.Reads as smaller-reads
-use Rattle.sheet_lines.proofs.lines.write_refused.Reads as write-refused-reads
-use Rattle.sheet_lines.proofs.lines.write_sheet.Reads as write-sheet-reads
-use Rattle.splitting.proofs.count.count.Reads as count-reads
 use mathlib.Core.Path.{refl, sym, _∙_, ap}
 use Prim.Native.Nat.{_*_}
 use native.Mathlib.Omega.{arith}
-use lib.ListN.{length, take, drop}
+use lib.ListN.{length}
 use Rattle.sheet_lines.specs.Sheets.{blockAnswer, blockOutput}
 use Rattle.sheet_lines.proofs.SheetLines.{nothing-answer, nothing-output}
 use Rattle.sheet_lines.proofs.FillLaws.{sheet-small}

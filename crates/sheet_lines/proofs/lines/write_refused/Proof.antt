@@ -1,13 +1,8 @@
 use borrow.Author.Needs.{needs}
 use Rattle.sheet_lines.proofs.lines.write_refused.Statement.{statement}
 use Rattle.sheet_lines.proofs.lines.write_refused.Tie as tie
-use Rattle.sheet_lines.proofs.lines.write_refused.Reads as reads
-use Rattle.sheet_lines.proofs.lines.write_refused.Lts as lts
-use Rattle.sheet_lines.proofs.lines.put_refused.Reads as put-refused-reads
-use Rattle.sheet_lines.proofs.lines.refused_length.Reads as refused-length-reads
-use mathlib.Core.Path.{refl, sym, _∙_, ap}
 use native.Mathlib.Omega.{arith}
-use Rattle.sheet_lines.specs.Sheets.{blockAnswer, blockOutput, refusedLine}
+use Rattle.sheet_lines.specs.Sheets.{refusedLine}
 use Rattle.sheet_lines.proofs.LineLaws.{none-first, none-most, one-due}
 use Rattle.sheet_lines.proofs.SheetLines.{nothing-answer, nothing-output, refused-short, refused-block}
 

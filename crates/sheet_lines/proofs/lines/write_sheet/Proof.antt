@@ -1,12 +1,7 @@
 use borrow.Author.Needs.{needs}
 use Rattle.sheet_lines.proofs.lines.write_sheet.Statement.{statement}
 use Rattle.sheet_lines.proofs.lines.write_sheet.Tie as tie
-use Rattle.sheet_lines.proofs.lines.write_sheet.Reads as reads
-use Rattle.sheet_lines.proofs.lines.write_sheet.Lts as lts
-use Rattle.sheet_lines.proofs.lines.fill.Reads as fill-reads
 use Rattle.sheet_lines.proofs.SheetLines.{unfilled-answer, unfilled-output, filled-answer, filled-output}
-use Rattle.sheet_lines.specs.Working.{numberedLine}
-use native.Mathlib.Omega.{arith}
 
 fill-requires : tie.Need-fill-requires
 fill-requires c κs = search needs

@@ -1,8 +1,6 @@
 use borrow.Author.Needs.{needs}
 use Rattle.sheet_lines.proofs.point.first_turn.Statement.{statement}
 use Rattle.sheet_lines.proofs.point.first_turn.Tie as tie
-use Rattle.sheet_lines.proofs.point.first_turn.Reads as reads
-use Rattle.sheet_lines.proofs.point.first_turn.Lts as lts
 use native.Mathlib.Nat.{mod-lt}
 use native.Mathlib.Omega.{arith}
 use Rattle.sheet_lines.proofs.Turns.{turn-is}

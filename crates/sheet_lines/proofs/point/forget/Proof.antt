@@ -1,7 +1,5 @@
 use Rattle.sheet_lines.proofs.point.forget.Statement.{statement}
 use Rattle.sheet_lines.proofs.point.forget.Tie as tie
-use Rattle.sheet_lines.proofs.point.forget.Reads as reads
-use Rattle.sheet_lines.proofs.point.forget.Lts as lts
 use Prim.Native.Nat.{_-_, _≤_}
 use mathlib.Core.Path.{_≡_, _∙_}
 use native.Mathlib.Omega.{arith}

@@ -1,8 +1,6 @@
 use borrow.Author.Needs.{needs}
 use Rattle.sheet_lines.proofs.point.letter_of.Statement.{statement}
 use Rattle.sheet_lines.proofs.point.letter_of.Tie as tie
-use Rattle.sheet_lines.proofs.point.letter_of.Reads as reads
-use Rattle.sheet_lines.proofs.point.letter_of.Lts as lts
 use Rattle.sheet_lines.proofs.PointLaws.{letter-holds, letter-fails, letter-refused}
 
 enum-told : tie.Need-enum-told

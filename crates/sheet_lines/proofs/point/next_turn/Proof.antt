@@ -1,8 +1,6 @@
 use borrow.Author.Needs.{needs}
 use Rattle.sheet_lines.proofs.point.next_turn.Statement.{statement}
 use Rattle.sheet_lines.proofs.point.next_turn.Tie as tie
-use Rattle.sheet_lines.proofs.point.next_turn.Reads as reads
-use Rattle.sheet_lines.proofs.point.next_turn.Lts as lts
 use native.Mathlib.Omega.{arith}
 use Rattle.sheet_lines.proofs.Turns.{turn-goes-on, turn-next-way, turn-first-way}
 

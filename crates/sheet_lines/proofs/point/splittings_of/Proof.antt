@@ -1,9 +1,6 @@
 use borrow.Author.Needs.{needs}
 use Rattle.sheet_lines.proofs.point.splittings_of.Statement.{statement}
 use Rattle.sheet_lines.proofs.point.splittings_of.Tie as tie
-use Rattle.sheet_lines.proofs.point.splittings_of.Reads as reads
-use Rattle.sheet_lines.proofs.point.splittings_of.Lts as lts
-use Rattle.splitting.proofs.count.count.Reads as count-reads
 use mathlib.Core.Path.{sym, _∙_}
 use Rattle.sheet_lines.proofs.PointLaws.{counted-splittings, counted-refused}
 

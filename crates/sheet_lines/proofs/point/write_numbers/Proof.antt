@@ -1,16 +1,11 @@
 use Rattle.sheet_lines.proofs.point.write_numbers.Statement.{statement}
 use Rattle.sheet_lines.proofs.point.write_numbers.Tie as tie
-use Rattle.sheet_lines.proofs.point.write_numbers.Reads as reads
-use Rattle.sheet_lines.proofs.point.write_numbers.Lts as lts
-use Rattle.sheet_lines.proofs.line.write_line.Reads as write-line-reads
-use Rattle.sheet_lines.proofs.point.first_turn.Reads as first-turn-reads
-use Rattle.sheet_lines.proofs.point.next_turn.Reads as next-turn-reads
-use Prim.Native.Nat.{_+_, _-_}
+use Prim.Native.Nat.{_-_}
 use mathlib.Core.Path.{_≡_, sym, _∙_, ap}
 use native.Mathlib.Omega.{arith}
 use Rattle.sheet_lines.specs.Working.{Filled, Known, Scratch, endingIn, lineBy, turnOf, turnAfter}
 use Rattle.sheet_lines.proofs.Filling.{kept, filled-none, filled-end}
-use Rattle.sheet_lines.proofs.Turns.{turn-within, turn-next, turn-kept}
+use Rattle.sheet_lines.proofs.Turns.{turn-next, turn-kept}
 use Rattle.sheet_lines.proofs.WriteLine.{line-some, line-turn, filled-next, filled-last}
 
 abbrev Inv-loop : tie.InvT-loop

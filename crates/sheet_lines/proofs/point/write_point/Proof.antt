@@ -1,20 +1,10 @@
 use borrow.Author.Needs.{needs}
 use Rattle.sheet_lines.proofs.point.write_point.Statement.{statement}
 use Rattle.sheet_lines.proofs.point.write_point.Tie as tie
-use Rattle.sheet_lines.proofs.point.write_point.Reads as reads
-use Rattle.sheet_lines.proofs.point.write_point.Lts as lts
-use Rattle.sheet_lines.proofs.point.forget.Reads as forget-reads
-use Rattle.sheet_lines.proofs.point.letter_of.Reads as letter-of-reads
-use Rattle.sheet_lines.proofs.point.splittings_of.Reads as splittings-of-reads
-use Rattle.sheet_lines.proofs.point.window_start.Reads as window-start-reads
-use Rattle.sheet_lines.proofs.point.write_numbers.Reads as write-numbers-reads
-use Rattle.verdict.proofs.joint.joint.Reads as joint-reads
-use Prim.Native.Nat.{_-_, _≤_, _<_}
-use mathlib.Core.Path.{sym, _∙_, ap}
+use Prim.Native.Nat.{_-_, _<_}
+use mathlib.Core.Path.{_∙_, ap}
 use native.Mathlib.Omega.{arith}
-use lib.ListN.{length}
-use Rattle.sheet_lines.specs.Sheets.{letterOf, fitting}
-use Rattle.sheet_lines.specs.Working.{Full}
+use Rattle.sheet_lines.specs.Sheets.{letterOf}
 use Rattle.sheet_lines.proofs.Standing.{known-forgotten}
 use Rattle.sheet_lines.proofs.PointLines.{window-part, rest-part, point-bytes, point-numbers, point-lines, numbers-few}
 
