@@ -8,8 +8,8 @@ ghost use Prim.Native.Nat.{_+_, _≤_};
 ghost use lib.ListN.{length};
 ghost use Rattle.sheet_lines.specs.Sheets.{sheetOf};
 
-// A sound casebook has at most 3,825 bytes, so one byte more is enough to judge any input. A sheet is printed in blocks of 512 KiB, or as many whole lines
-// as fit into one.
+// A sound casebook has at most 3,825 bytes, so one byte more is enough to judge any input. A sheet is printed in blocks: as many whole lines
+// as fit into 4 MiB.
 fn main() {
     let mut input = [0u8; 3826];
     let n = io::read_full(STDIN_FILENO, &mut input);
@@ -34,7 +34,8 @@ fn print_sheet(casebook: &[u8], out: &mut [u8]) {
     }
 }
 
-// Prints lines from line `first` on, as many as fit into the output, and gives how many; 0 if none is left, or if they could not be printed.
+// Prints lines from line `first` on, as many as fit into the output, and gives how many; 0 if none is left, or if they could not be printed. No sheet has
+// over 13,172,535 lines: 201 points, and 65,535 splittings.
 fn print_block(casebook: &[u8], first: usize, out: &mut [u8]) -> usize
     requires { ⌜ first ≤ length (sheetOf (now casebook)) ⌝ }
     ensures { λ r. ⌜ first + r ≤ length (sheetOf (now (casebook .entry))) ⌝ }

@@ -26,7 +26,7 @@ use Rattle.sheet_lines.specs.Sheets.{blank, dash, lineFeed, textRoom, en
 use Rattle.sheet_lines.specs.Working.{putAt, endingIn}
 use Rattle.sheet_lines.proofs.DigitLaws.{length-hexadecimal}
 use Rattle.sheet_lines.proofs.LineLaws.{digits-two, number-small}
-use Rattle.sheet_lines.proofs.SheetLines.{put-first}
+use Rattle.sheet_lines.proofs.Puts.{put-first}
 
 -- two bytes a node
 nodes-bytes : (tree : Option Formula) → length (textOf tree) ≡ 2 * nodesOf tree

@@ -4,7 +4,7 @@ use mathlib.Core.Path.{_≡_, refl, sym, _∙_, ap}
 use mathlib.Core.List.{List, [], _∷_, _++_}
 use native.Mathlib.Omega.{arith}
 use lib.ListN.{length, getD, set, take, drop, length-drop, length-set}
-use lib.Seq.{sets, length-sets, take-set-le, length-take-le, take-nil, getD-take, getD-drop, take-suc, take-length}
+use lib.Seq.{sets, sets-eq, length-sets, take-set-le, length-take-le, take-nil, getD-take, getD-drop, take-suc, take-length}
 use Rattle.sheet_lines.specs.Digits.{decimal, hexDigit, hexadecimal}
 use Rattle.sheet_lines.specs.Working.{putAt}
 use Rattle.sheet_lines.proofs.DigitLaws.{decimal-small, decimal-2, decimal-3, decimal-4, decimal-5, length-hexadecimal, hexadecimal-behind}
@@ -36,6 +36,11 @@ put-behind xs at [] d = let z : at + 0 ≡ at = omega arith in ap (λ n. sets xs
 put-behind xs at (a ∷ b) d =
     let z : at + suc (length b) ≡ suc at + length b = omega arith in
     ap (λ n. sets (sets (set xs at a) (suc at) b) n d) z ∙ put-behind (set xs at a) (suc at) b d
+
+-- bytes at the front of an output
+pub put-first : (xs b : List ℕ) → length b ≤ length xs → putAt xs 0 b ≡ b ++ drop (length b) xs
+unfolding putAt
+put-first xs b h = let z : 0 + length b ≡ length b = omega arith in sets-eq b xs 0 (omega (arith, h)) ∙ rw z
 
 -- what stands in front keeps its value
 pub put-front : (xs : List ℕ) (at n : ℕ) (b : List ℕ) → n ≤ at → take n (putAt xs at b) ≡ take n xs
@@ -109,9 +114,9 @@ pub put-set-kept : (xs ys : List ℕ) (i a at : ℕ) (b : List ℕ) → ys ≡ p
 put-set-kept xs ys i a at b e = put-kept (set xs i a) ys at b e ∙ length-set xs i a
 
 -- a byte, then more
-pub put-first : (xs : List ℕ) (at a : ℕ) (b : List ℕ) → putAt (set xs at a) (at + 1) b ≡ putAt xs at (a ∷ b)
+pub put-then : (xs : List ℕ) (at a : ℕ) (b : List ℕ) → putAt (set xs at a) (at + 1) b ≡ putAt xs at (a ∷ b)
 unfolding putAt
-put-first xs at a b = let z : at + 1 ≡ suc at = omega arith in rw z
+put-then xs at a b = let z : at + 1 ≡ suc at = omega arith in rw z
 
 -- a decimal number by its size
 pub put-1 : (xs : List ℕ) (at n : ℕ) → n < 10 → set xs at (48 + n) ≡ putAt xs at (decimal n)
@@ -125,7 +130,7 @@ put-3 xs ys at n h i e =
     let z : n % 100 / 10 ≡ n / 10 % 10 = omega arith in
     let w : n % 100 % 10 ≡ n % 10 = omega arith in
     let d : (48 + n / 100) ∷ (48 + n % 100 / 10) ∷ (48 + n % 100 % 10) ∷ [] ≡ decimal n = rw (z, w) (sym (decimal-3 n h i)) in
-    e ∙ put-first xs at _ _ ∙ ap (putAt xs at) d
+    e ∙ put-then xs at _ _ ∙ ap (putAt xs at) d
 
 pub put-4 : (xs ys : List ℕ) (at n : ℕ) → 1000 ≤ n → n < 10000 → ys ≡ putAt xs at ((48 + n / 1000) ∷ (48 + n / 100 % 10) ∷ (48 + n / 10 % 10) ∷ (48 + n % 10) ∷ []) → ys ≡ putAt xs at (decimal n)
 put-4 xs ys at n h i e = e ∙ ap (putAt xs at) (sym (decimal-4 n h i))
@@ -138,7 +143,7 @@ put-5 xs ys at n m h i q e =
     let v : m / 10 % 10 ≡ n / 10 % 10 = omega (arith, q) in
     let u : m % 10 ≡ n % 10 = omega (arith, q) in
     let d : (48 + n / 10000) ∷ (48 + m / 1000) ∷ (48 + m / 100 % 10) ∷ (48 + m / 10 % 10) ∷ (48 + m % 10) ∷ [] ≡ decimal n = rw (z, w, v, u) (sym (decimal-5 n h i)) in
-    e ∙ put-first xs at _ _ ∙ ap (putAt xs at) d
+    e ∙ put-then xs at _ _ ∙ ap (putAt xs at) d
 
 -- four digits as two pairs
 pub put-pairs : (xs ys zs : List ℕ) (at n : ℕ) → n < 10000 → ys ≡ putAt xs at ((48 + n / 100 / 10) ∷ (48 + n / 100 % 10) ∷ []) → zs ≡ putAt ys (at + 2) ((48 + n % 100 / 10) ∷ (48 + n % 100 % 10) ∷ [])

@@ -7,7 +7,7 @@ use native.Mathlib.Omega.{arith}
 use native.Mathlib.Nat.{zero-mul, suc-mul, mul-add-div-right, mul-add-mod-self-right, div-eq-of-lt, mod-eq-of-lt}
 use lib.ListN.{length, take, drop, length-append}
 use lib.Dec.{leb}
-use lib.Seq.{sets-eq, take-nil, drop-nil}
+use lib.Seq.{take-nil, drop-nil}
 use borrow.Author.Tests.{lt-ltb, le-ltb, leb-true, leb-false}
 use Rattle.hml.specs.Lists.{each}
 use Rattle.hml.specs.System.{steps}
@@ -16,6 +16,7 @@ use Rattle.labels.specs.declared.refusal.Refusal.the-variants.{OutputTooShort}
 use Rattle.sheet_lines.specs.Sheets.{lineOf, linesOf, listed, bytesOf, fitting, firstTooLong, checkRoom, writtenOr, blockAnswer, blockOutput}
 use Rattle.sheet_lines.specs.Working.{putAt, Full, numberedLine}
 use Rattle.sheet_lines.specs.declared.lines.Lines.the-variants as answer
+use Rattle.sheet_lines.proofs.Puts.{put-first}
 use Rattle.sheet_lines.proofs.Filling.{listed-behind, listed-agree, fitting-first, fitting-none}
 
 module _ {A : Type 0} (f : ℕ → ℕ → A) (c : ℕ) (some : 1 ≤ c) where
@@ -102,11 +103,6 @@ fitting-room room (x ∷ due) = go (leb (length x) room) refl (fitting-room (roo
     go : (b : Bool) → leb (length x) room ≡ b → length (bytesOf (fitting (room - length x) due)) ≤ room - length x → length (bytesOf (fitting room (x ∷ due))) ≤ room
     go true e l = let h = leb-true (length x) room e in rw e (omega (arith, length-append x (bytesOf (fitting (room - length x) due)), l, h))
     go false e l = rw e (omega arith)
-
--- bytes at the front of an output
-pub put-first : (xs b : List ℕ) → length b ≤ length xs → putAt xs 0 b ≡ b ++ drop (length b) xs
-unfolding putAt
-put-first xs b h = let z : 0 + length b ≡ length b = omega arith in sets-eq b xs 0 (omega (arith, h)) ∙ rw z
 
 -- no lines are due
 module _ (due : List (List ℕ)) (e : due ≡ []) where

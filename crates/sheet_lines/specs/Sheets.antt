@@ -42,7 +42,7 @@ lineFeed = 10
 abbrev pub dash : ℕ
 dash = 45
 
--- a verdict as a letter: "T or F"
+-- a verdict as a letter: "T or F". A refused one has no letter; no line of a casebook that was read shows it
 unfoldable pub letterOf : Verdict → ℕ
 letterOf verdict.Holds = 84
 letterOf verdict.Fails = 70
@@ -58,7 +58,7 @@ endingOf (quotient.Refused x) text letter = decimal (numberOf x) ++ (blank ∷ d
 unfoldable pub headOf : ℕ → ℕ → ℕ → List ℕ
 headOf point n letter = decimal point ++ (blank ∷ (decimal n ++ (blank ∷ letter ∷ blank ∷ [])))
 
--- a quotient's bytes are at most 8,192
+-- room for every quotient: 4,096 nodes, two bytes each
 abbrev pub textRoom : ℕ
 textRoom = 8192
 

@@ -24,6 +24,7 @@ pub struct Block {
     pub bytes: usize,
 }
 
+// What a call for lines gives.
 pub enum Lines {
     Written(Block),
     Refused(Refusal),

@@ -63,19 +63,24 @@ impl Shape {
     }
 }
 
+/// The parts of a casebook, each as its bytes.
+fn parts_of(k: u8, left: &Table, right: &Table, run: &JointRun, question: &Formula) -> Parts {
+    Parts {
+        k,
+        left: left.to_bytes(),
+        right: right.to_bytes(),
+        run: run.to_bytes(),
+        question: question.to_bytes(),
+    }
+}
+
 /// The parts of a sound casebook of this shape.
 pub fn sound_parts(random: &mut Random, shape: Shape) -> Parts {
     let left = random_table(random, shape, shape.left_states);
     let right = random_table(random, shape, shape.right_states);
     let run = walk(random, &left, &right, shape.steps);
     let question = random_formula(random, shape.k, shape.nodes, MOST_NESTING);
-    Parts {
-        k: shape.k,
-        left: left.to_bytes(),
-        right: right.to_bytes(),
-        run: run.to_bytes(),
-        question: question.to_bytes(),
-    }
+    parts_of(shape.k, &left, &right, &run, &question)
 }
 
 /// A table with random rows from each state.
@@ -187,13 +192,7 @@ pub fn many_ways_parts(random: &mut Random, shape: Shape, most: usize) -> Parts 
         let mut along = along_joint(shape.k, &left, &right, &run, point);
         along.formula(random, shape.nodes, MOST_NESTING)
     };
-    Parts {
-        k: shape.k,
-        left: left.to_bytes(),
-        right: right.to_bytes(),
-        run: run.to_bytes(),
-        question: question.to_bytes(),
-    }
+    parts_of(shape.k, &left, &right, &run, &question)
 }
 
 /// The real steps from (p, q), kind by kind: left alone, right alone, handshakes, joint idle.
