@@ -28,7 +28,12 @@ use Rattle.quotient.specs.declared.line.LineOffice.{LineOffice}
 use Rattle.quotient.specs.declared.line.LineOffice.the-variants as line
 use Rattle.casebook.proofs.RecordLaws.{Bytes}
 use Rattle.casebook.proofs.RoundTrip.{placing}
-use Rattle.engine.specs.Answers.{refusedAs, readAnswer, placeOf, placeIn, partAnswer, writeAnswer, sideOf, cutAnswer, countAnswer, splitAnswer, joinAnswer, bitOf, lineAnswer}
+use Rattle.labels.specs.Refusals.{numberOf}
+use Rattle.sheet_lines.specs.declared.lines.Block.{Block}
+use Rattle.sheet_lines.specs.declared.lines.Lines.{Lines}
+use Rattle.sheet_lines.specs.declared.lines.Lines.the-variants as lines
+use Rattle.engine.specs.declared.sheet.LinesAnswer.{LinesAnswer}
+use Rattle.engine.specs.Answers.{refusedAs, readAnswer, placeOf, placeIn, partAnswer, writeAnswer, sideOf, cutAnswer, countAnswer, splitAnswer, joinAnswer, bitOf, lineAnswer, linesAnswer}
 use Rattle.engine.specs.Working.{Placed}
 
 -- a is the answer of reading
@@ -168,3 +173,13 @@ pub bit-small : (b : Bool) → bitOf b ≤ 1
 unfolding bitOf
 bit-small true = omega arith
 bit-small false = omega arith
+
+-- a is the answer of a call for lines
+module _ (a r : Lines) (e : a ≡ r) where
+  pub lines-written : (b : Block) → a ≡ lines.Written b → _≡_ {A = LinesAnswer} (record { refusal = 0; lines = b .lines; bytes = b .bytes }) (linesAnswer r)
+  unfolding linesAnswer
+  lines-written b f = rw (← e, f)
+
+  pub lines-refused : (x : Refusal) (n : ℕ) → a ≡ lines.Refused x → n ≡ numberOf x → _≡_ {A = LinesAnswer} (record { refusal = n; lines = 0; bytes = 0 }) (linesAnswer r)
+  unfolding linesAnswer
+  lines-refused x n f g = rw (← e, f, g)

@@ -28,6 +28,10 @@ use Rattle.dividing.specs.declared.divide.Quotient.{Quotient}
 use Rattle.dividing.specs.declared.divide.Quotient.the-variants as quotient
 use Rattle.quotient.specs.declared.line.LineOffice.{LineOffice}
 use Rattle.quotient.specs.declared.line.LineOffice.the-variants as line
+use Rattle.sheet_lines.specs.declared.lines.Block.{Block}
+use Rattle.sheet_lines.specs.declared.lines.Lines.{Lines}
+use Rattle.sheet_lines.specs.declared.lines.Lines.the-variants as lines
+use Rattle.engine.specs.declared.sheet.LinesAnswer.{LinesAnswer}
 
 unfoldable pub refusedAs : Refusal → ℕ
 refusedAs x = numberOf x * 4294967296
@@ -101,3 +105,8 @@ bitOf false = 0
 unfoldable pub lineAnswer : LineOffice → ℕ
 lineAnswer (line.Verdicts j h) = 2 * bitOf j + bitOf h
 lineAnswer (line.Refused x) = refusedAs x
+
+-- lines of the sheet: the refusal's number beside no lines and no bytes, or 0 beside those that were written
+unfoldable pub linesAnswer : Lines → LinesAnswer
+linesAnswer (lines.Written b) = record { refusal = 0; lines = b .lines; bytes = b .bytes }
+linesAnswer (lines.Refused x) = record { refusal = numberOf x; lines = 0; bytes = 0 }

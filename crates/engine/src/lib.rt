@@ -1,5 +1,7 @@
 // The calls for C and Rust: numbers as themselves, slices as pointer and length. Each answers one number: the refusal's number
-// times 2^32, plus the value (0 when refused).
+// times 2^32, plus the value (0 when refused); lines of the sheet have an answer of their own (sheet).
+pub mod sheet;
+
 use casebook::read::Parts;
 use casebook::read::Reading;
 use casebook::read::read;
