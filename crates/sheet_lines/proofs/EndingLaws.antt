@@ -4,7 +4,7 @@ use mathlib.Core.Path.{_≡_, refl, sym, _∙_, ap}
 use mathlib.Core.List.{List, [], _∷_, _++_}
 use mathlib.Core.Option.{Option, none, some}
 use native.Mathlib.Omega.{arith}
-use lib.ListN.{length, take, drop, length-append}
+use lib.ListN.{length, take, drop, replicate, length-append, length-replicate}
 use lib.Dec.{ltb}
 use lib.Seq.{take-at}
 use borrow.Author.Tests.{ltb-false}
@@ -18,6 +18,7 @@ use Rattle.labels.specs.declared.refusal.Check.the-variants as check
 use Rattle.labels.proofs.Refusals.{both-sound, unrefused}
 use Rattle.halves.specs.declared.side.Side.the-variants as side
 use Rattle.dividing.specs.Quotients.{nodesOf, textOf, checkSize, checkTree, written, answerOf, outputAfter}
+use Rattle.dividing.specs.declared.divide.Quotient.{Quotient}
 use Rattle.dividing.specs.declared.divide.Quotient.the-variants as quotient
 use Rattle.dividing.proofs.Answers.{text-length}
 use Rattle.quotient.specs.Calls.{treeByNumber, checkByNumber, byNumber, byNumberOutput}
@@ -105,3 +106,21 @@ module _ (k : ℕ) (l r w f : List ℕ) (letter t : ℕ) (text : List ℕ) (size
   refusal-ending x told p q =
       let (d, few) = length-refusal x in
       ending-front xs ys _ _ m room (ending-refused k l r w f letter t text size x told) (p ∙ sym d) (omega (arith, p, few)) q
+
+-- an ending is short: 4,096 nodes of four digits each, and three bytes
+pub ending-short : (k : ℕ) (l r w f : List ℕ) (letter t : ℕ) → length (endingIn k l r w f letter t) ≤ 16387
+ending-short k l r w f letter t = go (byNumber k l r w f t side.Right (length w / 3) (length zeros)) refl
+  where
+    zeros : List ℕ
+    zeros = replicate 8192 0
+
+    size : length zeros ≡ 8192
+    size = length-replicate {A = ℕ} 8192 0
+
+    go : (a : Quotient) → byNumber k l r w f t side.Right (length w / 3) (length zeros) ≡ a → length (endingIn k l r w f letter t) ≤ 16387
+    go (quotient.Written n) e =
+        let (_, b, c) = text-told k l r w f letter t zeros size n e _ refl in
+        omega (arith, ap length (ending-written k l r w f letter t zeros size n e), length-fields (textAt k l r w f (length w / 3) t) letter, b, c)
+    go (quotient.Refused x) e =
+        let (d, few) = length-refusal x in
+        omega (arith, ap length (ending-refused k l r w f letter t zeros size x e), d, few)

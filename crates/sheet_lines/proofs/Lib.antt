@@ -1,13 +1,12 @@
 pub mod DigitLaws
 pub mod Puts
-pub mod CopyLaws
 pub mod LineLaws
 pub mod Filling
 pub mod SheetLines
 pub mod PointLaws
-pub mod Turns
 pub mod EndingLaws
-pub mod WriteLine
+pub mod PointTurns
+pub mod TurnLaws
 pub mod WindowLines
 pub mod PointLines
 pub mod FillLaws

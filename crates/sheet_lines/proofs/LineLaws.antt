@@ -7,7 +7,7 @@ use native.Mathlib.Omega.{arith}
 use lib.ListN.{length, set, take, drop, length-append}
 use lib.Dec.{ltb}
 use lib.Seq.{take-nil, drop-nil}
-use borrow.Author.Tests.{le-ltb, ltb-true, ltb-false}
+use borrow.Author.Tests.{ltb-true, ltb-false}
 use Rattle.labels.specs.Refusals.{numberOf}
 use Rattle.labels.specs.declared.refusal.Refusal.{Refusal}
 use Rattle.labels.specs.declared.refusal.Refusal.the-variants as refusal
@@ -85,7 +85,3 @@ module _ (x : List ℕ) where
   pub one-due : (first most : ℕ) → first ≡ 0 → (most ≡ 0 → ⊥) → take most (drop first (x ∷ [])) ≡ x ∷ []
   one-due first zero e n = absurd (n refl)
   one-due first (suc most) e n = rw e (ap (x ∷_) (take-nil most))
-
--- the head has room in 14 bytes
-pub head-room : (p n a room : ℕ) → p < 100000 → n < 100000 → 14 ≤ room → false ≡ ltb room (length (headOf p n a))
-head-room p n a room h i l = sym (le-ltb room (length (headOf p n a)) (omega (arith, length-head p n a, count-few p h, count-few n i, l)))

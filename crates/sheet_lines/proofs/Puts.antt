@@ -1,10 +1,12 @@
 -- Bytes written over those of a list from a place on.
 use Prim.Native.Nat.{ℕ, zero, suc, _+_, _-_, _*_, _/_, _%_, _≤_, _<_}
-use mathlib.Core.Path.{_≡_, refl, sym, _∙_, ap}
-use mathlib.Core.List.{List, [], _∷_, _++_}
+use mathlib.Core.Path.{_≡_, refl, sym, _∙_, ap, ap₂}
+use mathlib.Core.List.{List, [], _∷_, _++_, append-nil, append-assoc}
 use native.Mathlib.Omega.{arith}
-use lib.ListN.{length, getD, set, take, drop, length-drop, length-set}
-use lib.Seq.{sets, sets-eq, length-sets, take-set-le, length-take-le, take-nil, getD-take, getD-drop, take-suc, take-length}
+use lib.ListN.{length, getD, set, take, drop, length-set}
+use lib.Seq.{sets, sets-eq, set-set, set-comm, length-sets, take-set-le, length-take-le, take-nil, take-suc, take-length, drop-at, drop-drop, drop-length}
+use borrow.Rule.Slice.PartMut.{putMid, postOf, post-is}
+use Rattle.labels.proofs.Slices.{rest, rest-of}
 use Rattle.sheet_lines.specs.Digits.{decimal, hexDigit, hexadecimal}
 use Rattle.sheet_lines.specs.Working.{putAt}
 use Rattle.sheet_lines.proofs.DigitLaws.{decimal-small, decimal-2, decimal-3, decimal-4, decimal-5, length-hexadecimal, hexadecimal-behind}
@@ -57,25 +59,46 @@ put-part xs at from n b h = part-front (putAt xs at b) from n ∙ ap (drop from)
     part-front [] (suc f) m = rw (take-nil, take-nil)
     part-front (x ∷ l) (suc f) m = let z : suc f + m ≡ suc (f + m) = omega arith in rw z (part-front l f m)
 
--- bytes copied one after the other
-pub copied-none : (xs : List ℕ) (at from : ℕ) → xs ≡ putAt xs at (take 0 (drop from xs))
+-- a byte in front of what is written
+set-front : (xs : List ℕ) (at a i : ℕ) (b : List ℕ) → i < at → set (putAt xs at b) i a ≡ putAt (set xs i a) at b
 unfolding putAt
-copied-none xs at from = refl
+set-front xs at a i [] h = refl
+set-front xs at a i (x ∷ b) h = set-front (set xs at x) (suc at) a i b (omega arith) ∙ ap (λ o. sets o (suc at) b) (set-comm xs at i x a (λ e. omega (arith, e, h)))
 
-pub copied-more : (xs ys : List ℕ) (at from i : ℕ) → from + i < at → at + i < length xs → ys ≡ putAt xs at (take i (drop from xs)) → set ys (at + i) (getD ys (from + i) 0) ≡ putAt xs at (take (i + 1) (drop from xs))
-copied-more xs ys at from i h l e =
-    let b = take i (drop from xs) in
-    let n : length b ≡ i = length-take-le i (drop from xs) (omega (arith, length-drop from xs)) in
-    let v : getD ys (from + i) 0 ≡ getD (drop from xs) i 0 = ap (λ (z : List ℕ). getD z (from + i) 0) e ∙ kept b ∙ sym (getD-drop from xs i 0) in
-    let z : i + 1 ≡ suc i = omega arith in
-    let w : take (i + 1) (drop from xs) ≡ b ++ getD (drop from xs) i 0 ∷ [] = ap (λ m. take m (drop from xs)) z ∙ take-suc (drop from xs) i 0 (omega (arith, length-drop from xs)) in
-    rw (w, v) (ap (λ o. set o (at + i) (getD (drop from xs) i 0)) e ∙ ap (λ m. set (putAt xs at b) (at + m) (getD (drop from xs) i 0)) (sym n) ∙ put-one (putAt xs at b) (at + length b) (getD (drop from xs) i 0) ∙ put-behind xs at b (getD (drop from xs) i 0 ∷ []))
-  where
-    kept : (b : List ℕ) → getD (putAt xs at b) (from + i) 0 ≡ getD xs (from + i) 0
-    kept b = sym (getD-take (suc (from + i)) (putAt xs at b) (from + i) 0 (omega arith)) ∙ ap (λ (z : List ℕ). getD z (from + i) 0) (put-front xs at (suc (from + i)) b (omega (arith, h))) ∙ getD-take (suc (from + i)) xs (from + i) 0 (omega arith)
+-- a byte of what is written, changed afterwards
+pub put-set : (xs : List ℕ) (at a i : ℕ) (b : List ℕ) → i < length b → set (putAt xs at b) (at + i) a ≡ putAt xs at (set b i a)
+unfolding putAt
+put-set xs at a i [] h = absurd (omega arith)
+put-set xs at a zero (x ∷ b) h =
+    let z : at + 0 ≡ at = omega arith in
+    ap (λ n. set (sets (set xs at x) (suc at) b) n a) z ∙ set-front (set xs at x) (suc at) a at b (omega arith) ∙ ap (λ o. sets o (suc at) b) (set-set xs at x a)
+put-set xs at a (suc i) (x ∷ b) h =
+    let z : at + suc i ≡ suc at + i = omega arith in
+    ap (λ n. set (sets (set xs at x) (suc at) b) n a) z ∙ put-set (set xs at x) (suc at) a i b (omega arith)
 
-pub copied-all : (xs ys : List ℕ) (at from i n : ℕ) → i ≡ n → ys ≡ putAt xs at (take i (drop from xs)) → ys ≡ putAt xs at (take n (drop from xs))
-copied-all xs ys at from i n z e = e ∙ ap (λ m. putAt xs at (take m (drop from xs))) z
+-- a byte between bytes, changed
+pub set-between : (b d : List ℕ) (x a : ℕ) → set (b ++ x ∷ d) (length b) a ≡ b ++ a ∷ d
+set-between [] d x a = refl
+set-between (y ∷ b) d x a = ap (y ∷_) (set-between b d x a)
+
+-- what is written into an output, and what follows it
+pub drop-put : (xs : List ℕ) (at : ℕ) (b : List ℕ) → at + length b ≤ length xs → drop at (putAt xs at b) ≡ b ++ drop (at + length b) xs
+unfolding putAt
+drop-put xs at b h = ap (drop at) (sets-eq b xs at h ∙ append-assoc (take at xs) b (drop (at + length b) xs)) ∙ drop-at (take at xs) (b ++ drop (at + length b) xs) at (length-take-le at xs (omega (arith, h)))
+
+-- bytes copied into the rest of an output, from a place on
+pub rest-copied : (y e d : List ℕ) (from : ℕ) → from + length e ≤ length y → d ≡ take (length e) e ++ drop (length e) (rest from y) → putMid from (length y - from) y d ≡ putAt y from e
+unfolding putAt
+rest-copied y e d from h g =
+    let b : drop (length e) (rest from y) ≡ drop (from + length e) y = ap (drop (length e)) (rest-of from y) ∙ drop-drop (length e) from y in
+    let c : postOf from (length y - from) y ≡ [] = post-is from (length y) y (omega (arith, h)) ∙ drop-length y in
+    ap₂ (λ x o. take from y ++ (x ++ o)) (g ∙ ap₂ _++_ (take-length e) b) c ∙ ap (take from y ++_) (append-nil (e ++ drop (from + length e) y)) ∙ sym (append-assoc (take from y) e (drop (from + length e) y)) ∙ sym (sets-eq e y from h)
+
+-- the rest of an output that was lent and came back
+pub rest-back : (y d : List ℕ) (from : ℕ) → from ≤ length y → drop from (putMid from (length y - from) y d) ≡ d
+rest-back y d from h =
+    let c : postOf from (length y - from) y ≡ [] = post-is from (length y) y (omega (arith, h)) ∙ drop-length y in
+    ap (λ o. drop from (take from y ++ (d ++ o))) c ∙ drop-at (take from y) (d ++ []) from (length-take-le from y h) ∙ append-nil d
 
 -- bytes in hexadecimal one after the other
 pub hex-none : (xs bytes : List ℕ) (at : ℕ) → xs ≡ putAt xs at (hexadecimal (take 0 bytes))

@@ -1,11 +1,11 @@
 -- What functions inside the crate promise each other. No public promise cites this file.
-use Prim.Native.Nat.{ℕ, _+_, _-_, _/_, _%_, _≤_, _<_}
+use Prim.Native.Nat.{ℕ, _+_, _-_, _*_, _/_, _%_, _≤_, _<_}
 use mathlib.Core.Path.{_≡_}
 use mathlib.Core.Logic.{_⊎_}
 use mathlib.Core.Bool.{cond}
 use mathlib.Core.List.{List, _++_}
-use lib.ListN.{length, getD, take, drop}
-use lib.Dec.{leb, ltb}
+use lib.ListN.{length, getD, take, drop, set}
+use lib.Dec.{ltb, eqb}
 use lib.Seq.{sets}
 use Rattle.labels.specs.declared.refusal.Check.the-variants.{Sound}
 use Rattle.formulas.specs.Formulas.{questionLimit, checkFormula}
@@ -13,19 +13,12 @@ use Rattle.splitting.specs.Splittings.{splittingsOf, splittingLimit, checkLog}
 use Rattle.splitting.specs.declared.count.Counted.{Counted}
 use Rattle.splitting.specs.declared.count.Counted.the-variants as count
 use Rattle.sheet_lines.specs.declared.point.Point.{Point}
-use Rattle.sheet_lines.specs.declared.point.Turn.{Turn}
+use Rattle.sheet_lines.specs.declared.kept.Kept.{Kept}
 use Rattle.sheet_lines.specs.Sheets.{endingOf, headOf, lineOf, quotientAt, textAt, listed, bytesOf, fitting}
 
 -- bytes written over those of a list, from a place on
 unfoldable pub putAt : List ℕ → ℕ → List ℕ → List ℕ
 putAt xs at bytes = sets xs at bytes
-
--- a line written at a place if it fits, and the place behind it; else nothing is written, and the place stays
-unfoldable pub putIfFits : List ℕ → List ℕ → ℕ → List ℕ
-putIfFits line xs at = cond (leb (length line) (length xs - at)) (putAt xs at line) xs
-
-unfoldable pub placeBehind : List ℕ → List ℕ → ℕ → ℕ
-placeBehind line xs at = cond (leb (length line) (length xs - at)) (at + length line) at
 
 -- lines i to j are written behind a place, where an output xs begins, and those up to `end` are due: the output is ys now, and the next line's place is `at`
 pub record Filled (g : ℕ → List ℕ) (xs : List ℕ) (start i end : ℕ) (ys : List ℕ) (at j : ℕ) : Type 0 where
@@ -66,6 +59,22 @@ endingIn k l r w f letter t = endingOf (quotientAt k l r w f (length w / 3) t) (
 unfoldable pub lineIn : ℕ → List ℕ → List ℕ → List ℕ → List ℕ → ℕ → ℕ → ℕ → ℕ → List ℕ
 lineIn k l r w f letter point n t = headOf point n letter ++ endingIn k l r w f letter t
 
+-- the line of splitting n of a point, with a given ending
+unfoldable pub lineWith : Point → List ℕ → ℕ → List ℕ
+lineWith p ending n = headOf (p .number) n (p .letter) ++ ending
+
+-- bytes that begin with the head of such a line
+unfoldable pub Headed : Point → ℕ → List ℕ → Type 0
+Headed p n line = take (length (headOf (p .number) n (p .letter))) line ≡ headOf (p .number) n (p .letter)
+
+-- such a line, made from that of number n: the last digit is another, at a place
+unfoldable pub digitLine : List ℕ → ℕ → ℕ → ℕ → List ℕ
+digitLine line place n i = set line place (48 + n % 10 + (i - n))
+
+-- numbers, from one up to another, that differ in their last digit only
+unfoldable pub Tens : ℕ → ℕ → Type 0
+Tens n end = (n ≤ end) × (end ≤ n - n % 10 + 10)
+
 -- the line of splitting n of a point: its number in the window is n / after % ways
 unfoldable pub lineBy : ℕ → List ℕ → List ℕ → List ℕ → List ℕ → Point → ℕ → List ℕ
 lineBy k l r w f p n = lineIn k l r w f (p .letter) (p .number) n (n / p .after % p .ways)
@@ -77,12 +86,19 @@ Standing e out at from end t = (take (length (e t)) (drop from out) ≡ e t) × 
 unfoldable pub Known : (ℕ → List ℕ) → ℕ → List ℕ → List ℕ → List ℕ → ℕ → Type 0
 Known e ways froms ends out at = (t : ℕ) → t < ways → (getD ends t 0 ≡ 0) ⊎ Standing e out at (getD froms t 0) (getD ends t 0) t
 
--- what the writing of lines works with: where endings stand in the output, a quotient's bytes, and an ending
-pub record Scratch (froms ends text ending : List ℕ) : Type 0 where
-  pub fromsSize : length froms ≡ 65536
-  pub endsSize : length ends ≡ 65536
+-- what the writing of lines works with: where endings stand in the output, a quotient's bytes, and a line
+pub record Scratch (froms ends text line : List ℕ) : Type 0 where
+  pub fromsSize : length froms ≡ 8192
+  pub endsSize : length ends ≡ 8192
   pub textSize : length text ≡ 8192
-  pub endingSize : length ending ≡ 16387
+  pub lineSize : length line ≡ 16401
+
+-- the entries for endings, when lines were written from one place to another that end with `len` bytes
+unfoldable pub fromsAfter : List ℕ → ℕ → ℕ → ℕ → ℕ → List ℕ
+fromsAfter froms t len at to = cond (eqb to at) froms (cond (ltb t 8192) (set froms t (to - len)) froms)
+
+unfoldable pub endsAfter : List ℕ → ℕ → ℕ → ℕ → List ℕ
+endsAfter ends t at to = cond (eqb to at) ends (cond (ltb t 8192) (set ends t to) ends)
 
 -- how many splittings are counted; 1 where the count is refused
 unfoldable pub countedAs : Counted → ℕ
@@ -93,12 +109,21 @@ countedAs (count.Refused x) = 1
 unfoldable pub Forgotten : List ℕ → ℕ → Type 0
 Forgotten ends n = (t : ℕ) → t < n → getD ends t 0 ≡ 0
 
--- the turn of splitting n: its number in the window, and how many splittings from it on have that number in turn
-unfoldable pub turnOf : ℕ → ℕ → ℕ → Turn
-turnOf ways after n = record { number = n / after % ways; left = after - n % after }
+-- by how many splittings numbers are divided to find their number in a window: by as many as follow it, or by any number if the window has one splitting
+unfoldable pub afterOf : ℕ → ℕ → ℕ
+afterOf ways n = cond (eqb ways 1) 65536 n
 
--- the turn behind a turn
-unfoldable pub turnAfter : ℕ → ℕ → Turn → Turn
-turnAfter ways after t = cond (ltb 1 (t .left))
-    (record { number = t .number; left = t .left - 1 })
-    (cond (ltb (t .number + 1) ways) (record { number = t .number + 1; left = after }) (record { number = 0; left = after }))
+-- a half that stands at a place of a table
+unfoldable pub HalfAt : List ℕ → ℕ → List ℕ → Type 0
+HalfAt halves i h = take (length h) (drop (401 * i) halves) ≡ h
+
+-- how the halves of a window's splittings are kept in a table
+pub record Halved (k : ℕ) (l r w : List ℕ) (kept : Kept) (halves : List ℕ) : Type 0 where
+  pub size : length halves ≡ 205312
+
+-- what the lines of a point share: a window and a question that no check refuses, how many splittings the window has, and their halves
+pub record Shared (k : ℕ) (l r w f : List ℕ) (p : Point) (halves : List ℕ) : Type 0 where
+  pub asked : Asked k l r w f
+  pub counted : p .ways ≡ length (splittingsOf k l r w)
+  pub few : length (splittingsOf k l r w) ≤ splittingLimit
+  pub halved : Halved k l r w (p .kept) halves

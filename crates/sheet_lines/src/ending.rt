@@ -1,18 +1,19 @@
 // The two last fields of a line: the quotient by the right half, and the left half's verdict.
 use crate::digits::put_decimal;
 use crate::digits::put_hexadecimal;
+use crate::kept::Kept;
+use crate::kept::quotient_text;
 use dividing::divide::Quotient;
-use halves::side::Side;
 use labels::refusal::Refusal;
-use quotient::number::by_number;
 ghost use mathlib.Core.Path.{_≡_};
 ghost use mathlib.Core.List.{[], _∷_, _++_};
-ghost use Prim.Native.Nat.{_+_, _*_, _≤_};
+ghost use Prim.Native.Nat.{_+_, _*_, _≤_, _<_};
 ghost use lib.ListN.{length, take};
 ghost use Rattle.labels.specs.Refusals.{numberOf};
+ghost use Rattle.splitting.specs.Splittings.{splittingsOf, splittingLimit};
 ghost use Rattle.sheet_lines.specs.Digits.{decimal, hexadecimal};
 ghost use Rattle.sheet_lines.specs.Sheets.{blank, dash, lineFeed};
-ghost use Rattle.sheet_lines.specs.Working.{putAt, endingIn};
+ghost use Rattle.sheet_lines.specs.Working.{putAt, endingIn, Asked, Halved};
 
 // Writes the ending of the lines by splitting t of a window, at its end, to the front of `ending`, and gives its length.
 pub(crate) fn find_ending<'a>(
@@ -22,27 +23,20 @@ pub(crate) fn find_ending<'a>(
     window: &[u8],
     question: &[u8],
     t: usize,
+    kept: Kept,
+    halves: &[u8],
     letter: u8,
     text: &mut [u8],
     ending: &mut [u8],
 ) -> usize
+    requires { ⌜ Asked k (now left) (now right) (now window) (now question) × Halved k (now left) (now right) (now window) kept (now halves) ⌝ }
+    requires { ⌜ (t < length (splittingsOf k (now left) (now right) (now window))) × (length (splittingsOf k (now left) (now right) (now window)) ≤ splittingLimit) ⌝ }
     requires { ⌜ (length (now text) ≡ 8192) × (length (now ending) ≡ 16387) ⌝ }
     ensures { λ r. ⌜ r ≡ length (endingIn k (now (left .entry)) (now (right .entry)) (now (window .entry)) (now (question .entry)) letter t) ⌝ }
     ensures { λ r. ⌜ take r (now (ending .exit)) ≡ endingIn k (now (left .entry)) (now (right .entry)) (now (window .entry)) (now (question .entry)) letter t ⌝ }
     ensures { λ r. ⌜ r ≤ 16387 ⌝ }
 {
-    let points = window.len() / 3;
-    match by_number(
-        k,
-        left,
-        right,
-        window,
-        question,
-        t,
-        Side::Right,
-        points,
-        text,
-    ) {
+    match quotient_text(k, left, right, window, question, t, kept, halves, text) {
         Quotient::Written(n) => put_fields(&text[..n], letter, ending),
         Quotient::Refused(refusal) => put_refusal(refusal, ending),
     }

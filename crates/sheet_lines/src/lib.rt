@@ -1,7 +1,8 @@
 // The lines of a sheet as bytes: document 01, "The casebook".
-mod copy;
 mod digits;
 mod ending;
+mod kept;
 mod line;
 pub mod lines;
 mod point;
+mod smaller;

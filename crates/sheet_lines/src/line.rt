@@ -1,118 +1,99 @@
-// One line of the sheet.
-use crate::copy::copy_behind;
+// Lines of the sheet that end alike: those of one point and of splittings that follow each other.
 use crate::digits::digit_count;
 use crate::digits::put_decimal;
-use crate::ending::find_ending;
 use crate::point::Point;
+use crate::point::Progress;
+use crate::smaller::smaller;
 ghost use mathlib.Core.Path.{_≡_};
-ghost use mathlib.Core.List.{_++_};
-ghost use Prim.Native.Nat.{_+_, _≤_, _<_};
-ghost use lib.ListN.{length, take, drop};
-ghost use lib.Dec.{ltb};
-ghost use Rattle.sheet_lines.specs.Sheets.{headOf};
-ghost use Rattle.sheet_lines.specs.Working.{putAt, putIfFits, placeBehind, endingIn, lineIn, Known, Scratch};
+ghost use Prim.Native.Nat.{_+_, _-_, _≤_, _<_};
+ghost use lib.ListN.{length, take, drop, set};
+ghost use Rattle.sheet_lines.specs.Sheets.{headOf, listed, fitting};
+ghost use Rattle.sheet_lines.specs.Working.{putAt, lineWith, digitLine, Full, Tens};
 
-// Writes the line of splitting `number` at a place, if it fits, and gives the place behind it, else the same place. The line ends as all do whose splitting
-// has the same number t in the point's window: where such an ending stands in the output, it is copied from there.
-pub(crate) fn write_line<'a>(
-    k: u8,
-    left: &'a [u8],
-    right: &'a [u8],
-    window: &[u8],
-    question: &[u8],
+// Writes the lines of the splittings from `number` on, and not that of `until`, behind a place, as many as fit. They end with the `len` bytes that `line`
+// has behind its first 14, and those are room for the fields in front.
+pub(crate) fn write_turn(
     point: Point,
     number: usize,
-    t: usize,
-    at: usize,
-    out: &mut [u8],
-    froms: &mut [usize; 65536],
-    ends: &mut [usize; 65536],
-    text: &mut [u8],
-    ending: &mut [u8],
-) -> usize
-    requires { ⌜ (point .number < 100000) × (number < 100000) × (at ≤ length (now out)) ⌝ }
-    requires { ⌜ (t < point .ways) × (point .ways ≤ 65536) ⌝ }
-    requires { ⌜ Scratch (now froms) (now ends) (now text) (now ending) ⌝ }
-    requires { ⌜ Known (endingIn k (now left) (now right) (now window) (now question) (point .letter)) (point .ways) (now froms) (now ends) (now out) at ⌝ }
-    ensures { λ r. ⌜ r ≡ placeBehind (lineIn k (now (left .entry)) (now (right .entry)) (now (window .entry)) (now (question .entry)) (point .letter) (point .number) number t) (now (out .entry)) at ⌝ }
-    ensures { λ r. ⌜ now (out .exit) ≡ putIfFits (lineIn k (now (left .entry)) (now (right .entry)) (now (window .entry)) (now (question .entry)) (point .letter) (point .number) number t) (now (out .entry)) at ⌝ }
-    ensures { λ r. ⌜ Known (endingIn k (now (left .entry)) (now (right .entry)) (now (window .entry)) (now (question .entry)) (point .letter)) (point .ways) (now (froms .exit)) (now (ends .exit)) (now (out .exit)) r ⌝ }
-    ensures { λ r. ⌜ Scratch (now (froms .exit)) (now (ends .exit)) (now (text .exit)) (now (ending .exit)) ⌝ }
-{
-    let end = ends[t];
-    if end != 0 {
-        let from = froms[t];
-        return copy_line(point, number, from, end - from, at, out);
-    }
-    let len = find_ending(
-        k,
-        left,
-        right,
-        window,
-        question,
-        t,
-        point.letter,
-        text,
-        ending,
-    );
-    let next = put_line(point, number, &ending[..len], at, out);
-    if next == at {
-        return at;
-    }
-    froms[t] = next - len;
-    ends[t] = next;
-    next
-}
-
-// Writes a line with this ending at a place, if it fits, and gives the place behind it, else the same place.
-fn put_line(point: Point, number: usize, ending: &[u8], at: usize, out: &mut [u8]) -> usize
-    requires { ⌜ (point .number < 100000) × (number < 100000) × (at ≤ length (now out)) × (length (now ending) ≤ 16387) ⌝ }
-    ensures { λ r. ⌜ r ≡ placeBehind (headOf (point .number) number (point .letter) ++ now (ending .entry)) (now (out .entry)) at ⌝ }
-    ensures { λ r. ⌜ now (out .exit) ≡ putIfFits (headOf (point .number) number (point .letter) ++ now (ending .entry)) (now (out .entry)) at ⌝ }
-{
-    let len = ending.len();
-    if out.len() - at < head_length(point, number) + len {
-        return at;
-    }
-    let from = put_head(point, number, at, out);
-    bytes::copy(ending, &mut out[from..]);
-    from + len
-}
-
-// The same where the ending stands further in front in the output.
-fn copy_line(
-    point: Point,
-    number: usize,
-    from: usize,
+    until: usize,
     len: usize,
     at: usize,
     out: &mut [u8],
-) -> usize
-    requires { ⌜ (point .number < 100000) × (number < 100000) × (at ≤ length (now out)) × (from + len ≤ at) ⌝ }
-    ensures { λ r. ⌜ r ≡ placeBehind (headOf (point .number) number (point .letter) ++ take len (drop from (now (out .entry)))) (now (out .entry)) at ⌝ }
-    ensures { λ r. ⌜ now (out .exit) ≡ putIfFits (headOf (point .number) number (point .letter) ++ take len (drop from (now (out .entry)))) (now (out .entry)) at ⌝ }
+    line: &mut [u8],
+) -> Progress
+    requires { ⌜ (point .number < 100000) × (number ≤ until) × (until ≤ 65536) × (at ≤ length (now out)) ⌝ }
+    requires { ⌜ 14 + len ≤ length (now line) ⌝ }
+    ensures { λ r. ⌜ Full (fitting (length (now (out .entry)) - at) (listed (lineWith point (take len (drop 14 (now (line .entry))))) number (until - number))) (now (out .entry)) at number (now (out .exit)) (r .at) (r .number) ⌝ }
 {
-    let room = out.len() - at;
-    if room < len {
-        return at;
+    let mut i = number;
+    let mut to = at;
+    while i < until {
+        let end = smaller(until, i - i % 10 + 10);
+        let done = write_tens(point, i, end, len, to, out, line);
+        i = done.number;
+        to = done.at;
+        if i < end {
+            return Progress { number: i, at: to };
+        }
     }
-    if lacks_room(point, number, room - len) {
-        return at;
-    }
-    let to = put_head(point, number, at, out);
-    copy_behind(out, from, len, to);
-    to + len
+    Progress { number: i, at: to }
 }
 
-// Whether the three first fields have no room in so many bytes. For 14 bytes no digits need be counted, and nearly all lines have them.
-fn lacks_room(point: Point, number: usize, room: usize) -> bool
-    requires { ⌜ (point .number < 100000) × (number < 100000) ⌝ }
-    ensures { λ r. ⌜ r ≡ ltb room (length (headOf (point .number) number (point .letter))) ⌝ }
+// The same for numbers that differ in their last digit only.
+fn write_tens(
+    point: Point,
+    number: usize,
+    until: usize,
+    len: usize,
+    at: usize,
+    out: &mut [u8],
+    line: &mut [u8],
+) -> Progress
+    requires { ⌜ (point .number < 100000) × (until ≤ 65536) × (at ≤ length (now out)) ⌝ }
+    requires { ⌜ Tens number until × (14 + len ≤ length (now line)) ⌝ }
+    ensures { λ r. ⌜ Full (fitting (length (now (out .entry)) - at) (listed (lineWith point (take len (drop 14 (now (line .entry))))) number (until - number))) (now (out .entry)) at number (now (out .exit)) (r .at) (r .number) ⌝ }
+    ensures { λ r. ⌜ take len (drop 14 (now (line .exit))) ≡ take len (drop 14 (now (line .entry))) ⌝ }
 {
-    if 14 <= room {
-        return false;
+    let head = head_length(point, number);
+    let start = 14 - head;
+    put_head(point, number, start, line);
+    write_digits(number, until, &line[start..14 + len], head - 4, at, out)
+}
+
+// The same from the whole line of the first number: the others are copies of it, with another last digit in its place.
+fn write_digits(
+    number: usize,
+    until: usize,
+    line: &[u8],
+    place: usize,
+    at: usize,
+    out: &mut [u8],
+) -> Progress
+    requires { ⌜ Tens number until × (until ≤ 65536) × (place < length (now line)) × (at ≤ length (now out)) ⌝ }
+    ensures { λ r. ⌜ Full (fitting (length (now (out .entry)) - at) (listed (digitLine (now (line .entry)) place number) number (until - number))) (now (out .entry)) at number (now (out .exit)) (r .at) (r .number) ⌝ }
+{
+    let mut digit = 48 + (number % 10) as u8;
+    let mut i = number;
+    let mut to = at;
+    while i < until {
+        if out.len() - to < line.len() {
+            return Progress { number: i, at: to };
+        }
+        put_line(line, place, digit, to, out);
+        to += line.len();
+        i += 1;
+        digit += 1;
     }
-    room < head_length(point, number)
+    Progress { number: i, at: to }
+}
+
+// Writes a line at a place, with this digit in the line's place for it.
+fn put_line(line: &[u8], place: usize, digit: u8, at: usize, out: &mut [u8])
+    requires { ⌜ (at + length (now line) ≤ length (now out)) × (place < length (now line)) ⌝ }
+    ensures { λ r. ⌜ now (out .exit) ≡ putAt (now (out .entry)) at (set (now (line .entry)) place digit) ⌝ }
+{
+    bytes::copy(line, &mut out[at..]);
+    out[at + place] = digit;
 }
 
 // How many bytes the three first fields have, each with the blank behind it.

@@ -3,6 +3,7 @@ use crate::digits::digit_count;
 use crate::digits::put_decimal;
 use crate::point::Progress;
 use crate::point::write_point;
+use crate::smaller::smaller;
 use casebook::read::Reading;
 use casebook::read::read;
 use formulas::backs::back_depth;
@@ -11,7 +12,7 @@ use splitting::count::Counted;
 use splitting::count::count;
 ghost use mathlib.Core.Path.{_≡_};
 ghost use mathlib.Core.List.{[], _∷_};
-ghost use Prim.Native.Nat.{suc, _+_, _*_, _≤_, min};
+ghost use Prim.Native.Nat.{suc, _+_, _*_, _≤_};
 ghost use lib.ListN.{length, take, drop};
 ghost use Rattle.hml.specs.System.{steps};
 ghost use Rattle.machines.specs.Joints.{jointOf};
@@ -132,10 +133,11 @@ fn fill<'a>(
     ensures { λ r. ⌜ Full (fitting (length (now (out .entry))) (listed (numberedLine k (now (left .entry)) (now (right .entry)) (now (run .entry)) (now (question .entry)) splittings) first due)) (now (out .entry)) 0 first (now (out .exit)) (r .at) (r .number) ⌝ }
 {
     let back = back_depth(question);
-    let mut froms = [0usize; 65536];
-    let mut ends = [0usize; 65536];
+    let mut froms = [0usize; 8192];
+    let mut ends = [0usize; 8192];
+    let mut halves = [0u8; 205312];
     let mut text = [0u8; 8192];
-    let mut ending = [0u8; 16387];
+    let mut line = [0u8; 16401];
     let end = first + due;
     let mut i = first;
     let mut at: usize = 0;
@@ -157,8 +159,9 @@ fn fill<'a>(
             out,
             &mut froms,
             &mut ends,
+            &mut halves,
             &mut text,
-            &mut ending,
+            &mut line,
         );
         at = done.at;
         i = i + (done.number - number);
@@ -207,13 +210,4 @@ fn put_refused(refusal: Refusal, out: &mut [u8])
     out[1] = b' ';
     let at = put_decimal(out, 2, refusal.number() as usize);
     out[at] = b'\n';
-}
-
-fn smaller(a: usize, b: usize) -> usize
-    ensures { λ r. ⌜ r ≡ min a b ⌝ }
-{
-    if a < b {
-        return a;
-    }
-    b
 }

@@ -1,32 +1,31 @@
 // The lines of one point.
-use crate::line::write_line;
+use crate::ending::find_ending;
+use crate::kept::Kept;
+use crate::kept::keep_halves;
+use crate::line::write_turn;
+use crate::smaller::smaller;
 use splitting::count::Counted;
 use splitting::count::count;
 use verdict::answer::Verdict;
 use verdict::joint::joint;
 ghost use mathlib.Core.Path.{_≡_};
-ghost use Prim.Native.Nat.{_-_, _≤_, _<_};
-ghost use lib.ListN.{length};
+ghost use Prim.Native.Nat.{_+_, _-_, _≤_, _<_};
+ghost use lib.ListN.{length, take, drop};
 ghost use Rattle.hml.specs.System.{steps};
 ghost use Rattle.machines.specs.Joints.{jointOf};
 ghost use Rattle.splitting.specs.Splittings.{splittingsOf, splittingLimit, countOf};
 ghost use Rattle.formulas.specs.Backs.{backsOf};
 ghost use Rattle.sheet_lines.specs.Sheets.{letterOf, lineOf, listed, fitting};
-ghost use Rattle.sheet_lines.specs.Working.{Asked, Full, countedAs, Forgotten, Scratch, endingIn, lineBy, Known, turnOf, turnAfter};
+ghost use Rattle.sheet_lines.specs.Working.{Asked, Full, countedAs, afterOf, Forgotten, Scratch, endingIn, lineWith, lineBy, Known, Shared, fromsAfter, endsAfter};
 
-// What the lines of a point share: the point's number, the joint verdict's letter, and how many splittings there are of its window, the steps before it by
-// which quotients differ, and of what follows it.
+// What the lines of a point share: the point's number, the joint verdict's letter, how many splittings there are of its window, the steps before it by
+// which quotients differ, and of what follows it, and how the halves of the window's splittings are kept.
 pub(crate) struct Point {
     pub number: usize,
     pub letter: u8,
     pub ways: usize,
     pub after: usize,
-}
-
-// A splitting's number in the window, and how many splittings, from this one on, have it in turn.
-pub(crate) struct Turn {
-    pub number: usize,
-    pub left: usize,
+    pub kept: Kept,
 }
 
 // How far the lines of a point were written: the splitting whose line is due next, and its place in the output.
@@ -49,28 +48,34 @@ pub(crate) fn write_point<'a>(
     until: usize,
     at: usize,
     out: &mut [u8],
-    froms: &mut [usize; 65536],
-    ends: &mut [usize; 65536],
+    froms: &mut [usize; 8192],
+    ends: &mut [usize; 8192],
+    halves: &mut [u8],
     text: &mut [u8],
-    ending: &mut [u8],
+    line: &mut [u8],
 ) -> Progress
     requires { ⌜ Asked k (now left) (now right) (now run) (now question) ⌝ }
     requires { ⌜ (back ≡ backsOf (now question)) × (point ≤ steps (jointOf (now run))) ⌝ }
     requires { ⌜ (number ≤ until) × (until ≤ length (splittingsOf k (now left) (now right) (now run))) × (length (splittingsOf k (now left) (now right) (now run)) ≤ splittingLimit) ⌝ }
-    requires { ⌜ (at ≤ length (now out)) × Scratch (now froms) (now ends) (now text) (now ending) ⌝ }
+    requires { ⌜ (at ≤ length (now out)) × (length (now halves) ≡ 205312) × Scratch (now froms) (now ends) (now text) (now line) ⌝ }
     ensures { λ r. ⌜ Full (fitting (length (now (out .entry)) - at) (listed (lineOf k (now (left .entry)) (now (right .entry)) (now (run .entry)) (now (question .entry)) point) number (until - number))) (now (out .entry)) at number (now (out .exit)) (r .at) (r .number) ⌝ }
-    ensures { λ r. ⌜ Scratch (now (froms .exit)) (now (ends .exit)) (now (text .exit)) (now (ending .exit)) ⌝ }
+    ensures { λ r. ⌜ Scratch (now (froms .exit)) (now (ends .exit)) (now (text .exit)) (now (line .exit)) ⌝ }
 {
     let first = window_start(point, back);
     let window = &run[3 * first..3 * point + 2];
     let rest = &run[3 * point..];
+    let letter = letter_of(joint(k, left, right, run, question, point));
+    let ways = splittings_of(k, left, right, window);
+    let after = splittings_after(k, left, right, rest, ways);
+    let kept = keep_halves(k, left, right, window, ways, halves);
     let shared = Point {
         number: point,
-        letter: letter_of(joint(k, left, right, run, question, point)),
-        ways: splittings_of(k, left, right, window),
-        after: splittings_of(k, left, right, rest),
+        letter,
+        ways,
+        after,
+        kept,
     };
-    forget(ends, shared.ways);
+    forget(ends, ways);
     write_numbers(
         k,
         left,
@@ -84,12 +89,14 @@ pub(crate) fn write_point<'a>(
         out,
         froms,
         ends,
+        halves,
         text,
-        ending,
+        line,
     )
 }
 
-// The same with what the lines of the point share: line by line, until one does not fit.
+// The same with what the lines of the point share: turn by turn, until a line does not fit. A turn has the splittings that follow each other and have the same
+// number t in the window, so that their lines end alike.
 fn write_numbers<'a>(
     k: u8,
     left: &'a [u8],
@@ -101,81 +108,120 @@ fn write_numbers<'a>(
     until: usize,
     at: usize,
     out: &mut [u8],
-    froms: &mut [usize; 65536],
-    ends: &mut [usize; 65536],
+    froms: &mut [usize; 8192],
+    ends: &mut [usize; 8192],
+    halves: &[u8],
     text: &mut [u8],
-    ending: &mut [u8],
+    line: &mut [u8],
 ) -> Progress
     requires { ⌜ (point .number < 100000) × (number ≤ until) × (until ≤ 65536) × (at ≤ length (now out)) ⌝ }
-    requires { ⌜ (0 < point .after) × (0 < point .ways) × (point .ways ≤ 65536) ⌝ }
-    requires { ⌜ Scratch (now froms) (now ends) (now text) (now ending) ⌝ }
+    requires { ⌜ (0 < point .after) × (0 < point .ways) × (point .after ≤ 65536) ⌝ }
+    requires { ⌜ Shared k (now left) (now right) (now window) (now question) point (now halves) ⌝ }
+    requires { ⌜ Scratch (now froms) (now ends) (now text) (now line) ⌝ }
     requires { ⌜ Known (endingIn k (now left) (now right) (now window) (now question) (point .letter)) (point .ways) (now froms) (now ends) (now out) at ⌝ }
     ensures { λ r. ⌜ Full (fitting (length (now (out .entry)) - at) (listed (lineBy k (now (left .entry)) (now (right .entry)) (now (window .entry)) (now (question .entry)) point) number (until - number))) (now (out .entry)) at number (now (out .exit)) (r .at) (r .number) ⌝ }
-    ensures { λ r. ⌜ Scratch (now (froms .exit)) (now (ends .exit)) (now (text .exit)) (now (ending .exit)) ⌝ }
+    ensures { λ r. ⌜ Scratch (now (froms .exit)) (now (ends .exit)) (now (text .exit)) (now (line .exit)) ⌝ }
 {
-    let ways = point.ways;
     let after = point.after;
-    let mut turn = first_turn(number, ways, after);
     let mut n = number;
     let mut to = at;
     while n < until {
-        let next = write_line(
+        let t = n / after % point.ways;
+        let end = smaller(until, n + (after - n % after));
+        let len = take_ending(
             k,
             left,
             right,
             window,
             question,
             point,
-            n,
-            turn.number,
+            t,
             to,
             out,
             froms,
             ends,
+            halves,
             text,
-            ending,
+            line,
         );
-        if next == to {
+        let done = write_turn(point, n, end, len, to, out, line);
+        remember(t, len, to, done.at, froms, ends);
+        n = done.number;
+        to = done.at;
+        if n < end {
             return Progress { number: n, at: to };
         }
-        to = next;
-        n += 1;
-        turn = next_turn(turn, ways, after);
     }
     Progress { number: n, at: to }
 }
 
-// The turn of splitting n: n / after % ways, and how far it is to the next one.
-fn first_turn(n: usize, ways: usize, after: usize) -> Turn
-    requires { ⌜ (0 < ways) × (0 < after) ⌝ }
-    ensures { λ r. ⌜ r ≡ turnOf ways after n ⌝ }
+// Puts the ending of the lines by splitting t of the window behind the first 14 bytes of `line`, and gives its length: copied from the output in front of
+// `at`, if it stands there, else made anew.
+fn take_ending<'a>(
+    k: u8,
+    left: &'a [u8],
+    right: &'a [u8],
+    window: &[u8],
+    question: &[u8],
+    point: Point,
+    t: usize,
+    at: usize,
+    out: &[u8],
+    froms: &[usize; 8192],
+    ends: &[usize; 8192],
+    halves: &[u8],
+    text: &mut [u8],
+    line: &mut [u8],
+) -> usize
+    requires { ⌜ (t < point .ways) × (at ≤ length (now out)) ⌝ }
+    requires { ⌜ Shared k (now left) (now right) (now window) (now question) point (now halves) ⌝ }
+    requires { ⌜ Scratch (now froms) (now ends) (now text) (now line) ⌝ }
+    requires { ⌜ Known (endingIn k (now left) (now right) (now window) (now question) (point .letter)) (point .ways) (now froms) (now ends) (now out) at ⌝ }
+    ensures { λ r. ⌜ r ≡ length (endingIn k (now (left .entry)) (now (right .entry)) (now (window .entry)) (now (question .entry)) (point .letter) t) ⌝ }
+    ensures { λ r. ⌜ take r (drop 14 (now (line .exit))) ≡ endingIn k (now (left .entry)) (now (right .entry)) (now (window .entry)) (now (question .entry)) (point .letter) t ⌝ }
+    ensures { λ r. ⌜ r ≤ 16387 ⌝ }
 {
-    Turn {
-        number: n / after % ways,
-        left: after - n % after,
+    if t < 8192 {
+        let end = ends[t];
+        if end != 0 {
+            let from = froms[t];
+            return bytes::copy(&out[from..end], &mut line[14..]);
+        }
     }
+    find_ending(
+        k,
+        left,
+        right,
+        window,
+        question,
+        t,
+        point.kept,
+        halves,
+        point.letter,
+        text,
+        &mut line[14..],
+    )
 }
 
-// The turn of the next splitting, found without dividing.
-fn next_turn(turn: Turn, ways: usize, after: usize) -> Turn
-    requires { ⌜ (1 ≤ turn .left) × (turn .number < ways) ⌝ }
-    ensures { λ r. ⌜ r ≡ turnAfter ways after turn ⌝ }
+// Remembers that an ending of `len` bytes stands in the output in front of `to`, if a line was written, behind `at`, and if there is an entry for it.
+fn remember(
+    t: usize,
+    len: usize,
+    at: usize,
+    to: usize,
+    froms: &mut [usize; 8192],
+    ends: &mut [usize; 8192],
+)
+    requires { ⌜ ((to ≡ at → ⊥) → len ≤ to) × (length (now froms) ≡ 8192) × (length (now ends) ≡ 8192) ⌝ }
+    ensures { λ r. ⌜ now (froms .exit) ≡ fromsAfter (now (froms .entry)) t len at to ⌝ }
+    ensures { λ r. ⌜ now (ends .exit) ≡ endsAfter (now (ends .entry)) t at to ⌝ }
 {
-    if 1 < turn.left {
-        return Turn {
-            number: turn.number,
-            left: turn.left - 1,
-        };
+    if to == at {
+        return;
     }
-    if turn.number + 1 < ways {
-        return Turn {
-            number: turn.number + 1,
-            left: after,
-        };
-    }
-    Turn {
-        number: 0,
-        left: after,
+    if t < 8192 {
+        froms[t] = to - len;
+        ends[t] = to;
     }
 }
 
@@ -210,14 +256,25 @@ fn splittings_of(k: u8, left: &[u8], right: &[u8], run: &[u8]) -> usize
     }
 }
 
-// No ending of an earlier point stands in the output any more.
-fn forget(ends: &mut [usize; 65536], n: usize)
-    requires { ⌜ (n ≤ 65536) × (length (now ends) ≡ 65536) ⌝ }
-    ensures { λ r. ⌜ Forgotten (now (ends .exit)) n ⌝ }
-    ensures { λ r. ⌜ length (now (ends .exit)) ≡ 65536 ⌝ }
+// By how many splittings numbers are divided to find their number in the window. Where the window has one splitting only, all numbers fall to it.
+fn splittings_after(k: u8, left: &[u8], right: &[u8], rest: &[u8], ways: usize) -> usize
+    ensures { λ r. ⌜ r ≡ afterOf ways (countedAs (countOf k (now (left .entry)) (now (right .entry)) (now (rest .entry)))) ⌝ }
 {
+    if ways == 1 {
+        return 65536;
+    }
+    splittings_of(k, left, right, rest)
+}
+
+// No ending of an earlier point stands in the output any more.
+fn forget(ends: &mut [usize; 8192], n: usize)
+    requires { ⌜ length (now ends) ≡ 8192 ⌝ }
+    ensures { λ r. ⌜ Forgotten (now (ends .exit)) n ⌝ }
+    ensures { λ r. ⌜ length (now (ends .exit)) ≡ 8192 ⌝ }
+{
+    let count = smaller(n, 8192);
     let mut i: usize = 0;
-    while i < n {
+    while i < count {
         ends[i] = 0;
         i += 1;
     }

@@ -1,72 +1,80 @@
 use Rattle.sheet_lines.proofs.point.write_numbers.Statement.{statement}
 use Rattle.sheet_lines.proofs.point.write_numbers.Tie as tie
 use Prim.Native.Nat.{_-_}
-use mathlib.Core.Path.{_≡_, sym, _∙_, ap}
+use mathlib.Core.Path.{_≡_, refl, sym, _∙_}
 use native.Mathlib.Omega.{arith}
-use Rattle.sheet_lines.specs.Working.{Filled, Known, Scratch, endingIn, lineBy, turnOf, turnAfter}
+use native.Mathlib.Nat.{mod-lt}
+use borrow.Author.Needs.{needs}
+use Rattle.sheet_lines.specs.Working.{Filled, Known, Scratch, endingIn, lineBy}
 use Rattle.sheet_lines.proofs.Filling.{kept, filled-none, filled-end}
-use Rattle.sheet_lines.proofs.Turns.{turn-next, turn-kept}
-use Rattle.sheet_lines.proofs.WriteLine.{line-some, line-turn, filled-next, filled-last}
+use Rattle.sheet_lines.proofs.PointTurns.{ending-within, turn-known, turn-done, turn-full, scratch-kept}
 
 abbrev Inv-loop : tie.InvT-loop
-Inv-loop k left right window question point number until at out₀ froms₀ ends₀ text₀ ending₀ ways after turn₀ n₀ to₀ out froms ends text ending turn n to = Filled (lineBy k left right window question point) out₀ at number until out to n × Known (endingIn k left right window question (point .letter)) (point .ways) froms ends out to × Scratch froms ends text ending × (turn ≡ turnOf (point .ways) (point .after) n)
+Inv-loop k left right window question point number until at out₀ froms₀ ends₀ halves text₀ line₀ after n₀ to₀ out froms ends text line n to = Filled (lineBy k left right window question point) out₀ at number until out to n × Known (endingIn k left right window question (point .letter)) (point .ways) froms ends out to × Scratch froms ends text line
 
 abbrev μ-loop : tie.MeasureT-loop
-μ-loop k left right window question point number until at out₀ froms₀ ends₀ text₀ ending₀ ways after turn₀ n₀ to₀ out froms ends text ending turn n to = until - n
-
-first-turn-requires : tie.Need-first-turn-requires Inv-loop μ-loop
-first-turn-requires c κs = (c .before .before .before .before .before .before .before .pre .1 .0 .1, c .before .before .before .before .before .before .before .pre .1 .0 .0)
+μ-loop k left right window question point number until at out₀ froms₀ ends₀ halves text₀ line₀ after n₀ to₀ out froms ends text line n to = until - n
 
 loop-holds : tie.Need-loop-holds Inv-loop μ-loop
-loop-holds c = (filled-none _ _ _ _ _ (c .before .before .before .before .before .before .before .before .pre .0 .1) (c .before .before .before .before .before .before .before .before .pre .0 .3), c .before .before .before .before .before .before .before .before .pre .1 .1 .1, c .before .before .before .before .before .before .before .before .pre .1 .1 .0, c .first-turn .ensures)
+loop-holds c = (filled-none _ _ _ _ _ (c .before .before .before .before .before .before .before .before .pre .0 .1) (c .before .before .before .before .before .before .before .before .pre .0 .3), c .before .before .before .before .before .before .before .before .pre .1 .1 .1 .1, c .before .before .before .before .before .before .before .before .pre .1 .1 .1 .0)
 
-write-line-requires : tie.Need-write-line-requires Inv-loop μ-loop
-write-line-requires c κs =
-    let s = c .before .before .before .before .before .before .before .before .before .before .before .before .before .before .before in
-    let inv = c .before .before .before .before .before .before .loop .inv in
-    ((s .pre .0 .0, omega (arith, s .pre .0), omega (arith, inv .0 .room, kept _ _ _ _ _ _ _ _ (inv .0))), ((turn-kept _ _ _ _ (s .pre .1 .0 .1) (s .pre .1 .0 .0) (inv .3) .0, s .pre .1 .0 .2), (inv .2, inv .1)))
+div-t : tie.Need-div-t Inv-loop μ-loop
+div-t c = omega (arith, c .before .before .before .before .before .before .before .before .before .before .pre .1 .0 .0)
+
+rem-t : tie.Need-rem-t Inv-loop μ-loop
+rem-t c = omega (arith, c .before .before .before .before .before .before .before .before .before .before .before .pre .1 .0 .1)
+
+rem-smaller : tie.Need-rem-smaller Inv-loop μ-loop
+rem-smaller c = omega (arith, c .before .before .before .before .before .before .before .before .before .before .before .pre .1 .0 .0)
+
+sub-smaller : tie.Need-sub-smaller Inv-loop μ-loop
+sub-smaller c = omega (arith, mod-lt (c .before .before .loop .n) {m = c .before .before .before .before .before .before .before .before .before .before .before .args .point .after} (c .before .before .before .before .before .before .before .before .before .before .before .pre .1 .0 .0))
+
+add-smaller : tie.Need-add-smaller Inv-loop μ-loop
+add-smaller c = omega (arith, c .before .before .before .before .before .before .before .before .before .before .before .pre .0 .2, c .before .before .before .before .before .before .before .before .before .before .before .pre .1 .0 .2)
+
+smaller-requires : tie.Need-smaller-requires Inv-loop μ-loop
+smaller-requires c κs = search needs
+
+take-ending-requires : tie.Need-take-ending-requires Inv-loop μ-loop
+take-ending-requires c κs = let s = c .before .before .before .before .before .before .before .before .before .before .before .before .before .before .before .before .before in
+    let inv = c .before .before .before .before .before .before .before .before .loop .inv in
+    ((mod-lt _ (s .pre .1 .0 .1), omega (arith, inv .0 .room, kept _ _ _ _ _ _ _ _ (inv .0))), (s .pre .1 .1 .0, (inv .2, inv .1)))
+
+write-turn-requires : tie.Need-write-turn-requires Inv-loop μ-loop
+write-turn-requires c κs = let s = c .before .before .before .before .before .before .before .before .before .before .before .before .before .before .before .before .before .before .before .before .before .before .before .before in
+    let inv = c .before .before .before .before .before .before .before .before .before .before .before .before .before .before .before .loop .inv in
+    ((s .pre .0 .0, omega (arith, c .before .before .before .before .before .before .before .before .before .before .before .before .smaller .ensures, c .before .before .before .before .before .before .before .before .before .before .before .before .before .before .loop-test .taken), omega (arith, c .before .before .before .before .before .before .before .before .before .before .before .before .smaller .ensures, s .pre .0 .2), omega (arith, inv .0 .room, kept _ _ _ _ _ _ _ _ (inv .0))), omega (arith, c .before .before .before .before .before .before .take-ending .ensures .1 .1, c .before .before .before .before .before .before .take-ending .kept .1 .1 .1 .1 .1 .1 .1 .1 .1 .1 .1 .1 .1 .0, inv .2 .lineSize))
+
+remember-requires : tie.Need-remember-requires Inv-loop μ-loop
+remember-requires c κs = (ending-within (c .before .before .before .before .before .before .before .before .before .before .before .before .before .before .before .before .before .before .before .before .before .before .before .before .before .before .before .before .before .before .before .args .k) (c .before .before .before .before .before .before .before .before .before .before .before .before .before .before .before .before .before .before .before .before .before .before .before .before .before .before .before .before .before .before .before .args .left .now) (c .before .before .before .before .before .before .before .before .before .before .before .before .before .before .before .before .before .before .before .before .before .before .before .before .before .before .before .before .before .before .before .args .right .now) (c .before .before .before .before .before .before .before .before .before .before .before .before .before .before .before .before .before .before .before .before .before .before .before .before .before .before .before .before .before .before .before .args .window .now) (c .before .before .before .before .before .before .before .before .before .before .before .before .before .before .before .before .before .before .before .before .before .before .before .before .before .before .before .before .before .before .before .args .question .now) (c .before .before .before .before .before .before .before .before .before .before .before .before .before .before .before .before .before .before .before .before .before .before .before .before .before .before .before .before .before .before .before .args .point) _ _ _ _ _ _ _ _ _ _ _ _ (c .before .before .before .before .before .before .before .before .before .before .before .before .before .take-ending .ensures .1 .0) (c .before .before .before .before .before .before .before .before .before .before .before .before .before .before .before .before .before .before .before .before .before .before .loop .inv .1) (omega (arith, c .before .before .before .before .before .before .before .before .before .before .before .before .before .before .before .before .before .before .before .before .before .before .loop .inv .0 .room, kept _ _ _ _ _ _ _ _ (c .before .before .before .before .before .before .before .before .before .before .before .before .before .before .before .before .before .before .before .before .before .before .loop .inv .0))) (omega (arith, c .before .before .before .before .before .before .before .before .before .before .before .before .before .before .before .before .before .before .before .smaller .ensures, c .before .before .before .before .before .before .before .before .before .before .before .before .before .before .before .before .before .before .before .before .before .loop-test .taken)) (c .before .before .before .before .before .before .write-turn .ensures) _ (c .before .before .before .before .before .before .before .before .before .before .before .before .before .take-ending .ensures .0), c .before .before .before .before .before .before .before .before .before .before .before .before .before .before .before .before .before .before .before .before .before .before .loop .inv .2 .fromsSize, c .before .before .before .before .before .before .before .before .before .before .before .before .before .before .before .before .before .before .before .before .before .before .loop .inv .2 .endsSize)
 
 same-length : tie.Need-same-length Inv-loop μ-loop
-same-length c = c .before .before .before .before .before .before .before .write-line .kept .1 .1 .1 .1 .1 .1 .1 .1 .1 .0 ∙ kept _ _ _ _ _ _ _ _ (c .before .before .before .before .before .before .before .before .before .before .before .before .before .before .loop .inv .0)
+same-length c = c .before .before .before .before .before .before .before .before .write-turn .kept .1 .1 .1 .1 .1 .0 ∙ kept _ _ _ _ _ _ _ _ (c .before .before .before .before .before .before .before .before .before .before .before .before .before .before .before .before .before .before .before .before .before .before .before .before .loop .inv .0)
 
 same-length-2 : tie.Need-same-length-2 Inv-loop μ-loop
-same-length-2 c = c .before .before .before .before .before .before .before .write-line .ensures .1 .1 .1 .textSize ∙ sym (c .before .before .before .before .before .before .before .before .before .before .before .before .before .before .before .before .before .before .before .before .before .before .before .pre .1 .1 .0 .textSize)
+same-length-2 c = c .before .before .before .before .before .before .before .before .before .before .before .before .before .before .before .take-ending .kept .1 .1 .1 .1 .1 .1 .1 .1 .1 .1 .1 .1 .0 ∙ c .before .before .before .before .before .before .before .before .before .before .before .before .before .before .before .before .before .before .before .before .before .before .before .before .loop .inv .2 .textSize ∙ sym (c .before .before .before .before .before .before .before .before .before .before .before .before .before .before .before .before .before .before .before .before .before .before .before .before .before .before .before .before .before .before .before .before .before .pre .1 .1 .1 .0 .textSize)
 
 same-length-3 : tie.Need-same-length-3 Inv-loop μ-loop
-same-length-3 c = c .before .before .before .before .before .before .before .write-line .ensures .1 .1 .1 .endingSize ∙ sym (c .before .before .before .before .before .before .before .before .before .before .before .before .before .before .before .before .before .before .before .before .before .before .before .pre .1 .1 .0 .endingSize)
+same-length-3 c = c .before .before .before .before .before .before .before .before .write-turn .kept .1 .1 .1 .1 .1 .1 .0 ∙ c .before .before .before .before .before .before .before .before .before .before .before .before .before .before .before .take-ending .kept .1 .1 .1 .1 .1 .1 .1 .1 .1 .1 .1 .1 .1 .0 ∙ c .before .before .before .before .before .before .before .before .before .before .before .before .before .before .before .before .before .before .before .before .before .before .before .before .loop .inv .2 .lineSize ∙ sym (c .before .before .before .before .before .before .before .before .before .before .before .before .before .before .before .before .before .before .before .before .before .before .before .before .before .before .before .before .before .before .before .before .before .pre .1 .1 .1 .0 .lineSize)
 
 returns : tie.Need-returns Inv-loop μ-loop
-returns c =
-    let e = c .before .before .before .before .before .before .before .write-line .ensures in
-    (filled-last _ _ _ _ _ _ _ _ (c .before .before .before .before .before .before .before .before .before .before .before .before .before .before .loop .inv .0) (omega arith) _ (line-turn (c .before .before .before .before .before .before .before .before .before .before .before .before .before .before .before .before .before .before .before .before .before .before .before .args .k) _ _ _ _ _ _ _ (c .before .before .before .before .before .before .before .before .before .before .before .before .before .before .loop .inv .3)) _ _ (e .0) (e .1 .0) (c .if1 .taken) (line-some (c .before .before .before .before .before .before .before .before .before .before .before .before .before .before .before .before .before .before .before .before .before .before .before .args .k) _ _ _ _ _ _ _ _), e .1 .1 .1)
-
-add-n : tie.Need-add-n Inv-loop μ-loop
-add-n c = omega (arith, c .before .before .before .before .before .before .before .before .before .before .before .before .before .before .before .before .before .before .before .before .before .before .before .pre .0)
-
-next-turn-requires : tie.Need-next-turn-requires Inv-loop μ-loop
-next-turn-requires c κs =
-    let s = c .before .before .before .before .before .before .before .before .before .before .before .before .before .before .before .before .before .before .before .before .before .before .before in
-    let t = turn-kept _ _ _ _ (s .pre .1 .0 .1) (s .pre .1 .0 .0) (c .before .before .before .before .before .before .before .before .before .before .before .before .before .before .loop .inv .3) in
-    (t .1, t .0)
+returns c = (turn-full (c .before .before .before .before .before .before .before .before .before .before .before .before .before .before .before .before .before .before .before .before .before .before .before .before .before .before .before .before .before .before .before .before .before .args .k) (c .before .before .before .before .before .before .before .before .before .before .before .before .before .before .before .before .before .before .before .before .before .before .before .before .before .before .before .before .before .before .before .before .before .args .left .now) (c .before .before .before .before .before .before .before .before .before .before .before .before .before .before .before .before .before .before .before .before .before .before .before .before .before .before .before .before .before .before .before .before .before .args .right .now) (c .before .before .before .before .before .before .before .before .before .before .before .before .before .before .before .before .before .before .before .before .before .before .before .before .before .before .before .before .before .before .before .before .before .args .window .now) (c .before .before .before .before .before .before .before .before .before .before .before .before .before .before .before .before .before .before .before .before .before .before .before .before .before .before .before .before .before .before .before .before .before .args .question .now) (c .before .before .before .before .before .before .before .before .before .before .before .before .before .before .before .before .before .before .before .before .before .before .before .before .before .before .before .before .before .before .before .before .before .args .point) _ _ _ _ _ _ _ _ _ _ _ _ (c .before .before .before .before .before .before .before .before .before .before .before .before .before .before .before .take-ending .ensures .1 .0) (c .before .before .before .before .before .before .before .before .before .before .before .before .before .before .before .before .before .before .before .before .before .before .before .before .loop .inv .1) (omega (arith, c .before .before .before .before .before .before .before .before .before .before .before .before .before .before .before .before .before .before .before .before .before .before .before .before .loop .inv .0 .room, kept _ _ _ _ _ _ _ _ (c .before .before .before .before .before .before .before .before .before .before .before .before .before .before .before .before .before .before .before .before .before .before .before .before .loop .inv .0))) (omega (arith, c .before .before .before .before .before .before .before .before .before .before .before .before .before .before .before .before .before .before .before .before .before .smaller .ensures, c .before .before .before .before .before .before .before .before .before .before .before .before .before .before .before .before .before .before .before .before .before .before .before .loop-test .taken)) (c .before .before .before .before .before .before .before .before .write-turn .ensures) _ _ _ _ (c .before .before .before .before .before .before .before .before .before .before .before .before .before .before .before .before .before .before .before .before .before .before .before .before .loop .inv .0) (omega (arith, c .before .before .before .before .before .before .before .before .before .before .before .before .before .before .before .before .before .before .before .before .before .smaller .ensures)) (omega (arith, c .before .before .before .before .before .before .before .before .before .before .before .before .before .before .before .before .before .before .before .before .before .smaller .ensures)) (c .before .before .before .before .before .before .before .before .before .before .before .before .before .before .before .before .before .before .before .before .before .before .before .before .before .before .before .before .before .before .before .before .before .pre .1 .0 .0) refl (omega (arith, c .if1 .taken)), (scratch-kept _ _ _ _ _ _ _ _ _ _ _ _ (c .before .before .before .before .before .before .before .before .before .before .before .before .before .before .before .before .before .before .before .before .before .before .before .before .loop .inv .2) (c .before .remember .ensures .0) (c .before .remember .ensures .1) (c .before .before .before .before .before .before .before .before .before .before .before .before .before .before .before .take-ending .kept .1 .1 .1 .1 .1 .1 .1 .1 .1 .1 .1 .1 .0) (c .before .before .before .before .before .before .before .before .write-turn .kept .1 .1 .1 .1 .1 .1 .0 ∙ c .before .before .before .before .before .before .before .before .before .before .before .before .before .before .before .take-ending .kept .1 .1 .1 .1 .1 .1 .1 .1 .1 .1 .1 .1 .1 .0)))
 
 loop-less : tie.Need-loop-less Inv-loop μ-loop
-loop-less c = omega arith
+loop-less c = omega (arith, c .before .before .before .before .before .before .before .before .before .before .before .before .before .before .before .before .before .before .before .before .before .smaller .ensures, c .if1 .left, mod-lt (c .before .before .before .before .before .before .before .before .before .before .before .before .before .before .before .before .before .before .before .before .before .before .before .before .loop .n) {m = c .before .before .before .before .before .before .before .before .before .before .before .before .before .before .before .before .before .before .before .before .before .before .before .before .before .before .before .before .before .before .before .before .before .args .point .after} (c .before .before .before .before .before .before .before .before .before .before .before .before .before .before .before .before .before .before .before .before .before .before .before .before .before .before .before .before .before .before .before .before .before .pre .1 .0 .0))
 
 loop-again : tie.Need-loop-again Inv-loop μ-loop
-loop-again c =
-    let s = c .before .before .before .before .before .before .before .before .before .before .before .before .before .before .before .before .before .before .before .before .before .before .before .before in
-    let e = c .before .before .before .before .before .before .before .before .write-line .ensures in
-    let inv = c .before .before .before .before .before .before .before .before .before .before .before .before .before .before .before .loop .inv in
-    (filled-next _ _ _ _ _ _ _ _ (inv .0) (omega (arith, c .before .before .before .before .before .before .before .before .before .before .before .before .before .before .loop-test .taken)) _ (line-turn (s .args .k) _ _ _ _ _ _ _ (inv .3)) _ _ (e .0) (e .1 .0) (c .before .if1 .left), e .1 .1 .0, e .1 .1 .1, c .next-turn .ensures ∙ ap (turnAfter _ _) (inv .3) ∙ turn-next _ _ _ (s .pre .1 .0 .1) (s .pre .1 .0 .0))
+loop-again c = (turn-done (c .before .before .before .before .before .before .before .before .before .before .before .before .before .before .before .before .before .before .before .before .before .before .before .before .before .before .before .before .before .before .before .before .before .args .k) (c .before .before .before .before .before .before .before .before .before .before .before .before .before .before .before .before .before .before .before .before .before .before .before .before .before .before .before .before .before .before .before .before .before .args .left .now) (c .before .before .before .before .before .before .before .before .before .before .before .before .before .before .before .before .before .before .before .before .before .before .before .before .before .before .before .before .before .before .before .before .before .args .right .now) (c .before .before .before .before .before .before .before .before .before .before .before .before .before .before .before .before .before .before .before .before .before .before .before .before .before .before .before .before .before .before .before .before .before .args .window .now) (c .before .before .before .before .before .before .before .before .before .before .before .before .before .before .before .before .before .before .before .before .before .before .before .before .before .before .before .before .before .before .before .before .before .args .question .now) (c .before .before .before .before .before .before .before .before .before .before .before .before .before .before .before .before .before .before .before .before .before .before .before .before .before .before .before .before .before .before .before .before .before .args .point) _ _ _ _ _ _ _ _ _ _ _ _ (c .before .before .before .before .before .before .before .before .before .before .before .before .before .before .before .take-ending .ensures .1 .0) (c .before .before .before .before .before .before .before .before .before .before .before .before .before .before .before .before .before .before .before .before .before .before .before .before .loop .inv .1) (omega (arith, c .before .before .before .before .before .before .before .before .before .before .before .before .before .before .before .before .before .before .before .before .before .before .before .before .loop .inv .0 .room, kept _ _ _ _ _ _ _ _ (c .before .before .before .before .before .before .before .before .before .before .before .before .before .before .before .before .before .before .before .before .before .before .before .before .loop .inv .0))) (omega (arith, c .before .before .before .before .before .before .before .before .before .before .before .before .before .before .before .before .before .before .before .before .before .smaller .ensures, c .before .before .before .before .before .before .before .before .before .before .before .before .before .before .before .before .before .before .before .before .before .before .before .loop-test .taken)) (c .before .before .before .before .before .before .before .before .write-turn .ensures) _ _ _ _ (c .before .before .before .before .before .before .before .before .before .before .before .before .before .before .before .before .before .before .before .before .before .before .before .before .loop .inv .0) (omega (arith, c .before .before .before .before .before .before .before .before .before .before .before .before .before .before .before .before .before .before .before .before .before .smaller .ensures)) (omega (arith, c .before .before .before .before .before .before .before .before .before .before .before .before .before .before .before .before .before .before .before .before .before .smaller .ensures)) (c .before .before .before .before .before .before .before .before .before .before .before .before .before .before .before .before .before .before .before .before .before .before .before .before .before .before .before .before .before .before .before .before .before .pre .1 .0 .0) refl (omega (arith, c .if1 .left)), turn-known (c .before .before .before .before .before .before .before .before .before .before .before .before .before .before .before .before .before .before .before .before .before .before .before .before .before .before .before .before .before .before .before .before .before .args .k) (c .before .before .before .before .before .before .before .before .before .before .before .before .before .before .before .before .before .before .before .before .before .before .before .before .before .before .before .before .before .before .before .before .before .args .left .now) (c .before .before .before .before .before .before .before .before .before .before .before .before .before .before .before .before .before .before .before .before .before .before .before .before .before .before .before .before .before .before .before .before .before .args .right .now) (c .before .before .before .before .before .before .before .before .before .before .before .before .before .before .before .before .before .before .before .before .before .before .before .before .before .before .before .before .before .before .before .before .before .args .window .now) (c .before .before .before .before .before .before .before .before .before .before .before .before .before .before .before .before .before .before .before .before .before .before .before .before .before .before .before .before .before .before .before .before .before .args .question .now) (c .before .before .before .before .before .before .before .before .before .before .before .before .before .before .before .before .before .before .before .before .before .before .before .before .before .before .before .before .before .before .before .before .before .args .point) _ _ _ _ _ _ _ _ _ _ _ _ (c .before .before .before .before .before .before .before .before .before .before .before .before .before .before .before .take-ending .ensures .1 .0) (c .before .before .before .before .before .before .before .before .before .before .before .before .before .before .before .before .before .before .before .before .before .before .before .before .loop .inv .1) (omega (arith, c .before .before .before .before .before .before .before .before .before .before .before .before .before .before .before .before .before .before .before .before .before .before .before .before .loop .inv .0 .room, kept _ _ _ _ _ _ _ _ (c .before .before .before .before .before .before .before .before .before .before .before .before .before .before .before .before .before .before .before .before .before .before .before .before .loop .inv .0))) (omega (arith, c .before .before .before .before .before .before .before .before .before .before .before .before .before .before .before .before .before .before .before .before .before .smaller .ensures, c .before .before .before .before .before .before .before .before .before .before .before .before .before .before .before .before .before .before .before .before .before .before .before .loop-test .taken)) (c .before .before .before .before .before .before .before .before .write-turn .ensures) _ (c .before .before .before .before .before .before .before .before .before .before .before .before .before .before .before .take-ending .ensures .0) (c .before .before .before .before .before .before .before .before .before .before .before .before .before .before .before .before .before .before .before .before .before .before .before .before .loop .inv .2 .fromsSize) (c .before .before .before .before .before .before .before .before .before .before .before .before .before .before .before .before .before .before .before .before .before .before .before .before .loop .inv .2 .endsSize) _ _ (c .before .remember .ensures .0) (c .before .remember .ensures .1), (scratch-kept _ _ _ _ _ _ _ _ _ _ _ _ (c .before .before .before .before .before .before .before .before .before .before .before .before .before .before .before .before .before .before .before .before .before .before .before .before .loop .inv .2) (c .before .remember .ensures .0) (c .before .remember .ensures .1) (c .before .before .before .before .before .before .before .before .before .before .before .before .before .before .before .take-ending .kept .1 .1 .1 .1 .1 .1 .1 .1 .1 .1 .1 .1 .0) (c .before .before .before .before .before .before .before .before .write-turn .kept .1 .1 .1 .1 .1 .1 .0 ∙ c .before .before .before .before .before .before .before .before .before .before .before .before .before .before .before .take-ending .kept .1 .1 .1 .1 .1 .1 .1 .1 .1 .1 .1 .1 .1 .0)))
 
 same-length-4 : tie.Need-same-length-4 Inv-loop μ-loop
 same-length-4 c = kept _ _ _ _ _ _ _ _ (c .before .loop .inv .0)
 
 same-length-5 : tie.Need-same-length-5 Inv-loop μ-loop
-same-length-5 c = c .before .loop .inv .2 .textSize ∙ sym (c .before .before .before .before .before .before .before .before .before .before .pre .1 .1 .0 .textSize)
+same-length-5 c = c .before .loop .inv .2 .textSize ∙ sym (c .before .before .before .before .before .before .before .before .before .before .pre .1 .1 .1 .0 .textSize)
 
 same-length-6 : tie.Need-same-length-6 Inv-loop μ-loop
-same-length-6 c = c .before .loop .inv .2 .endingSize ∙ sym (c .before .before .before .before .before .before .before .before .before .before .pre .1 .1 .0 .endingSize)
+same-length-6 c = c .before .loop .inv .2 .lineSize ∙ sym (c .before .before .before .before .before .before .before .before .before .before .pre .1 .1 .1 .0 .lineSize)
 
 returns-2 : tie.Need-returns-2 Inv-loop μ-loop
 returns-2 c = (filled-end _ _ _ _ _ _ _ _ (c .before .loop .inv .0) (omega (arith, c .before .loop .inv .0 .due)), c .before .loop .inv .2)
@@ -77,15 +85,20 @@ write-numbers-spec =
     (tie.spec
     Inv-loop
     μ-loop
-    first-turn-requires
     loop-holds
-    write-line-requires
+    div-t
+    rem-t
+    rem-smaller
+    sub-smaller
+    add-smaller
+    smaller-requires
+    take-ending-requires
+    write-turn-requires
+    remember-requires
     same-length
     same-length-2
     same-length-3
     returns
-    add-n
-    next-turn-requires
     loop-less
     loop-again
     same-length-4
