@@ -15,3 +15,5 @@ pub mod PartsLines
 pub mod SheetBlocks
 pub mod Published
 pub mod Standing
+pub mod KeptHalves
+pub mod KeptTable

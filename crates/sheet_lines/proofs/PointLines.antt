@@ -23,7 +23,7 @@ use Rattle.sheet_lines.proofs.Filling.{listed-agree}
 use Rattle.sheet_lines.proofs.WindowLines.{line-windowed}
 
 -- the count of a log that can be numbered
-counted-log : (k : ℕ) (l r s : List ℕ) → checkLog k l r s ≡ Sound → length (splittingsOf k l r s) ≤ splittingLimit → countedAs (countOf k l r s) ≡ length (splittingsOf k l r s)
+pub counted-log : (k : ℕ) (l r s : List ℕ) → checkLog k l r s ≡ Sound → length (splittingsOf k l r s) ≤ splittingLimit → countedAs (countOf k l r s) ≡ length (splittingsOf k l r s)
 unfolding countedAs countOf checkCount firstOf splittingLimit
 counted-log k l r s e h = rw (e, le-ltb 65535 (length (splittingsOf k l r s)) h)
 

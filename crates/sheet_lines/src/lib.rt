@@ -2,6 +2,7 @@
 mod copy;
 mod digits;
 mod ending;
+mod kept;
 mod line;
 pub mod lines;
 mod point;
