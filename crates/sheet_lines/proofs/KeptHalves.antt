@@ -24,8 +24,8 @@ use Rattle.halves.proofs.HalfRuns.{stateBytes}
 use Rattle.machines.specs.Joints.{jointOf}
 use Rattle.machines.proofs.JointRuns.{Tables, tablesOf, joint-stop}
 use Rattle.machines.proofs.JointParts.{joint-until, joint-from, joint-later}
-use Rattle.splitting.specs.Splittings.{splittingsOf, checkLog, rightHalf, halfLength}
-use Rattle.splitting.proofs.LogRuns.{left-table, right-table, sound-log, nth, nth-joins, nth-length}
+use Rattle.splitting.specs.Splittings.{splittingsOf, checkLog, rightHalf}
+use Rattle.splitting.proofs.LogRuns.{left-table, right-table, sound-log, nth, nth-joins}
 use Rattle.splitting.proofs.AllSplittings.{count-some}
 use Rattle.quotient.proofs.SplitRuns.{LogParts, log-parts}
 use Rattle.sheet_lines.specs.Working.{olderPart, newerPart}

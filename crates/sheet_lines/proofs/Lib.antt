@@ -17,3 +17,4 @@ pub mod Published
 pub mod Standing
 pub mod KeptHalves
 pub mod KeptTable
+pub mod KeptQuotients

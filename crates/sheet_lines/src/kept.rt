@@ -178,10 +178,12 @@ fn put_half(t: usize, kept: Kept, halves: &[u8], half: &mut [u8]) -> usize
     ensures { λ r. ⌜ take r (now (half .exit)) ≡ take (2 * kept .older + 1) (drop (401 * (t / kept .ways)) (now (halves .entry))) ++ take (2 * kept .newer) (drop (401 * (256 + t % kept .ways) + 1) (now (halves .entry))) ⌝ }
 {
     let ways = kept.ways;
+    let older = t / ways;
+    let newer = t % ways;
     let n = 2 * kept.older + 1;
     let m = 2 * kept.newer;
-    let from = 401 * (t / ways);
-    let then = 401 * (256 + t % ways) + 1;
+    let from = 401 * older;
+    let then = 401 * (256 + newer) + 1;
     bytes::copy(&halves[from..from + n], half);
     bytes::copy(&halves[then..then + m], &mut half[n..]);
     n + m

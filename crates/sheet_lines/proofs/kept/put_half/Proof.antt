@@ -4,7 +4,13 @@ use Rattle.sheet_lines.proofs.kept.put_half.Tie as tie
 use Prim.Native.Nat.{_+_, _*_, _/_, _%_}
 use native.Mathlib.Nat.{mod-lt}
 use native.Mathlib.Omega.{arith}
-use Rattle.sheet_lines.proofs.KeptTable.{half-put}
+use Rattle.sheet_lines.proofs.KeptQuotients.{half-put}
+
+div-older : tie.Need-div-older
+div-older c = search needs
+
+rem-newer : tie.Need-rem-newer
+rem-newer c = search needs
 
 mul-n : tie.Need-mul-n
 mul-n c = search needs
@@ -15,35 +21,29 @@ add-n c = search needs
 mul-m : tie.Need-mul-m
 mul-m c = search needs
 
-div-from : tie.Need-div-from
-div-from c = search needs
-
 mul-from : tie.Need-mul-from
-mul-from c = search needs
-
-rem-then : tie.Need-rem-then
-rem-then c = search needs
+mul-from c = omega (arith, mod-lt (c .before .before .before .before .args .t) (c .before .before .before .before .pre .0 .0), c .before .before .before .before .pre .0, c .before .before .before .before .pre .1)
 
 add-then : tie.Need-add-then
-add-then c = omega (arith, mod-lt (c .before .before .before .before .args .t) (c .before .before .before .before .pre .0 .0), c .before .before .before .before .pre .0)
+add-then c = omega (arith, mod-lt (c .before .before .before .before .args .t) (c .before .before .before .before .pre .0 .0), c .before .before .before .before .pre .0, c .before .before .before .before .pre .1)
 
 mul-then : tie.Need-mul-then
-mul-then c = omega (arith, mod-lt (c .before .before .before .before .args .t) (c .before .before .before .before .pre .0 .0), c .before .before .before .before .pre .0)
+mul-then c = omega (arith, mod-lt (c .before .before .before .before .args .t) (c .before .before .before .before .pre .0 .0), c .before .before .before .before .pre .0, c .before .before .before .before .pre .1)
 
 add-then-2 : tie.Need-add-then-2
-add-then-2 c = omega (arith, mod-lt (c .before .before .before .before .args .t) (c .before .before .before .before .pre .0 .0), c .before .before .before .before .pre .0)
+add-then-2 c = omega (arith, mod-lt (c .before .before .before .before .args .t) (c .before .before .before .before .pre .0 .0), c .before .before .before .before .pre .0, c .before .before .before .before .pre .1)
 
 add-copy : tie.Need-add-copy
-add-copy c = search needs
+add-copy c = omega (arith, mod-lt (c .before .before .before .before .args .t) (c .before .before .before .before .pre .0 .0), c .before .before .before .before .pre .0, c .before .before .before .before .pre .1)
 
 sub-copy : tie.Need-sub-copy
-sub-copy c = search needs
+sub-copy c = omega (arith, mod-lt (c .before .before .before .before .args .t) (c .before .before .before .before .pre .0 .0), c .before .before .before .before .pre .0, c .before .before .before .before .pre .1)
 
 part-copy-start : tie.Need-part-copy-start
-part-copy-start c = search needs
+part-copy-start c = omega (arith, mod-lt (c .before .before .before .before .args .t) (c .before .before .before .before .pre .0 .0), c .before .before .before .before .pre .0, c .before .before .before .before .pre .1)
 
 part-copy-end : tie.Need-part-copy-end
-part-copy-end c = search needs
+part-copy-end c = omega (arith, mod-lt (c .before .before .before .before .args .t) (c .before .before .before .before .pre .0 .0), c .before .before .before .before .pre .0, c .before .before .before .before .pre .1)
 
 copy-requires : tie.Need-copy-requires
 copy-requires c κs = search needs
@@ -52,10 +52,10 @@ add-copy-2 : tie.Need-add-copy-2
 add-copy-2 c = omega (arith, mod-lt (c .before .before .before .before .before .before .before .before .before .args .t) (c .before .before .before .before .before .before .before .before .before .pre .0 .0), c .before .before .before .before .before .before .before .before .before .pre .0, c .before .before .before .before .before .before .before .before .before .pre .1)
 
 sub-copy-2 : tie.Need-sub-copy-2
-sub-copy-2 c = search needs
+sub-copy-2 c = omega (arith, mod-lt (c .before .before .before .before .before .before .before .before .before .args .t) (c .before .before .before .before .before .before .before .before .before .pre .0 .0), c .before .before .before .before .before .before .before .before .before .pre .0, c .before .before .before .before .before .before .before .before .before .pre .1)
 
 part-copy-start-2 : tie.Need-part-copy-start-2
-part-copy-start-2 c = search needs
+part-copy-start-2 c = omega (arith, mod-lt (c .before .before .before .before .before .before .before .before .before .args .t) (c .before .before .before .before .before .before .before .before .before .pre .0 .0), c .before .before .before .before .before .before .before .before .before .pre .0, c .before .before .before .before .before .before .before .before .before .pre .1)
 
 part-copy-end-2 : tie.Need-part-copy-end-2
 part-copy-end-2 c = omega (arith, mod-lt (c .before .before .before .before .before .before .before .before .before .args .t) (c .before .before .before .before .before .before .before .before .before .pre .0 .0), c .before .before .before .before .before .before .before .before .before .pre .0, c .before .before .before .before .before .before .before .before .before .pre .1)
@@ -85,12 +85,12 @@ pub put-half-spec : {M : Type 1} → statement M
 put-half-spec =
     tie.close
     (tie.spec
+    div-older
+    rem-newer
     mul-n
     add-n
     mul-m
-    div-from
     mul-from
-    rem-then
     add-then
     mul-then
     add-then-2

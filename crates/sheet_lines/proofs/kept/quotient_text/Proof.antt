@@ -4,7 +4,7 @@ use Rattle.sheet_lines.proofs.kept.quotient_text.Tie as tie
 use mathlib.Core.Path.{sym, _∙_}
 use native.Mathlib.Omega.{arith}
 use lib.Seq.{length-take-le}
-use Rattle.sheet_lines.proofs.KeptTable.{kept-parts, kept-numbers, kept-steps, half-together, kept-quotient}
+use Rattle.sheet_lines.proofs.KeptQuotients.{kept-parts, kept-numbers, kept-steps, half-together, kept-quotient}
 
 by-number-requires : tie.Need-by-number-requires
 by-number-requires c κs = search needs
