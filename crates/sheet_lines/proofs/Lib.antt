@@ -14,3 +14,6 @@ pub mod PartsLines
 pub mod SheetBlocks
 pub mod Published
 pub mod Standing
+pub mod KeptHalves
+pub mod KeptTable
+pub mod KeptQuotients

@@ -50,14 +50,15 @@ unfolding putAt
 put-front xs at n [] h = refl
 put-front xs at n (a ∷ b) h = put-front (set xs at a) (suc at) n b (omega arith) ∙ take-set-le n xs at a h
 
+-- a part, as the end of a front
+pub part-front : (l : List ℕ) (from n : ℕ) → take n (drop from l) ≡ drop from (take (from + n) l)
+part-front l zero n = let z : zero + n ≡ n = omega arith in ap (λ x. take x l) (sym z)
+part-front [] (suc from) n = rw (take-nil, take-nil)
+part-front (x ∷ l) (suc from) n = let z : suc from + n ≡ suc (from + n) = omega arith in rw z (part-front l from n)
+
 -- a part in front keeps its value
 pub put-part : (xs : List ℕ) (at from n : ℕ) (b : List ℕ) → from + n ≤ at → take n (drop from (putAt xs at b)) ≡ take n (drop from xs)
 put-part xs at from n b h = part-front (putAt xs at b) from n ∙ ap (drop from) (put-front xs at (from + n) b h) ∙ sym (part-front xs from n)
-  where
-    part-front : (l : List ℕ) (f m : ℕ) → take m (drop f l) ≡ drop f (take (f + m) l)
-    part-front l zero m = let z : zero + m ≡ m = omega arith in ap (λ x. take x l) (sym z)
-    part-front [] (suc f) m = rw (take-nil, take-nil)
-    part-front (x ∷ l) (suc f) m = let z : suc f + m ≡ suc (f + m) = omega arith in rw z (part-front l f m)
 
 -- a byte in front of what is written
 set-front : (xs : List ℕ) (at a i : ℕ) (b : List ℕ) → i < at → set (putAt xs at b) i a ≡ putAt (set xs i a) at b

@@ -9,7 +9,7 @@ use lib.Dec.{ltb, eqb}
 use lib.Seq.{sets}
 use Rattle.labels.specs.declared.refusal.Check.the-variants.{Sound}
 use Rattle.formulas.specs.Formulas.{questionLimit, checkFormula}
-use Rattle.splitting.specs.Splittings.{splittingsOf, splittingLimit, checkLog}
+use Rattle.splitting.specs.Splittings.{splittingsOf, splittingLimit, checkLog, rightHalf}
 use Rattle.splitting.specs.declared.count.Counted.{Counted}
 use Rattle.splitting.specs.declared.count.Counted.the-variants as count
 use Rattle.sheet_lines.specs.declared.point.Point.{Point}
@@ -113,13 +113,34 @@ Forgotten ends n = (t : ℕ) → t < n → getD ends t 0 ≡ 0
 unfoldable pub afterOf : ℕ → ℕ → ℕ
 afterOf ways n = cond (eqb ways 1) 65536 n
 
--- a half that stands at a place of a table
+-- the two parts of a window that is cut behind its first m steps, each as a log of its own
+unfoldable pub olderPart : List ℕ → ℕ → List ℕ
+olderPart w m = take (3 * m + 2) w
+
+unfoldable pub newerPart : List ℕ → ℕ → List ℕ
+newerPart w m = drop (3 * m) w
+
+-- a half stands at a place of the table of halves, which has 401 bytes for each
 unfoldable pub HalfAt : List ℕ → ℕ → List ℕ → Type 0
 HalfAt halves i h = take (length h) (drop (401 * i) halves) ≡ h
 
--- how the halves of a window's splittings are kept in a table
+-- the right halves of the first n splittings of a log stand there, from the place `first` on
+unfoldable pub HalvesAt : ℕ → List ℕ → List ℕ → List ℕ → List ℕ → ℕ → ℕ → Type 0
+HalvesAt k l r s halves first n = (i : ℕ) → i < n → HalfAt halves (first + i) (rightHalf k l r s i)
+
+-- those of both parts of a window: the older part's from place 0 on, the newer part's from place 256 on
+pub record PartHalves (k : ℕ) (l r w : List ℕ) (kept : Kept) (halves : List ℕ) : Type 0 where
+  pub points : kept .older + kept .newer ≡ length w / 3
+  pub counted : kept .ways ≡ length (splittingsOf k l r (newerPart w (kept .older)))
+  pub fewOlder : length (splittingsOf k l r (olderPart w (kept .older))) ≤ 256
+  pub fewNewer : kept .ways ≤ 256
+  pub olderHalves : HalvesAt k l r (olderPart w (kept .older)) halves 0 (length (splittingsOf k l r (olderPart w (kept .older))))
+  pub newerHalves : HalvesAt k l r (newerPart w (kept .older)) halves 256 (kept .ways)
+
+-- the table has room for 512 halves, and holds those of the window's parts, or none are kept
 pub record Halved (k : ℕ) (l r w : List ℕ) (kept : Kept) (halves : List ℕ) : Type 0 where
   pub size : length halves ≡ 205312
+  pub stands : (kept .ways ≡ 0) ⊎ PartHalves k l r w kept halves
 
 -- what the lines of a point share: a window and a question that no check refuses, how many splittings the window has, and their halves
 pub record Shared (k : ℕ) (l r w f : List ℕ) (p : Point) (halves : List ℕ) : Type 0 where

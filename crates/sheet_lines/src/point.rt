@@ -247,7 +247,7 @@ fn letter_of(verdict: Verdict) -> u8
 }
 
 // How many splittings a log has; 1 where the count is refused.
-fn splittings_of(k: u8, left: &[u8], right: &[u8], run: &[u8]) -> usize
+pub(crate) fn splittings_of(k: u8, left: &[u8], right: &[u8], run: &[u8]) -> usize
     ensures { λ r. ⌜ r ≡ countedAs (countOf k (now (left .entry)) (now (right .entry)) (now (run .entry))) ⌝ }
 {
     match count(k, left, right, run) {

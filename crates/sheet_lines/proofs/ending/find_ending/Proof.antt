@@ -8,7 +8,7 @@ use lib.Seq.{length-take-le}
 use Rattle.sheet_lines.proofs.EndingLaws.{text-told, fields-ending, refusal-ending}
 
 quotient-text-requires : tie.Need-quotient-text-requires
-quotient-text-requires c κs = (c .before .before .before .before .before .before .before .before .pre .0 .1, (c .before .before .before .before .before .before .before .before .pre .0 .0, (c .before .before .before .before .before .before .before .before .pre .1 .0 .0, c .before .before .before .before .before .before .before .before .pre .1 .0 .1, c .before .before .before .before .before .before .before .before .pre .1 .1 .0)))
+quotient-text-requires c κs = (c .before .before .before .before .before .before .before .before .pre .0 .0, (c .before .before .before .before .before .before .before .before .pre .1 .0, (c .before .before .before .before .before .before .before .before .pre .0 .1, c .before .before .before .before .before .before .before .before .pre .1 .1 .0)))
 
 enum-known-n : tie.Need-enum-known-n
 enum-known-n c = search needs
