@@ -1,13 +1,16 @@
 -- The division of a question by a half run: what the checks let through, and the answers.
 use Prim.Native.Nat.{ℕ, _+_, _*_, _≤_, _<_, min}
 use mathlib.Core.Path.{_≡_, sym, _∙_, ap}
-use mathlib.Core.Bool.{true}
+use mathlib.Core.Bool.{true, false}
 use mathlib.Core.List.{List, []}
 use mathlib.Core.Option.{some}
 use native.Mathlib.Omega.{arith}
 use lib.ListN.{length, take}
 use lib.Seq.{take-length}
-use Rattle.hml.specs.Formula.{Formula, size}
+use lib.Dec.{leb, eqb}
+use borrow.Author.Tests.{le-leb, lt-leb, leb-true, eqb-true}
+use Rattle.hml.specs.Tests.{both-true}
+use Rattle.hml.specs.Formula.{Formula, size, nesting}
 use Rattle.hml.specs.Spell.{spell, length-spell}
 use Rattle.hml.specs.Quotient.{quotient}
 use Rattle.hml.specs.Labels.{pairs}
@@ -26,13 +29,17 @@ use Rattle.halves.proofs.HalfRuns.{accepted-half}
 use Rattle.halves.proofs.HalfBuffers.{accepted-held, held-copied}
 use Rattle.formulas.specs.Formulas.{questionLimit, Legal, checkFormula}
 use Rattle.formulas.specs.Sizes.{sizesOver}
-use Rattle.formulas.specs.Working.{treeOf}
-use Rattle.formulas.proofs.Checking.{judged-formula, legal-tree}
+use Rattle.formulas.specs.Forwards.{forwardsIn}
+use Rattle.formulas.specs.Working.{Tree, treeOf}
+use Rattle.formulas.proofs.Checking.{judged-formula, legal-tree, formula-length}
+use Rattle.formulas.proofs.Operators.{tree-some}
+use Rattle.formulas.proofs.ForwardCount.{nesting-forwards}
 use Rattle.formulas.proofs.TreeSizes.{length-over}
 use Rattle.formulas.proofs.Operands.{legal-part, legal-nesting}
-use Rattle.dividing.specs.Quotients.{treeBy, quotientBy, answerOf, outputAfter, checkDivision}
-use Rattle.dividing.specs.Working.{inFront, text, Ready}
+use Rattle.dividing.specs.Quotients.{treeBy, quotientBy, quotientLimit, answerOf, outputAfter, checkDivision}
+use Rattle.dividing.specs.Working.{inFront, text, Ready, surelyFits}
 use Rattle.dividing.specs.declared.divide.Quotient.the-variants as answer
+use Rattle.dividing.proofs.QuotientSize.{quotient-size}
 use Rattle.dividing.proofs.Answers.{text-length, too-large, too-short, enough-room, text-output, refused-kept}
 
 -- the order of the checks
@@ -61,14 +68,37 @@ module _ (k : ℕ) (t h f : List ℕ) where
       let (v, c) = both-sound (checkFormula k questionLimit f) _ b in
       (sound-table k t u, passed (isHalfRun t h) _ (both-sound (checkHalf t h) Sound c .0), judges (judged-formula k questionLimit f) .0 v)
 
+-- the output is shorter than the question
+pub room-missing : (f : List ℕ) (room : ℕ) → room < length f → false ≡ surelyFits f room
+unfolding surelyFits
+room-missing f room h = rw (lt-leb (length f) room h)
+
+-- it is not, so the count of forward modalities decides
+pub forwards-seen : (f : List ℕ) (room : ℕ) → length f ≤ room → (n : ℕ) → n ≡ forwardsIn f → eqb n 0 ≡ surelyFits f room
+unfolding surelyFits
+forwards-seen f room h n e = rw (le-leb (length f) room h, e)
+
 module _ (labels : Labels) (t h f : List ℕ) (run : isHalfRun t h ≡ true) (legal : Legal (labels .pairs) questionLimit f) where
   -- the tree of the quotient
-  tree : Formula
+  pub tree : Formula
   tree = quotient (pairs (labels .pairs)) (tableOf t) (treeOf f) (halfOf h)
 
   tree-is : quotientBy (labels .pairs) t (halfOf h) f ≡ some tree
   unfolding quotientBy treeBy tree
   tree-is = rw (legal-tree (labels .pairs) questionLimit f legal)
+
+  -- neither 17 nor 18 with so many bytes lent
+  abbrev pub Fits : ℕ → Type 0
+  Fits room = (size tree ≤ quotientLimit) × (2 * size tree ≤ room)
+
+  -- a question without forward modalities has at least the nodes of its quotient, and 64 at most
+  pub sure-fits : (room : ℕ) → surelyFits f room ≡ true → Fits room
+  unfolding surelyFits tree Legal Tree
+  sure-fits room e =
+      let (long, none) = both-true {a = leb (length f) room} e in
+      let (φ, s, z, l, d) = legal in
+      let flat : nesting (treeOf f) ≡ 0 = omega (arith, nesting-forwards f (φ, [], s), eqb-true (forwardsIn f) _ none) in
+      omega (arith, quotient-size (pairs (labels .pairs)) (tableOf t) (treeOf f) (halfOf h) flat, tree-some f (φ, [], s), formula-length f φ s, z, leb-true (length f) room long)
 
   module _ (xs : List ℕ) (c : take (length h) xs ≡ h) where
     -- the copied half and the question are ready for the count and the writing
@@ -105,14 +135,18 @@ module _ (labels : Labels) (t h f : List ℕ) (run : isHalfRun t h ≡ true) (le
             × (out ≡ outputAfter Sound (quotientBy (labels .pairs) t (halfOf h) f) out)
         answer-short out h = rw tree-is (let a = too-short tree (omega (arith, counted-size, small)) (length out) (omega (arith, counted-size, h)) in (sym a, refused-kept Sound (some tree) out OutputTooShort a))
 
-        module _ (out : List ℕ) (room : 2 * n ≤ length out) where
-          pub text-fits : length (text labels t f (halfOf (take (length h) xs))) ≤ length out
-          text-fits = omega (arith, text-size, counted-size, room)
+        -- what is counted within the limit and the room fits
+        pub counted-fits : (out : List ℕ) → 2 * n ≤ length out → Fits (length out)
+        counted-fits out room = omega (arith, counted-size, small, room)
 
-          pub answer-written : (m : ℕ) (zs : List ℕ) → m ≡ length (text labels t f (halfOf (take (length h) xs))) → zs ≡ inFront (text labels t f (halfOf (take (length h) xs))) out
-              → (answer.Written m ≡ answerOf Sound (quotientBy (labels .pairs) t (halfOf h) f) (length out)) × (zs ≡ outputAfter Sound (quotientBy (labels .pairs) t (halfOf h) f) out)
-          unfolding inFront
-          answer-written m zs p q =
-              let s : size tree ≤ 4096 = omega (arith, counted-size, small) in
-              let r : 2 * size tree ≤ length out = omega (arith, counted-size, room) in
-              rw tree-is (rw (p, text-size) (sym (enough-room tree s (length out) r)), q ∙ rw (text-is, text-length tree) (sym (text-output tree s out r)))
+    module _ (out : List ℕ) (fits : Fits (length out)) where
+      -- a quotient that fits is written, and its length is the answer
+      pub text-fits : length (text labels t f (halfOf (take (length h) xs))) ≤ length out
+      text-fits = omega (arith, text-size, fits)
+
+      pub answer-written : (m : ℕ) (zs : List ℕ) → m ≡ length (text labels t f (halfOf (take (length h) xs))) → zs ≡ inFront (text labels t f (halfOf (take (length h) xs))) out
+          → (answer.Written m ≡ answerOf Sound (quotientBy (labels .pairs) t (halfOf h) f) (length out)) × (zs ≡ outputAfter Sound (quotientBy (labels .pairs) t (halfOf h) f) out)
+      unfolding inFront
+      answer-written m zs p q =
+          let (s, r) = fits in
+          rw tree-is (rw (p, text-size) (sym (enough-room tree s (length out) r)), q ∙ rw (text-is, text-length tree) (sym (text-output tree s out r)))

@@ -5,5 +5,6 @@ pub mod Counting
 pub mod Readiness
 pub mod Texts
 pub mod Forwards
+pub mod QuotientSize
 pub mod Answers
 pub mod Division

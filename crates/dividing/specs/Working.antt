@@ -2,11 +2,11 @@
 use Prim.Native.Nat.{ℕ, _+_, _*_, _≤_}
 use mathlib.Core.Path.{_≡_}
 use mathlib.Core.Logic.{_⊎_}
-use mathlib.Core.Bool.{cond}
+use mathlib.Core.Bool.{Bool, _&&_, cond}
 use mathlib.Core.List.{List, [], _∷_, _++_}
 use mathlib.Core.Option.{Option, none, some}
 use lib.ListN.{length, getD, drop}
-use lib.Dec.{eqb}
+use lib.Dec.{eqb, leb}
 use Rattle.hml.specs.Tests.{same}
 use Rattle.hml.specs.Lists.{each, given}
 use Rattle.hml.specs.System.{Run, _▸_, Pairing}
@@ -18,6 +18,7 @@ use Rattle.labels.specs.declared.label.Labels.{Labels}
 use Rattle.tables.specs.Tables.{tableOf}
 use Rattle.halves.specs.Runs.{stepOf}
 use Rattle.halves.proofs.HalfBuffers.{HeldHalf}
+use Rattle.formulas.specs.Forwards.{forwardsIn}
 use Rattle.formulas.specs.Working.{treeOf}
 use Rattle.formulas.proofs.Operands.{Part}
 use Rattle.dividing.specs.declared.node.Past.{Past}
@@ -98,3 +99,7 @@ pub record Ready (sizes xs : List ℕ) (n steps : ℕ) (f : List ℕ) : Type 0 w
   pub room : n + 2 * (steps + nesting (treeOf f)) ≤ length xs
   pub size : length xs ≡ 409
   pub slots : length sizes ≡ 64
+
+-- is the question's quotient sure to fit? It has no forward modality, and there is room for as many bytes as it has itself
+unfoldable pub surelyFits : List ℕ → ℕ → Bool
+surelyFits f room = leb (length f) room && eqb (forwardsIn f) 0

@@ -2,6 +2,7 @@
 use crate::count::count_tree;
 use crate::write::write_tree;
 use formulas::check::check_formula;
+use formulas::forwards::count_forwards;
 use formulas::sizes::tree_sizes;
 use halves::half::check_half;
 use labels::label::Labels;
@@ -17,6 +18,7 @@ ghost use Rattle.tables.proofs.SoundTables.{SoundTable};
 ghost use Rattle.halves.specs.Halves.{halfOf, isHalfRun};
 ghost use Rattle.formulas.specs.Formulas.{Legal, questionLimit};
 ghost use Rattle.dividing.specs.Quotients.{quotientBy, checkDivision, answerOf, outputAfter};
+ghost use Rattle.dividing.specs.Working.{surelyFits};
 
 // How many bytes a quotient has.
 pub enum Quotient {
@@ -51,8 +53,8 @@ fn check_division(labels: Labels, table: &[u8], half: &[u8], question: &[u8]) ->
     }
 }
 
-// Counts the nodes first, whatever output is lent (17), then looks at the output's length (18), then writes. The run is copied once, into a buffer
-// with room for four steps more, and the sizes of the question's trees are found once.
+// Counts the nodes first, whatever output is lent (17), then looks at the output's length (18), then writes; where neither can come, it only
+// writes. The run is copied once, into a buffer with room for four steps more, and the sizes of the question's trees are found once.
 fn write_quotient(
     labels: Labels,
     table: &[u8],
@@ -71,6 +73,10 @@ fn write_quotient(
     bytes::copy(half, &mut run);
     let mut sizes = [0usize; 64];
     tree_sizes(question, &mut sizes);
+    if surely_fits(question, out.len()) {
+        let n = write_tree(labels, table, &sizes, &mut run, len, question, out);
+        return Quotient::Written(n);
+    }
     let nodes = count_tree(labels, table, &sizes, &mut run, len, question, 4096);
     if 4096 < nodes {
         return Quotient::Refused(Refusal::QuotientTooLarge);
@@ -80,4 +86,14 @@ fn write_quotient(
     }
     let n = write_tree(labels, table, &sizes, &mut run, len, question, out);
     Quotient::Written(n)
+}
+
+// Is the quotient sure to fit? That of a question without forward modalities has no more nodes than the question.
+fn surely_fits(question: &[u8], room: usize) -> bool
+    ensures { λ r. ⌜ r ≡ surelyFits (now (question .entry)) room ⌝ }
+{
+    if room < question.len() {
+        return false;
+    }
+    count_forwards(question) == 0
 }

@@ -18,12 +18,14 @@ use Rattle.labels.specs.declared.refusal.Check.the-variants.{Sound, Refused}
 use Rattle.labels.specs.declared.refusal.Refusal.the-variants.{NotATree, NestedTooDeep}
 use Rattle.labels.proofs.Refusals.{Judges, judged-iff, judged-unless, judged-then, then-sound}
 use Rattle.formulas.specs.Formulas.{endOf, treeEnd, wholeOf, formulaOf, isFormula, nestsFit, checkFormula, Legal}
+use Rattle.formulas.specs.Forwards.{forwardsIn}
 use Rattle.formulas.specs.Working.{Tree, treeOf, measureOf, labelsFit}
 use Rattle.formulas.specs.declared.tree.TreeEnd.the-variants as end
 use Rattle.formulas.specs.declared.tree.Measure.{Measure}
 use Rattle.formulas.proofs.FormulaLabels.{spelled-labels}
 use Rattle.formulas.proofs.Measures.{measure-spell}
 use Rattle.formulas.proofs.Operators.{tree-spell}
+use Rattle.formulas.proofs.ForwardCount.{spelled-nesting}
 
 -- the first tree of bytes that spell one ends behind its nodes
 pub end-spell : (φ : Formula) (rest : List ℕ) → treeEnd (spell φ rest) ≡ end.At (2 * size φ)
@@ -110,17 +112,26 @@ module _ (k limit : ℕ) (f : List ℕ) where
       unfolding checkFormula firstOf isFormula
       label-refused h = rw (within-limit, reads, sym labels-seen ∙ h)
 
-      module _ (fit : labelsFit (count k) f ≡ true) (m : Measure) (g : m ≡ measureOf f) where
-        nesting-seen : m .nesting ≡ nesting φ
-        nesting-seen = ap (λ (x : Measure). x .nesting) (g ∙ ap measureOf e ∙ measure-spell φ [])
-
-        pub nested-refused : 4 < m .nesting → Refused NestedTooDeep ≡ checkFormula k limit f
+      module _ (fit : labelsFit (count k) f ≡ true) where
+        -- a nesting of at most 4 is sound
+        shallow-sound : nesting φ ≤ 4 → Sound ≡ checkFormula k limit f
         unfolding checkFormula firstOf isFormula nestsFit
-        nested-refused h = rw (within-limit, reads, sym labels-seen ∙ fit, lt-leb (nesting φ) 4 (omega (arith, nesting-seen)))
+        shallow-sound h = rw (within-limit, reads, sym labels-seen ∙ fit, le-leb (nesting φ) 4 h)
 
-        pub formula-sound : m .nesting ≤ 4 → Sound ≡ checkFormula k limit f
-        unfolding checkFormula firstOf isFormula nestsFit
-        formula-sound h = rw (within-limit, reads, sym labels-seen ∙ fit, le-leb (nesting φ) 4 (omega (arith, nesting-seen)))
+        -- few forward modalities do not nest too deep
+        pub few-sound : (n : ℕ) → n ≡ forwardsIn f → n ≤ 4 → Sound ≡ checkFormula k limit f
+        few-sound n g h = shallow-sound (omega (arith, g, h, ap forwardsIn e, spelled-nesting φ []))
+
+        module _ (m : Measure) (g : m ≡ measureOf f) where
+          nesting-seen : m .nesting ≡ nesting φ
+          nesting-seen = ap (λ (x : Measure). x .nesting) (g ∙ ap measureOf e ∙ measure-spell φ [])
+
+          pub nested-refused : 4 < m .nesting → Refused NestedTooDeep ≡ checkFormula k limit f
+          unfolding checkFormula firstOf isFormula nestsFit
+          nested-refused h = rw (within-limit, reads, sym labels-seen ∙ fit, lt-leb (nesting φ) 4 (omega (arith, nesting-seen)))
+
+          pub formula-sound : m .nesting ≤ 4 → Sound ≡ checkFormula k limit f
+          formula-sound h = shallow-sound (omega (arith, nesting-seen))
 
 -- 9 and 10: a formula is accepted exactly if its bytes spell one tree within the limits
 pub judged-formula : (k limit : ℕ) (f : List ℕ) → Judges (Legal k limit f) (checkFormula k limit f)

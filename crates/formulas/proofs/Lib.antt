@@ -3,6 +3,7 @@ pub mod Trees
 pub mod FormulaLabels
 pub mod Measures
 pub mod Operators
+pub mod ForwardCount
 pub mod TreeSizes
 pub mod Operands
 pub mod Checking

@@ -1,4 +1,5 @@
 // The check of a formula: 9 over the whole of it, then 10.
+use crate::forwards::count_forwards;
 use crate::tree::TreeEnd;
 use crate::tree::measured;
 use crate::tree::tree_end;
@@ -29,6 +30,10 @@ pub fn check_formula(labels: Labels, limit: usize, f: &[u8]) -> Check
     }
     if !labels_fit(labels, f) {
         return Check::Refused(Refusal::NotATree);
+    }
+    // Forward modalities nest no deeper than there are of them, so four or fewer need no measure.
+    if count_forwards(f) <= 4 {
+        return Check::Sound;
     }
     let tree = measured(f);
     if 4 < tree.nesting {
