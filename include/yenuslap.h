@@ -22,6 +22,9 @@
  * output must not overlap an input or another output; inputs may overlap each other. A pointer must not be
  * null, also where the length is 0: lend the address of some byte of yours then, none is read or written.
  *
+ * The stack. Each call works on the stack of its thread alone. The most that was measured, on x86-64, is 0.7 MiB
+ * for a verdict on a formula of 4,096 nodes, and 1.1 MiB for yenuslap_sheet_lines.
+ *
  * Answers. A call answers one number: take it apart by yenuslap_refusal and yenuslap_value below. Only
  * yenuslap_sheet_lines answers a struct.
  *
