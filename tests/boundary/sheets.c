@@ -46,6 +46,7 @@ static void lines_of_case_a(void)
     WRITES(2, A_SHEET, 26, lines_a(0, 2, 99));
     WRITES(2, A_SHEET + 13, 30, lines_a(1, 2, 99));
     WRITES(1, A_SHEET + 13, 13, lines_a(1, 2, 29));
+    WRITES(1, A_SHEET + 26, 17, lines_a(2, 1, 17));
     WRITES(1, A_SHEET + 43, 17, lines_a(3, 7, 17));
 }
 
@@ -81,27 +82,36 @@ static void refused_casebook(void)
     WRITES(1, "R 1\n", 4, yenuslap_sheet_lines(A_CASEBOOK, 43, 0, 1, LENT(&out, 99)));
 }
 
-/* The lines of a casebook that is written first. */
-static struct yenuslap_lines lines_of(uint8_t k, const uint8_t *left, size_t left_len, const uint8_t *right,
-                                      size_t right_len, const uint8_t *run, size_t run_len, const uint8_t *question,
-                                      size_t question_len, size_t room)
+/* Lines of a run of the two loops, with the question "back by 1 over true". */
+static struct yenuslap_lines lines_of_loops(const uint8_t *run, size_t run_len, size_t first, size_t room)
 {
     uint8_t casebook[YENUSLAP_MOST_CASEBOOK];
-    uint64_t answer = yenuslap_casebook_write(k, left, left_len, right, right_len, run, run_len, question,
-                                              question_len, BYTES(casebook));
-    return yenuslap_sheet_lines(casebook, yenuslap_value(answer), 0, SIZE_MAX, LENT(&out, room));
+    uint64_t answer = yenuslap_casebook_write(LOOP_K, BYTES(LOOP), BYTES(LOOP), run, run_len, BYTES(BACK_BY_1),
+                                              BYTES(casebook));
+    return yenuslap_sheet_lines(casebook, yenuslap_value(answer), first, SIZE_MAX, LENT(&out, room));
 }
 
-/* 13 is the whole sheet, 17 one line's. */
-static void sizes(void)
+static void lines_of_the_loops(void)
 {
-    WRITES(1, "R 13\n", 5, lines_of(LOOP_K, BYTES(LOOP), BYTES(LOOP), BYTES(SIXTEEN_STEPS), BYTES(BACK_BY_1), 5));
-    TOO_SHORT(lines_of(LOOP_K, BYTES(LOOP), BYTES(LOOP), BYTES(SIXTEEN_STEPS), BYTES(BACK_BY_1), 4));
-    WRITES(1, "0 0 F 17 -\n", 11,
-           lines_of(EIGHT_K, BYTES(NO_ROWS), BYTES(EIGHT_ROWS), BYTES(NO_STEPS), BYTES(TOO_LARGE), 11));
-    TOO_SHORT(lines_of(EIGHT_K, BYTES(NO_ROWS), BYTES(EIGHT_ROWS), BYTES(NO_STEPS), BYTES(TOO_LARGE), 10));
     WRITES(4, "0 0 F 0100 F\n0 1 F 0100 F\n1 0 T 06010000 T\n1 1 T 08000000 T\n", 60,
-           lines_of(LOOP_K, BYTES(LOOP), BYTES(LOOP), BYTES(LOOP_RUN), BYTES(BACK_BY_1), 99));
+           lines_of_loops(BYTES(LOOP_RUN), 0, 99));
+    /* 13 is the whole sheet. */
+    WRITES(1, "R 13\n", 5, lines_of_loops(BYTES(SIXTEEN_STEPS), 0, 5));
+    TOO_SHORT(lines_of_loops(BYTES(SIXTEEN_STEPS), 0, 4));
+    /* 15 steps have 16 points and 32,768 splittings: the last line, at whose end the right moves alone. */
+    WRITES(1, "15 32767 T 08000000 T\n", 22, lines_of_loops(SIXTEEN_STEPS, FIFTEEN_STEPS_LEN, 524287, 99));
+    WRITES(0, "", 0, lines_of_loops(SIXTEEN_STEPS, FIFTEEN_STEPS_LEN, 524288, 99));
+}
+
+/* The line of a quotient that is too large. */
+static void line_with_17(void)
+{
+    uint8_t casebook[YENUSLAP_MOST_CASEBOOK];
+    uint64_t answer = yenuslap_casebook_write(EIGHT_K, BYTES(NO_ROWS), BYTES(EIGHT_ROWS), BYTES(NO_STEPS),
+                                              BYTES(TOO_LARGE), BYTES(casebook));
+    size_t len = yenuslap_value(answer);
+    WRITES(1, "0 0 F 17 -\n", 11, yenuslap_sheet_lines(casebook, len, 0, 1, LENT(&out, 11)));
+    TOO_SHORT(yenuslap_sheet_lines(casebook, len, 0, 1, LENT(&out, 10)));
 }
 
 void check_sheets(void)
@@ -110,5 +120,6 @@ void check_sheets(void)
     no_lines_due();
     lines_that_do_not_fit();
     refused_casebook();
-    sizes();
+    lines_of_the_loops();
+    line_with_17();
 }

@@ -17,24 +17,18 @@ pub struct Lines {
 /// cannot happen to an output of [`MOST_LINE`] bytes.
 ///
 /// Bytes that are no sound casebook, or one with over 65,535 splittings, have a sheet of one line with the number. Past
-/// the sheet's end, and where `most` is 0, no line is written: neither is a refusal. So a whole sheet is read block by
-/// block:
+/// the sheet's end, and where `most` is 0, no line is written. Neither is a refusal. So a program that prints a whole
+/// sheet adds the lines written to `first`, until none is written.
 ///
 /// ```
-/// fn sheet(casebook: &[u8]) -> Result<Vec<u8>, yenuslap::Refusal> {
-///     let (mut sheet, mut first) = (Vec::new(), 0);
-///     let mut block = [0; yenuslap::MOST_LINE];
-///     loop {
-///         let written = yenuslap::sheet_lines(casebook, first, usize::MAX, &mut block)?;
-///         if written.lines == 0 {
-///             return Ok(sheet);
-///         }
-///         sheet.extend(&block[..written.bytes]);
-///         first += written.lines;
-///     }
-/// }
+/// use yenuslap::{sheet_lines, MOST_LINE};
 ///
-/// assert_eq!(sheet(b"no casebook").unwrap(), b"R 2\n");
+/// let casebook = b"no casebook";
+/// let mut out = [0; MOST_LINE];
+/// let written = sheet_lines(casebook, 0, usize::MAX, &mut out).unwrap();
+/// assert_eq!(&out[..written.bytes], b"R 2\n");
+/// let next = sheet_lines(casebook, written.lines, usize::MAX, &mut out).unwrap();
+/// assert_eq!(next.lines, 0);
 /// ```
 ///
 /// [`MOST_LINE`]: crate::MOST_LINE
