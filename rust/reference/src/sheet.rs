@@ -42,8 +42,9 @@ fn all_lines(bytes: &[u8]) -> Result<String, Refusal> {
     Ok(lines)
 }
 
-/// One line: point, number, joint verdict, quotient by the right half, left half's verdict.
-fn line(parts: &Parts, point: usize, number: usize) -> Result<String, Refusal> {
+/// One line: point, number, joint verdict, quotient by the right half, left half's verdict. It is refused as the calls
+/// for these are, 17 aside, which is in the line.
+pub fn line(parts: &Parts, point: usize, number: usize) -> Result<String, Refusal> {
     let Parts { k, left, right, .. } = parts;
     let (run, question) = (&parts.run, &parts.question);
     let whole = letter(joint(*k, left, right, run, question, point)?);

@@ -43,6 +43,19 @@ mod quotient_small;
 mod quotient_sound;
 #[path = "compare/quotient_verdicts.rs"]
 mod quotient_verdicts;
+#[path = "compare/sheet_blocks.rs"]
+mod sheet_blocks;
+#[path = "compare/sheet_both.rs"]
+mod sheet_both;
+#[path = "compare/sheet_damaged.rs"]
+mod sheet_damaged;
+#[path = "compare/sheet_document.rs"]
+mod sheet_document;
+#[path = "compare/sheet_far.rs"]
+mod sheet_far;
+#[path = "sheets/inputs.rs"]
+#[allow(dead_code)]
+mod sheet_inputs;
 #[path = "compare/sound.rs"]
 mod sound;
 #[path = "compare/splitting_both.rs"]

@@ -1,5 +1,5 @@
-//! The deepest formulas are judged by the engine on a stack of 8 MiB, and the deepest questions divided. They stand in
-//! a program of their own: a stack that does not suffice ends the whole program. What is expected is known from how the
+//! The deepest formulas are judged by the engine on a stack of 8 MiB, and the deepest questions divided; their sheets are
+//! written on a stack of 2 MiB, which is what Rust gives a thread. They stand in a program of their own: a stack that does not suffice ends the whole program. What is expected is known from how the
 //! formulas are made.
 
 use std::thread;
@@ -161,4 +161,34 @@ fn quotients_of_the_deepest_questions() {
     // Four nested forward by 0, over 59 times "not" or under it: too large.
     assert_eq!(divided(chain(&[(4, [5, 0]), (59, [2, 0])])), [None; 3]);
     assert_eq!(divided(chain(&[(59, [2, 0]), (4, [5, 0])])), [None; 3]);
+}
+
+/// Lines of the sheet of a question at 200 idles, on a stack of 2 MiB: how many, and the last line's ending.
+fn sheet_ending(question: Vec<u8>) -> (usize, String) {
+    let lines = move || {
+        let run = [vec![0, 0], [255, 0, 0].repeat(200)].concat();
+        let rows = (1..=8).flat_map(|label| [0, label, 0]);
+        let table: Vec<u8> = [1].into_iter().chain(rows).collect();
+        let mut casebook = [0; yenuslap::MOST_CASEBOOK];
+        let length = yenuslap::write_casebook(4, &[1], &table, &run, &question, &mut casebook);
+        let mut out = vec![0; 201 * yenuslap::MOST_LINE];
+        let casebook = &casebook[..length.unwrap()];
+        let written = yenuslap::sheet_lines(casebook, 0, 300, &mut out).unwrap();
+        let text = String::from_utf8(out[..written.bytes].to_vec()).unwrap();
+        (written.lines, text[text.len() - 5..].to_string())
+    };
+    let thread = thread::Builder::new().stack_size(2 << 20);
+    thread.spawn(lines).unwrap().join().unwrap()
+}
+
+/// 63 times "not" over true, 63 times "back by idle", and the largest quotients.
+#[test]
+fn sheets_of_the_deepest_questions() {
+    let chain = |count: usize, node: [u8; 2]| [node.repeat(count), vec![0, 0]].concat();
+    assert_eq!(sheet_ending(chain(63, [2, 0])), (201, "00 F\n".into()));
+    assert_eq!(sheet_ending(chain(63, [8, 0])), (201, "00 T\n".into()));
+    let deep = [[2, 0].repeat(57), [5, 0].repeat(3), chain(2, [2, 0])].concat();
+    assert_eq!(sheet_ending(deep), (201, "00 T\n".into()));
+    let too_large = [[2, 0].repeat(58), [5, 0].repeat(4), chain(1, [2, 0])].concat();
+    assert_eq!(sheet_ending(too_large), (201, "17 -\n".into()));
 }

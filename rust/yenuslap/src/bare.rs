@@ -1,4 +1,27 @@
-//! The engine's calls with their bare answers: the refusal's number times 2^32, plus the value.
+//! The engine's calls with their bare answers: the refusal's number of document 01 times 2^32 (0 if not refused), plus
+//! the value, which is 0 when refused. [`sheet_lines`] alone answers a struct.
+//!
+//! They are as safe as the wrapped calls, and take the same bytes: sides as 1 (left), 2 (right) or any other byte
+//! (unnamed), parts as in the casebook's records.
+//!
+//! ```
+//! // Over 15 handshake pairs: refused 4.
+//! assert_eq!(yenuslap::bare::count_splittings(16, &[1], &[1], &[0, 0]), 4 << 32);
+//! // A log of no steps has one splitting.
+//! assert_eq!(yenuslap::bare::count_splittings(15, &[1], &[1], &[0, 0]), 1);
+//! ```
+
+/// The answer of [`sheet_lines`], laid out as the engine's `struct yenuslap_lines`.
+#[repr(C)]
+#[derive(Clone, Copy, PartialEq, Eq, Debug)]
+pub struct LinesAnswer {
+    /// The refusal's number, 0 if not refused.
+    pub refusal: u64,
+    /// How many lines were written, 0 when refused.
+    pub lines: u64,
+    /// How many bytes they are, 0 when refused.
+    pub bytes: u64,
+}
 
 extern "C" {
     fn yenuslap_casebook_read(bytes: *const u8, bytes_len: usize) -> u64;
@@ -130,6 +153,14 @@ extern "C" {
         side: u8,
         point: usize,
     ) -> u64;
+    fn yenuslap_sheet_lines(
+        casebook: *const u8,
+        casebook_len: usize,
+        first: usize,
+        most: usize,
+        out: *mut u8,
+        out_len: usize,
+    ) -> LinesAnswer;
 }
 
 /// Judges a casebook: value 0, or refusals 1 to 11.
@@ -402,6 +433,22 @@ pub fn line_office(
             question.len(),
             side,
             point,
+        )
+    }
+}
+
+/// Writes lines of the sheet of any bytes into `out`, from line `first` on, at most `most` and as many as fit: how many
+/// lines and bytes were written, or refusal 18.
+pub fn sheet_lines(casebook: &[u8], first: usize, most: usize, out: &mut [u8]) -> LinesAnswer {
+    // SAFETY: each pointer and length are one live slice; only `out`, lent to us alone, is written.
+    unsafe {
+        yenuslap_sheet_lines(
+            casebook.as_ptr(),
+            casebook.len(),
+            first,
+            most,
+            out.as_mut_ptr(),
+            out.len(),
         )
     }
 }

@@ -38,6 +38,15 @@ fn part(bytes: &[u8], kind: u8) -> Result<&[u8], Refusal> {
 }
 
 /// Writes the casebook of these parts into `out` and gives its length, or is refused (3 to 10, 18) and writes nothing.
+///
+/// ```
+/// // One state each, no rows, no steps, and the question "true".
+/// let (table, run, question) = ([1], [0, 0], [0, 0]);
+/// let mut out = [0; yenuslap::MOST_CASEBOOK];
+/// let length = yenuslap::write_casebook(0, &table, &table, &run, &question, &mut out).unwrap();
+/// let case = yenuslap::read_casebook(&out[..length]).unwrap();
+/// assert_eq!((case.left, case.question), (&table[..], &question[..]));
+/// ```
 pub fn write_casebook(
     k: u8,
     left: &[u8],

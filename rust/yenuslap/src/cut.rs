@@ -26,6 +26,16 @@ impl Side {
 }
 
 /// Gives the known half up to the point, as a part of whichever lent half it is, or refusal 12.
+///
+/// ```
+/// use yenuslap::{cut, Side};
+///
+/// // A move by label 1 beside a move by label 2.
+/// let (left, right) = ([0, 1, 1], [0, 2, 1]);
+/// assert_eq!(cut(&left, &right, Side::Left, 1).unwrap(), [0, 1, 1]);
+/// assert_eq!(cut(&left, &right, Side::Right, 0).unwrap(), [0]);
+/// assert_eq!(cut(&left, &right, Side::Right, 2).unwrap_err().number(), 12);
+/// ```
 pub fn cut<'a>(
     left: &'a [u8],
     right: &'a [u8],

@@ -69,6 +69,18 @@ pub fn quotient_of_splitting(
 
 /// Gives the question's verdict on the joint run of the two halves and its quotient's verdict on the half that is not
 /// known, all stopped at the point, or is refused (3 to 7, 9, 10, 12, 15 to 17).
+///
+/// ```
+/// use yenuslap::{line_office, Side};
+///
+/// // Case A's machines after a handshake on 1 and 2: was the last step silent?
+/// let (left, right) = ([2, 0, 1, 1, 0, 3, 1], [2, 0, 2, 1, 0, 4, 1]);
+/// let (left_half, right_half) = ([0, 1, 1], [0, 2, 1]);
+/// let question = [6, 0, 0, 0];
+/// let verdicts =
+///     line_office(2, &left, &right, &left_half, &right_half, &question, Side::Right, 1).unwrap();
+/// assert!(verdicts.joint && verdicts.half);
+/// ```
 #[allow(clippy::too_many_arguments)] // As many as the engine's call has.
 pub fn line_office(
     k: u8,

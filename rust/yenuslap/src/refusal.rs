@@ -1,9 +1,16 @@
 //! Refusals, by document 01's numbers and in its words.
 
+use crate::bare::LinesAnswer;
 use std::error::Error;
 use std::fmt;
 
 /// A refusal of the engine, which is its number only.
+///
+/// ```
+/// let refusal = yenuslap::read_casebook(b"").unwrap_err();
+/// assert_eq!(refusal.number(), 1);
+/// assert_eq!(refusal.to_string(), "refusal 1: the bytes end before the question record is complete");
+/// ```
 #[derive(Clone, Copy, PartialEq, Eq, PartialOrd, Ord, Hash, Debug)]
 pub struct Refusal(u32);
 
@@ -55,6 +62,14 @@ pub(crate) fn value_or_refusal(answer: u64) -> Result<usize, Refusal> {
     }
 }
 
+/// The same of the answer for lines: how many, and how many bytes.
+pub(crate) fn lines_or_refusal(answer: LinesAnswer) -> Result<[usize; 2], Refusal> {
+    match answer.refusal {
+        0 => Ok([answer.lines as usize, answer.bytes as usize]),
+        number => Err(Refusal(number as u32)),
+    }
+}
+
 #[cfg(test)]
 mod tests {
     use super::*;
@@ -81,5 +96,18 @@ mod tests {
         assert_eq!(value_or_refusal(0), Ok(0));
         assert_eq!(value_or_refusal(0xffff_ffff), Ok(0xffff_ffff));
         assert_eq!(value_or_refusal(18 << 32), Err(Refusal(18)));
+    }
+
+    /// Lines come before bytes, and a number hides both.
+    #[test]
+    fn answers_for_lines_are_taken_apart() {
+        let mut answer = LinesAnswer {
+            refusal: 0,
+            lines: 4,
+            bytes: 60,
+        };
+        assert_eq!(lines_or_refusal(answer), Ok([4, 60]));
+        answer.refusal = 18;
+        assert_eq!(lines_or_refusal(answer), Err(Refusal(18)));
     }
 }

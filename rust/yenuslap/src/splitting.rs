@@ -25,6 +25,17 @@ pub fn split(
 
 /// Writes the joint run of two matching halves into `out` and gives its length, or is refused (3 to 7, 15, 16, 18) and
 /// writes nothing.
+///
+/// ```
+/// // Case A's machines shake hands on 1 and 2: the log shows a silent step.
+/// let (left, right) = ([2, 0, 1, 1, 0, 3, 1], [2, 0, 2, 1, 0, 4, 1]);
+/// let mut out = [0; yenuslap::MOST_RUN];
+/// let length = yenuslap::join(2, &left, &right, &[0, 1, 1], &[0, 2, 1], &mut out).unwrap();
+/// assert_eq!(out[..length], [0, 0, 0, 1, 1]);
+/// // 1 and 4 are no pair.
+/// let refusal = yenuslap::join(2, &left, &right, &[0, 1, 1], &[0, 4, 1], &mut out).unwrap_err();
+/// assert_eq!(refusal.number(), 16);
+/// ```
 pub fn join(
     k: u8,
     left: &[u8],

@@ -53,3 +53,18 @@ pub fn back_along(labels: &[u8], count: usize, rest: &[u8]) -> Vec<u8> {
     });
     back.chain(rest.iter().copied()).collect()
 }
+
+/// A question whose quotient by eight loops has exactly so many nodes: the largest nested forwards that fit, and beside
+/// them what is left.
+pub fn made_to_measure(size: usize) -> Vec<u8> {
+    let nested = |ahead: usize, nots: usize| (0..ahead).fold(nots + 1, |nodes, _| 9 * nodes + 17);
+    for ahead in [3, 2, 1] {
+        let fits = |nots: &usize| nested(ahead, *nots) + 2 <= size;
+        if let Some(nots) = (0..26).rev().find(fits) {
+            let rest = size - 1 - nested(ahead, nots);
+            let first = times(ahead, AHEAD, &times(nots, NOT, &TRUE));
+            return [vec![3, 0], first, made_to_measure(rest)].concat();
+        }
+    }
+    times(size - 1, NOT, &TRUE)
+}

@@ -1,6 +1,8 @@
 //! Sheets of sound casebooks of every kind.
 
-use crate::inputs::{back_along, looping, loops, some_two_way, times, AHEAD, NOT, TRUE};
+use crate::inputs::{
+    back_along, looping, loops, made_to_measure, some_two_way, times, AHEAD, NOT, TRUE,
+};
 use crate::program::{agree, Seen};
 use reference::casebook::Parts;
 use reference::generate::{many_ways_parts, Shape};
@@ -204,21 +206,6 @@ fn some_nots(rows: usize, ahead: usize) -> Vec<usize> {
     let most = 62 - ahead;
     let fitting = (0..most).filter(|nots| size(*nots) <= 4096).count();
     (fitting.saturating_sub(3)..most.min(fitting + 3)).collect()
-}
-
-/// A question whose quotient by eight loops has exactly so many nodes: the largest nested forwards that fit, and beside
-/// them what is left.
-fn made_to_measure(size: usize) -> Vec<u8> {
-    let nested = |ahead: usize, nots: usize| (0..ahead).fold(nots + 1, |nodes, _| 9 * nodes + 17);
-    for ahead in [3, 2, 1] {
-        let fits = |nots: &usize| nested(ahead, *nots) + 2 <= size;
-        if let Some(nots) = (0..26).rev().find(fits) {
-            let rest = size - 1 - nested(ahead, nots);
-            let first = times(ahead, AHEAD, &times(nots, NOT, &TRUE));
-            return [vec![3, 0], first, made_to_measure(rest)].concat();
-        }
-    }
-    times(size - 1, NOT, &TRUE)
 }
 
 /// Exactly 4,096 nodes are shown, one more is 17.
