@@ -130,6 +130,26 @@ extern "C" {
         side: u8,
         point: usize,
     ) -> u64;
+    fn yenuslap_sheet_lines(
+        casebook: *const u8,
+        casebook_len: usize,
+        first: usize,
+        most: usize,
+        out: *mut u8,
+        out_len: usize,
+    ) -> Lines;
+}
+
+/// The engine's answer to a call for lines of a sheet.
+#[derive(Clone, Copy, PartialEq, Eq, Debug)]
+#[repr(C)]
+pub struct Lines {
+    /// The refusal's number, 0 if there is none.
+    pub refusal: u64,
+    /// How many lines were written.
+    pub lines: u64,
+    /// How many bytes they are.
+    pub bytes: u64,
 }
 
 /// Judges a casebook: value 0, or refusals 1 to 11.
@@ -402,6 +422,22 @@ pub fn line_office(
             question.len(),
             side,
             point,
+        )
+    }
+}
+
+/// Writes lines of the sheet of any bytes into `out`, from line `first` on, at most `most`, as many whole ones as fit:
+/// how many and their bytes, or refusal 18.
+pub fn sheet_lines(casebook: &[u8], first: usize, most: usize, out: &mut [u8]) -> Lines {
+    // SAFETY: each pointer and length are one live slice; only `out`, lent to us alone, is written.
+    unsafe {
+        yenuslap_sheet_lines(
+            casebook.as_ptr(),
+            casebook.len(),
+            first,
+            most,
+            out.as_mut_ptr(),
+            out.len(),
         )
     }
 }

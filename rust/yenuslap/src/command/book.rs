@@ -1,0 +1,188 @@
+//! A casebook's file, and the engine's calls on it, each refusal explained.
+
+use std::ffi::OsStr;
+
+use yenuslap::{
+    count_splittings, cut, line_office, quotient_of_splitting, read_casebook, split, Casebook,
+    Refusal, Side, Verdicts,
+};
+
+use super::contents::steps;
+use super::explain::explain_casebook;
+use super::failure::Failure;
+use super::faults::{first_refused, Item, Part};
+use super::input::{read_bytes, shown_name};
+use super::judge;
+use super::words::counted;
+
+/// The bytes of the longest half run.
+const LONGEST_HALF: usize = 401;
+/// The bytes of the largest quotient.
+const LARGEST_QUOTIENT: usize = 8_192;
+
+/// A file that was read, and its name.
+pub struct Loaded {
+    pub name: String,
+    pub bytes: Vec<u8>,
+}
+
+impl Loaded {
+    /// Reads a file.
+    pub fn read(file: &OsStr) -> Result<Loaded, Failure> {
+        Ok(Loaded {
+            name: shown_name(file),
+            bytes: read_bytes(file)?,
+        })
+    }
+
+    /// The casebook in the file.
+    pub fn book(&self) -> Result<Book<'_>, Failure> {
+        match read_casebook(&self.bytes) {
+            Ok(parts) => Ok(Book {
+                name: &self.name,
+                parts,
+            }),
+            Err(refusal) => {
+                let sentence = explain_casebook(&self.bytes, refusal);
+                Err(Failure::refused(&self.name, refusal, &sentence))
+            }
+        }
+    }
+}
+
+/// The two halves of a splitting.
+#[derive(Clone, PartialEq, Eq, Debug)]
+pub struct Halves {
+    pub left: Vec<u8>,
+    pub right: Vec<u8>,
+}
+
+/// A sound casebook, and the name of its file.
+pub struct Book<'a> {
+    pub name: &'a str,
+    pub parts: Casebook<'a>,
+}
+
+impl Book<'_> {
+    /// How many splittings the log has, or that they are too many.
+    pub fn count(&self) -> Result<usize, Refusal> {
+        let Casebook {
+            k,
+            left,
+            right,
+            run,
+            ..
+        } = self.parts;
+        count_splittings(k, left, right, run)
+    }
+
+    /// How many splittings the log has.
+    pub fn splittings(&self) -> Result<usize, Failure> {
+        let count = self.count();
+        count.map_err(|refusal| self.refused(refusal, &too_many_splittings(&self.parts)))
+    }
+
+    /// The splitting of a number.
+    pub fn splitting(&self, number: usize) -> Result<Halves, Failure> {
+        let parts = &self.parts;
+        let (mut left, mut right) = (vec![0; LONGEST_HALF], vec![0; LONGEST_HALF]);
+        let length = split(
+            parts.k,
+            parts.left,
+            parts.right,
+            parts.run,
+            number,
+            &mut left,
+            &mut right,
+        )
+        .map_err(|refusal| self.refused_call(refusal, number, 0))?;
+        left.truncate(length);
+        right.truncate(length);
+        Ok(Halves { left, right })
+    }
+
+    /// The quotient of the question by the known half of a splitting, stopped at a point.
+    pub fn quotient(&self, number: usize, side: Side, point: usize) -> Result<Vec<u8>, Refusal> {
+        let parts = &self.parts;
+        let mut out = vec![0; LARGEST_QUOTIENT];
+        let length = quotient_of_splitting(
+            parts.k,
+            parts.left,
+            parts.right,
+            parts.run,
+            parts.question,
+            number,
+            side,
+            point,
+            &mut out,
+        )?;
+        out.truncate(length);
+        Ok(out)
+    }
+
+    /// The line's verdict and the machine's under the quotient.
+    pub fn line_office(
+        &self,
+        halves: &Halves,
+        question: &[u8],
+        side: Side,
+        point: usize,
+    ) -> Result<Verdicts, Refusal> {
+        let Casebook { k, left, right, .. } = self.parts;
+        line_office(
+            k,
+            left,
+            right,
+            &halves.left,
+            &halves.right,
+            question,
+            side,
+            point,
+        )
+    }
+
+    /// A refusal of a call on this casebook, with a sentence.
+    pub fn refused(&self, refusal: Refusal, sentence: &str) -> Failure {
+        Failure::refused(self.name, refusal, sentence)
+    }
+
+    /// A refusal of a call that named a splitting and a point.
+    pub fn refused_call(&self, refusal: Refusal, number: usize, point: usize) -> Failure {
+        let sentence = match (refusal.number(), self.count()) {
+            (12, _) => self.no_such_point(point),
+            (14, Ok(count)) => no_such_splitting(number, count),
+            _ => too_many_splittings(&self.parts),
+        };
+        self.refused(refusal, &sentence)
+    }
+
+    /// The sentence for a point that the log does not have.
+    pub fn no_such_point(&self, point: usize) -> String {
+        let last = steps(self.parts.run);
+        let steps = counted(last, "step");
+        format!("point {point} is beyond the log; it has {steps}, so its points are 0 to {last}")
+    }
+}
+
+/// The sentence for a splitting that the log does not have.
+fn no_such_splitting(number: usize, count: usize) -> String {
+    let count = counted(count, "splitting");
+    format!("there is no splitting {number}; the log has {count}, counted from 0")
+}
+
+/// The sentence for a log with too many splittings, with the step from which on they are.
+pub fn too_many_splittings(parts: &Casebook) -> String {
+    let refused =
+        |run: &[u8]| judge::has_too_many_splittings(parts.k, parts.left, parts.right, run);
+    let since = match first_refused(parts.run, Part::Log.layout(), refused) {
+        Item::Entry(step) => format!(", from step {step} on"),
+        _ => String::new(),
+    };
+    format!("the log has over 65,535 splittings{since}; no number names one of so many")
+}
+
+/// Does the engine take the left half as the known one? What an unnamed side means is known to the engine only, so it is
+/// asked for a cut that has a point in the left half alone.
+pub fn knows_left(side: Side) -> bool {
+    cut(&[0], &[], side, 0).is_ok()
+}

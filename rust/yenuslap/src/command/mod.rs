@@ -1,0 +1,194 @@
+//! The subcommands, and everything that they share.
+
+mod arguments;
+mod asked;
+mod book;
+mod check;
+mod contents;
+mod dot;
+mod explain;
+mod failure;
+mod faults;
+mod formula_faults;
+mod half_faults;
+mod halves;
+mod help;
+mod hex;
+mod input;
+mod join;
+mod judge;
+mod lanes;
+mod operators;
+mod output;
+mod quotient;
+mod records;
+mod sheet;
+mod show;
+mod split;
+mod statement;
+mod statement_parser;
+mod text_form;
+mod text_parser;
+mod tokens;
+mod verdict;
+mod words;
+mod write;
+
+use std::ffi::OsString;
+use std::process::ExitCode;
+
+use arguments::{Arguments, Flag};
+use failure::{misused, Ending, Failure};
+use output::Output;
+
+/// A subcommand: its name, its options, and what it does.
+struct Subcommand {
+    name: &'static str,
+    flags: &'static [Flag],
+    run: fn(&Arguments, &mut Output) -> Result<Ending, Failure>,
+    help: &'static str,
+}
+
+/// Every subcommand has this option.
+const HELP: Flag = Flag::plain("help").short('h');
+
+/// The subcommands.
+const SUBCOMMANDS: [Subcommand; 8] = [
+    Subcommand {
+        name: "check",
+        flags: &[HELP],
+        run: check::run,
+        help: help::CHECK,
+    },
+    Subcommand {
+        name: "show",
+        flags: &[
+            HELP,
+            Flag::plain("all"),
+            Flag::valued("splitting"),
+            Flag::plain("dot"),
+            Flag::plain("text"),
+        ],
+        run: show::run,
+        help: help::SHOW,
+    },
+    Subcommand {
+        name: "sheet",
+        flags: &[HELP],
+        run: sheet::run,
+        help: help::SHEET,
+    },
+    Subcommand {
+        name: "split",
+        flags: &[HELP, Flag::valued("number"), Flag::plain("hex")],
+        run: split::run,
+        help: help::SPLIT,
+    },
+    Subcommand {
+        name: "join",
+        flags: &[
+            HELP,
+            Flag::valued("left"),
+            Flag::valued("right"),
+            Flag::plain("hex"),
+        ],
+        run: join::run,
+        help: help::JOIN,
+    },
+    Subcommand {
+        name: "verdict",
+        flags: &[
+            HELP,
+            Flag::valued("point"),
+            Flag::valued("formula"),
+            Flag::valued("splitting"),
+            Flag::valued("half").also("side"),
+            Flag::plain("line-office"),
+            Flag::valued("known"),
+        ],
+        run: verdict::run,
+        help: help::VERDICT,
+    },
+    Subcommand {
+        name: "quotient",
+        flags: &[
+            HELP,
+            Flag::valued("splitting"),
+            Flag::valued("known"),
+            Flag::valued("point"),
+            Flag::plain("hex"),
+        ],
+        run: quotient::run,
+        help: help::QUOTIENT,
+    },
+    Subcommand {
+        name: "write",
+        flags: &[HELP, Flag::valued("output").short('o')],
+        run: write::run,
+        help: help::WRITE,
+    },
+];
+
+/// Runs the command and gives its exit status.
+pub fn run(arguments: Vec<OsString>) -> ExitCode {
+    let mut out = Output::new();
+    let done = dispatch(&arguments, &mut out);
+    // What was printed goes out before anything is said of it.
+    let ending = match (done, out.flush()) {
+        (Ok(ending), Ok(())) => ending,
+        (Err(failure), Ok(())) | (_, Err(failure)) => failure.report(),
+    };
+    ExitCode::from(ending.status())
+}
+
+/// Finds the subcommand and runs it.
+fn dispatch(arguments: &[OsString], out: &mut Output) -> Result<Ending, Failure> {
+    let Some((first, rest)) = arguments.split_first() else {
+        return misused(format!("a subcommand is missing\n{}", help::USAGE));
+    };
+    match first.to_str() {
+        Some("--help" | "-h" | "help") => print(out, help::ALL),
+        Some("--version" | "-V") => print(out, &version()),
+        _ => match SUBCOMMANDS
+            .iter()
+            .find(|subcommand| first == subcommand.name)
+        {
+            Some(subcommand) => run_one(subcommand, rest, out),
+            None => misused(format!(
+                "there is no subcommand `{}`; see yenuslap --help",
+                first.to_string_lossy()
+            )),
+        },
+    }
+}
+
+/// Runs a subcommand, or prints its help.
+fn run_one(
+    subcommand: &Subcommand,
+    arguments: &[OsString],
+    out: &mut Output,
+) -> Result<Ending, Failure> {
+    let name = subcommand.name;
+    let parsed = Arguments::parse(subcommand.flags, arguments);
+    let done = parsed.and_then(|parsed| match parsed.has("help") {
+        true => print(out, subcommand.help),
+        false => (subcommand.run)(&parsed, out),
+    });
+    done.map_err(|failure| match failure {
+        Failure::Usage(text) => {
+            Failure::Usage(format!("{name}: {text}; see yenuslap {name} --help"))
+        }
+        other => other,
+    })
+}
+
+/// Prints a text.
+fn print(out: &mut Output, text: &str) -> Result<Ending, Failure> {
+    out.bytes(text.as_bytes())?;
+    Ok(Ending::Fine)
+}
+
+/// The command's name and version.
+fn version() -> String {
+    format!("yenuslap {}\n", env!("CARGO_PKG_VERSION"))
+}
