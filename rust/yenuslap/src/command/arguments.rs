@@ -3,6 +3,7 @@
 use std::ffi::{OsStr, OsString};
 
 use super::failure::Failure;
+use super::words::quoted;
 
 /// An option that a subcommand takes.
 #[derive(Clone, Copy, PartialEq, Eq, Debug)]
@@ -135,7 +136,10 @@ impl Arguments {
         let digits = !text.is_empty() && text.bytes().all(|byte| byte.is_ascii_digit());
         match text.parse() {
             Ok(number) if digits => Ok(Some(number)),
-            _ => usage(format!("option --{name} needs a number, not `{text}`")),
+            _ => usage(format!(
+                "option --{name} needs a number, not {}",
+                quoted(text)
+            )),
         }
     }
 
@@ -145,8 +149,8 @@ impl Arguments {
             [file] => Ok(file),
             [] => usage("a file is missing (- is standard input)".to_string()),
             [_, second, ..] => usage(format!(
-                "one file is enough: `{}`",
-                second.to_string_lossy()
+                "one file is enough: {}",
+                quoted(&second.to_string_lossy())
             )),
         }
     }

@@ -10,6 +10,7 @@ use super::contents::steps;
 use super::failure::Failure;
 use super::statement_parser::{parse_statement, Statement};
 use super::tokens::Tokens;
+use super::words::quoted;
 
 /// The side that an option names.
 pub fn side(arguments: &Arguments, option: &str) -> Result<Side, Failure> {
@@ -18,7 +19,8 @@ pub fn side(arguments: &Arguments, option: &str) -> Result<Side, Failure> {
         Some("left") => Ok(Side::Left),
         Some("right") => Ok(Side::Right),
         Some(other) => usage(format!(
-            "option --{option} needs left or right, not `{other}`"
+            "option --{option} needs left or right, not {}",
+            quoted(other)
         )),
     }
 }

@@ -48,12 +48,18 @@ fn record_seen(bytes: &[u8]) -> Option<Record<'_>> {
 
 /// Bytes of the file by their places, and themselves.
 fn printed(bytes: &[u8], range: Range<usize>) -> String {
-    let here = bytes.get(range.clone()).unwrap_or(&[]);
-    let shown = spaced(&here[..here.len().min(MOST_PRINTED)]);
-    let more = if here.len() > MOST_PRINTED { " .." } else { "" };
+    let shown = first_bytes(bytes.get(range.clone()).unwrap_or(&[]));
     match range.len() {
         1 => format!("byte {}: {shown}", range.start),
-        _ => format!("bytes {} to {}: {shown}{more}", range.start, range.end - 1),
+        _ => format!("bytes {} to {}: {shown}", range.start, range.end - 1),
+    }
+}
+
+/// The first of some bytes.
+fn first_bytes(bytes: &[u8]) -> String {
+    match bytes.len() > MOST_PRINTED {
+        true => format!("{} ..", spaced(&bytes[..MOST_PRINTED])),
+        false => spaced(bytes),
     }
 }
 
@@ -96,8 +102,10 @@ fn wrong_length(bytes: &[u8], record: &Record) -> String {
 /// Bytes after the last record.
 fn surplus(bytes: &[u8]) -> String {
     let end = seen_at(bytes);
-    let shown = printed(bytes, end..bytes.len());
-    format!("the question record ends before byte {end}, and more follows ({shown}); a casebook ends with its question")
+    let (last, shown) = (end - 1, first_bytes(&bytes[end..]));
+    format!(
+        "the question record ends with byte {last}, and bytes follow it (from byte {end} on: {shown}); a casebook ends with its question"
+    )
 }
 
 /// A fault inside a record: the parts up to it are taken from the file, those after it are the least sound ones.

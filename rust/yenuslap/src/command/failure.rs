@@ -71,6 +71,13 @@ pub fn misused<T>(text: String) -> Result<T, Failure> {
     Err(Failure::Misused(text))
 }
 
+/// What the system says of a failed read or write, without its number.
+pub fn reason(error: &io::Error) -> String {
+    let text = error.to_string();
+    let end = text.find(" (os error").unwrap_or(text.len());
+    text[..end].to_string()
+}
+
 /// Writes a line to standard error; if that is closed, nobody is there to be told.
 pub fn complain(text: &str) {
     let _ = writeln!(io::stderr(), "yenuslap: {text}");

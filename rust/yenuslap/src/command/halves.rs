@@ -2,6 +2,7 @@
 
 use super::contents::{half_steps, start_state, IDLE_LABEL};
 use super::statement::IDLE;
+use super::words::quoted;
 
 /// A label, or the word for an idle.
 pub fn label_word(label: u8) -> String {
@@ -61,5 +62,5 @@ fn byte(text: &str, place: usize, what: &str) -> Result<u8, String> {
 
 /// What is wrong with a piece.
 fn wrong(piece: &str, place: usize, expected: &str) -> String {
-    format!("item {place}: expected {expected}, found `{piece}`")
+    format!("item {place}: expected {expected}, found {}", quoted(piece))
 }

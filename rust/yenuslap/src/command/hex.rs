@@ -1,5 +1,7 @@
 //! Bytes in hexadecimal.
 
+use super::words::quoted;
+
 /// Bytes one blank apart, for the eye.
 pub fn spaced(bytes: &[u8]) -> String {
     let bytes: Vec<String> = bytes.iter().map(|byte| format!("{byte:02x}")).collect();
@@ -14,9 +16,9 @@ pub fn joined(bytes: &[u8]) -> String {
 /// The bytes that a text spells, two digits each, or what is wrong with it.
 pub fn parse(text: &str) -> Result<Vec<u8>, String> {
     if let Some((at, sign)) = odd_sign(text) {
+        let (column, found) = (at + 1, quoted(&sign.to_string()));
         return Err(format!(
-            "column {}: expected a hexadecimal digit, found `{sign}`",
-            at + 1
+            "column {column}: expected a hexadecimal digit, found {found}"
         ));
     }
     if !text.len().is_multiple_of(2) {

@@ -5,7 +5,7 @@ use std::fs::File;
 use std::io::{self, Read};
 
 use super::arguments::usage;
-use super::failure::{misused, Failure};
+use super::failure::{misused, reason, Failure};
 
 /// One byte more than the longest sound casebook: enough to judge a file of any size.
 const CASEBOOK_BYTES: u64 = 3_826;
@@ -50,7 +50,7 @@ fn read_at_most(file: &OsStr, most: u64) -> Result<Vec<u8>, Failure> {
     };
     match read {
         Ok(_) => Ok(bytes),
-        Err(error) => misused(format!("{}: {error}", shown_name(file))),
+        Err(error) => misused(format!("{}: {}", shown_name(file), reason(&error))),
     }
 }
 

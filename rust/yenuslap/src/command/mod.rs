@@ -40,6 +40,7 @@ use std::process::ExitCode;
 use arguments::{Arguments, Flag};
 use failure::{misused, Ending, Failure};
 use output::Output;
+use words::quoted;
 
 /// A subcommand: its name, its options, and what it does.
 struct Subcommand {
@@ -134,10 +135,9 @@ pub fn run(arguments: Vec<OsString>) -> ExitCode {
     let mut out = Output::new();
     let done = dispatch(&arguments, &mut out);
     // What was printed goes out before anything is said of it.
-    let ending = match (done, out.flush()) {
-        (Ok(ending), Ok(())) => ending,
-        (Err(failure), Ok(())) | (_, Err(failure)) => failure.report(),
-    };
+    let flushed = out.flush().map(|()| Ending::Fine);
+    let report = |ended: Result<Ending, Failure>| ended.unwrap_or_else(|failure| failure.report());
+    let ending = report(done).max(report(flushed));
     ExitCode::from(ending.status())
 }
 
@@ -155,8 +155,8 @@ fn dispatch(arguments: &[OsString], out: &mut Output) -> Result<Ending, Failure>
         {
             Some(subcommand) => run_one(subcommand, rest, out),
             None => misused(format!(
-                "there is no subcommand `{}`; see yenuslap --help",
-                first.to_string_lossy()
+                "there is no subcommand {}; see yenuslap --help",
+                quoted(&first.to_string_lossy())
             )),
         },
     }

@@ -17,12 +17,15 @@ const BLOCK: usize = 1 << 20;
 /// Prints the sheet; a refused casebook's one line is printed too, and then explained.
 pub fn run(arguments: &Arguments, out: &mut Output) -> Result<Ending, Failure> {
     let loaded = Loaded::read(arguments.file()?)?;
-    let refused = lines_due(&loaded);
-    let mut progress = Progress::new(*refused.as_ref().unwrap_or(&0));
+    let due = lines_due(&loaded);
+    let mut progress = Progress::new(*due.as_ref().unwrap_or(&1));
     let printed = print(&loaded, &mut progress, out);
     progress.wipe();
-    printed?;
-    refused.map(|_| Ending::Fine)
+    match (due, printed) {
+        // Also who does not read the line is told why.
+        (Err(refused), Ok(()) | Err(Failure::Closed)) => Err(refused),
+        (_, printed) => printed.map(|()| Ending::Fine),
+    }
 }
 
 /// How many lines the sheet has: a line for each point and splitting; or why it is refused.

@@ -2,6 +2,8 @@
 
 use std::fmt;
 
+use super::words::quoted;
+
 /// A place in a text; lines and columns are counted from 1.
 #[derive(Clone, Copy, PartialEq, Eq, Debug)]
 pub struct Place {
@@ -94,7 +96,7 @@ impl<'a> Tokens<'a> {
     /// The error that something else was expected here.
     pub fn expected<T>(&self, what: &str) -> Result<T, SyntaxError> {
         let found = match self.peek() {
-            Some(token) => format!("`{}`", token.text),
+            Some(token) => quoted(token.text),
             None => "the end of the text".to_string(),
         };
         Err(SyntaxError {

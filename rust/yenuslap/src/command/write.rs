@@ -7,7 +7,7 @@ use std::io::{self, IsTerminal};
 use yenuslap::{write_casebook, Casebook, Refusal};
 
 use super::arguments::{usage, Arguments};
-use super::failure::{misused, Ending, Failure};
+use super::failure::{misused, reason, Ending, Failure};
 use super::faults::{find_fault, Fault, Item, Part};
 use super::input::{is_standard, read_text, shown_name};
 use super::output::Output;
@@ -39,7 +39,7 @@ pub fn run(arguments: &Arguments, out: &mut Output) -> Result<Ending, Failure> {
 fn save(path: &OsStr, bytes: &[u8]) -> Result<(), Failure> {
     match fs::write(path, bytes) {
         Ok(()) => Ok(()),
-        Err(error) => misused(format!("{}: {error}", shown_name(path))),
+        Err(error) => misused(format!("{}: {}", shown_name(path), reason(&error))),
     }
 }
 

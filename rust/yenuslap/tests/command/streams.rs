@@ -1,0 +1,133 @@
+//! Standard streams: closed pipes, full devices, terminals.
+
+use std::fs::OpenOptions;
+use std::io::Read;
+use std::process::{Command, Stdio};
+
+use crate::books::{case_a_with, CASE_A};
+use crate::program::{command, lend, root, run_with};
+use crate::sheet::long_book;
+
+/// A reader that goes away ends a long sheet quietly.
+#[test]
+fn closed_pipe() {
+    let mut child = command(&["sheet", "-"]).spawn().unwrap();
+    lend(&mut child, &long_book());
+    let mut out = child.stdout.take().unwrap();
+    let mut first = [0; 13];
+    out.read_exact(&mut first).unwrap();
+    drop(out);
+    let rest = child.wait_with_output().unwrap();
+    assert_eq!(&first, b"0 0 F 0100 F\n");
+    assert_eq!((rest.status.code(), rest.stderr.len()), (Some(0), 0));
+}
+
+/// A refusal is told, also where nobody reads the sheet, and also where nobody hears it.
+#[test]
+fn closed_pipe_and_refused() {
+    for deaf in [false, true] {
+        let mut child = command(&["sheet", "-"]).spawn().unwrap();
+        drop(child.stdout.take());
+        if deaf {
+            drop(child.stderr.take());
+        }
+        lend(&mut child, &case_a_with(&[(4, 16)]));
+        let ended = child.wait_with_output().unwrap();
+        assert_eq!(ended.status.code(), Some(1));
+        assert_eq!(ended.stderr.is_empty(), deaf);
+    }
+}
+
+/// A device that takes no more is told.
+#[test]
+fn full_device() {
+    for arguments in [
+        ["sheet", "-"],
+        ["check", "-"],
+        ["show", "-"],
+        ["split", "-"],
+    ] {
+        let full = OpenOptions::new().write(true).open("/dev/full").unwrap();
+        let mut child = command(&arguments).stdout(full).spawn().unwrap();
+        lend(&mut child, &CASE_A);
+        let ended = child.wait_with_output().unwrap();
+        let complaint = "yenuslap: standard output: No space left on device\n";
+        assert_eq!(String::from_utf8_lossy(&ended.stderr), complaint);
+        assert_eq!(ended.status.code(), Some(2));
+    }
+}
+
+/// Input without end is not read to its end.
+#[test]
+fn endless_input() {
+    let zeros = OpenOptions::new().read(true).open("/dev/zero").unwrap();
+    let child = command(&["check", "-"]).stdin(zeros).spawn().unwrap();
+    let ended = child.wait_with_output().unwrap();
+    let line = "standard input: refused 2: kind 0 (bytes 2 to 3: 00 00) where the pairs record is due, which has kind 1\n";
+    assert_eq!(String::from_utf8_lossy(&ended.stdout), line);
+    assert_eq!(ended.status.code(), Some(1));
+}
+
+/// What a shell command shows on a terminal, as `script` records it; nothing if there is no `script` here.
+fn on_a_terminal(shell: &str) -> Option<String> {
+    let mut script = Command::new("script");
+    script
+        .args(["-qec", shell, "/dev/null"])
+        .current_dir(root())
+        .stdin(Stdio::null());
+    let output = script.output().ok()?;
+    Some(String::from_utf8_lossy(&output.stdout).into_owned())
+}
+
+/// Progress is shown on a terminal, counts towards the lines due, and is wiped; no pipe gets any of it.
+#[test]
+fn progress() {
+    let path = std::env::temp_dir().join(format!("yenuslap-long-{}", std::process::id()));
+    std::fs::write(&path, slow_book()).unwrap();
+    let program = env!("CARGO_BIN_EXE_yenuslap");
+    // A reader that stops for a while makes the sheet slow on any machine.
+    let reader = "(sleep 0.4; cat > /dev/null)";
+    let shell = format!("{program} sheet {} | {reader}", path.display());
+    let shown = on_a_terminal(&shell);
+    let short = on_a_terminal(&format!("{program} sheet cases/a.casebook | cat"));
+    let piped = on_a_terminal(&format!(
+        "({program} sheet {} 2>&1 >/dev/null) | cat",
+        path.display()
+    ));
+    std::fs::remove_file(&path).unwrap();
+    let (Some(shown), Some(short), Some(piped)) = (shown, short, piped) else {
+        return;
+    };
+    // 15 points and 16,384 splittings.
+    assert!(shown.contains(" of 245760 lines"), "{shown:?}");
+    assert!(
+        shown.starts_with("\r\u{1b}[K") && shown.ends_with("\r\u{1b}[K"),
+        "{shown:?}"
+    );
+    assert!(!shown.contains('\n'));
+    assert_eq!(short.lines().count(), 4);
+    assert!(!short.contains('\u{1b}'), "{short:?}");
+    assert_eq!(piped, "");
+}
+
+/// The long casebook, whose sheet has 15 points and 16,384 splittings.
+fn slow_book() -> Vec<u8> {
+    long_book()
+}
+
+/// A casebook's bytes are not printed to a terminal, unless that is wanted.
+#[test]
+fn bytes_on_a_terminal() {
+    let program = env!("CARGO_BIN_EXE_yenuslap");
+    let text = "pairs 0\\nleft 1\\nright 1\\nlog 0 0\\nquestion true";
+    let write =
+        |options: &str| on_a_terminal(&format!("printf '{text}' | {program} write - {options}"));
+    let (Some(refused), Some(wanted)) = (write(""), write("-o -")) else {
+        return;
+    };
+    let complaint = "yenuslap: write: a casebook is no text for a terminal: name a file with -o, or -o - to print it anyway; see yenuslap write --help";
+    assert_eq!(refused.trim_end(), complaint);
+    assert!(wanted.starts_with("\u{3}\0\u{1}\0\0"), "{wanted:?}");
+    let piped = run_with(&["write", "-"], text.replace("\\n", "\n").as_bytes());
+    assert_eq!(piped.out.len(), 5 + 5 + 5 + 6 + 6);
+}
