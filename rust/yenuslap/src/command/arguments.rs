@@ -157,19 +157,21 @@ impl Arguments {
 
     /// Refuses options that do not go together.
     pub fn not_both(&self, first: &str, second: &str) -> Result<(), Failure> {
-        match self.has(first) && self.has(second) {
-            true => usage(format!(
+        if self.has(first) && self.has(second) {
+            usage(format!(
                 "options --{first} and --{second} do not go together"
-            )),
-            false => Ok(()),
+            ))
+        } else {
+            Ok(())
         }
     }
 
     /// Refuses an option without the one that it needs.
     pub fn needs(&self, option: &str, needed: &str) -> Result<(), Failure> {
-        match self.has(option) && !self.has(needed) {
-            true => usage(format!("option --{option} needs --{needed}")),
-            false => Ok(()),
+        if self.has(option) && !self.has(needed) {
+            usage(format!("option --{option} needs --{needed}"))
+        } else {
+            Ok(())
         }
     }
 }

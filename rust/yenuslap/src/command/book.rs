@@ -13,16 +13,14 @@ use super::failure::Failure;
 use super::faults::{first_refused, Item, Part};
 use super::input::{read_bytes, shown_name};
 use super::judge;
+use super::sizes;
 use super::words::counted;
 
-/// The bytes of the longest half run.
-const LONGEST_HALF: usize = 401;
-/// The bytes of the largest quotient.
-const LARGEST_QUOTIENT: usize = 8_192;
-
-/// A file that was read, and its name.
+/// A file that was read.
 pub struct Loaded {
+    /// Its name as it is shown.
     pub name: String,
+    /// As many of its bytes as judge it.
     pub bytes: Vec<u8>,
 }
 
@@ -50,16 +48,20 @@ impl Loaded {
     }
 }
 
-/// The two halves of a splitting.
+/// Two half runs, as those of a splitting.
 #[derive(Clone, PartialEq, Eq, Debug)]
 pub struct Halves {
+    /// The left machine's.
     pub left: Vec<u8>,
+    /// The right machine's.
     pub right: Vec<u8>,
 }
 
-/// A sound casebook, and the name of its file.
+/// A sound casebook.
 pub struct Book<'a> {
+    /// The name of its file as it is shown.
     pub name: &'a str,
+    /// Its parts.
     pub parts: Casebook<'a>,
 }
 
@@ -85,7 +87,7 @@ impl Book<'_> {
     /// The splitting of a number.
     pub fn splitting(&self, number: usize) -> Result<Halves, Failure> {
         let parts = &self.parts;
-        let (mut left, mut right) = (vec![0; LONGEST_HALF], vec![0; LONGEST_HALF]);
+        let (mut left, mut right) = (vec![0; sizes::HALF], vec![0; sizes::HALF]);
         let length = split(
             parts.k,
             parts.left,
@@ -104,7 +106,7 @@ impl Book<'_> {
     /// The quotient of the question by the known half of a splitting, stopped at a point.
     pub fn quotient(&self, number: usize, side: Side, point: usize) -> Result<Vec<u8>, Refusal> {
         let parts = &self.parts;
-        let mut out = vec![0; LARGEST_QUOTIENT];
+        let mut out = vec![0; sizes::QUOTIENT];
         let length = quotient_of_splitting(
             parts.k,
             parts.left,
@@ -181,8 +183,8 @@ pub fn too_many_splittings(parts: &Casebook) -> String {
     format!("the log has over 65,535 splittings{since}; no number names one of so many")
 }
 
-/// Does the engine take the left half as the known one? What an unnamed side means is known to the engine only, so it is
-/// asked for a cut that has a point in the left half alone.
+/// Does the engine take the left half as the known one? What an unnamed side means is known to the engine only, so it
+/// is asked for a cut that has a point in the left half alone.
 pub fn knows_left(side: Side) -> bool {
     cut(&[0], &[], side, 0).is_ok()
 }

@@ -1,40 +1,62 @@
 //! What stands in the parts of a casebook: rows and steps, read off their bytes.
 
+use std::fmt;
+
 /// The label that marks an idle.
 pub const IDLE_LABEL: u8 = 255;
 
-/// How many bytes stand before a table's rows, a log's steps, a half's steps and a formula's nodes.
+/// How many bytes stand before a table's rows.
 pub const TABLE_HEAD: usize = 1;
+/// How many bytes stand before a log's steps.
 pub const LOG_HEAD: usize = 2;
+/// How many bytes stand before a half's steps.
 pub const HALF_HEAD: usize = 1;
+/// How many bytes stand before a formula's nodes.
 pub const FORMULA_HEAD: usize = 0;
 
-/// How many bytes a row, a step of a log, a step of a half and a node have.
+/// How many bytes a row has.
 pub const ROW: usize = 3;
+/// How many bytes a step of a log has.
 pub const LOG_STEP: usize = 3;
+/// How many bytes a step of a half has.
 pub const HALF_STEP: usize = 2;
+/// How many bytes a node has.
 pub const NODE: usize = 2;
 
 /// A row of a table.
 #[derive(Clone, Copy, PartialEq, Eq, Debug)]
 pub struct Row {
+    /// The state that it leaves.
     pub from: u8,
+    /// Its label.
     pub label: u8,
+    /// Its target.
     pub to: u8,
 }
 
-/// A step of a log, with its two targets.
+impl fmt::Display for Row {
+    fn fmt(&self, f: &mut fmt::Formatter<'_>) -> fmt::Result {
+        write!(f, "{} {} {}", self.from, self.label, self.to)
+    }
+}
+
+/// A step of a log.
 #[derive(Clone, Copy, PartialEq, Eq, Debug)]
 pub struct JointStep {
+    /// Its label; 255 for a joint idle.
     pub label: u8,
+    /// The left target.
     pub left: u8,
+    /// The right target.
     pub right: u8,
 }
 
-/// A step of a half run, with its target.
+/// A step of a half run.
 #[derive(Clone, Copy, PartialEq, Eq, Debug)]
 pub struct HalfStep {
+    /// Its label; 255 for an idle.
     pub label: u8,
+    /// Its target.
     pub to: u8,
 }
 

@@ -57,9 +57,10 @@ fn printed(bytes: &[u8], range: Range<usize>) -> String {
 
 /// The first of some bytes.
 fn first_bytes(bytes: &[u8]) -> String {
-    match bytes.len() > MOST_PRINTED {
-        true => format!("{} ..", spaced(&bytes[..MOST_PRINTED])),
-        false => spaced(bytes),
+    if bytes.len() > MOST_PRINTED {
+        format!("{} ..", spaced(&bytes[..MOST_PRINTED]))
+    } else {
+        spaced(bytes)
     }
 }
 
@@ -75,10 +76,16 @@ fn ends_early(bytes: &[u8]) -> String {
     if length == start {
         format!("the bytes end at byte {length}, where {due} is due")
     } else if length < record.body_start() {
-        format!("the bytes end at byte {length}, inside the header of {due} that begins at byte {start}; a header has {HEADER} bytes")
+        format!(
+            "the bytes end at byte {length}, inside the header of {due} that begins at byte {start}; \
+             a header has {HEADER} bytes"
+        )
     } else {
         let last = record.end() - 1;
-        format!("the bytes end at byte {length}, inside {due} that begins at byte {start} and by its length goes to byte {last}")
+        format!(
+            "the bytes end at byte {length}, inside {due} that begins at byte {start} \
+             and by its length goes to byte {last}"
+        )
     }
 }
 
@@ -104,7 +111,8 @@ fn surplus(bytes: &[u8]) -> String {
     let end = seen_at(bytes);
     let (last, shown) = (end - 1, first_bytes(&bytes[end..]));
     format!(
-        "the question record ends with byte {last}, and bytes follow it (from byte {end} on: {shown}); a casebook ends with its question"
+        "the question record ends with byte {last}, and bytes follow it (from byte {end} on: {shown}); \
+         a casebook ends with its question"
     )
 }
 

@@ -3,20 +3,29 @@
 use yenuslap::Casebook;
 
 use super::contents::{
-    log, rows, start_states, states, FORMULA_HEAD, LOG_HEAD, LOG_STEP, NODE, ROW, TABLE_HEAD,
+    log, rows, start_states, states, Row, FORMULA_HEAD, IDLE_LABEL, LOG_HEAD, LOG_STEP, NODE, ROW,
+    TABLE_HEAD,
 };
 use super::formula_faults::{formula_fault, FormulaKind};
-use super::halves::label_word;
 use super::judge;
+use super::statement::IDLE;
 use super::words::counted;
+
+/// The number of a part that is too long.
+const UNFIT_LENGTH: u32 = 3;
 
 /// A part of a casebook.
 #[derive(Clone, Copy, PartialEq, Eq, Debug)]
 pub enum Part {
+    /// k.
     Pairs,
+    /// The left table.
     Left,
+    /// The right table.
     Right,
+    /// The joint run.
     Log,
+    /// The question.
     Question,
 }
 
@@ -34,8 +43,11 @@ pub enum Item {
 /// A fault: where it is, what was found there, and what the rule is.
 #[derive(Clone, PartialEq, Eq, Debug)]
 pub struct Fault {
+    /// The part it lies in.
     pub part: Part,
+    /// The piece of that part.
     pub item: Item,
+    /// What was found, and the rule.
     pub sentence: String,
 }
 
@@ -141,31 +153,30 @@ fn table_fault(k: u8, part: Part, table: &[u8], number: u32) -> Fault {
 
 /// What is wrong with a row, counted from 1.
 fn row_sentence(k: u8, table: &[u8], number: usize, refusal: u32) -> String {
-    let mut here = rows(table).skip(number.saturating_sub(2));
-    let before = if number > 1 { here.next() } else { None };
-    let (Some(row), n) = (here.next(), states(table)) else {
-        return "the row is not there".to_string();
-    };
-    match (refusal, before) {
-        (5, _) => {
-            let in_row = |row: [u8; 3]| judge::table(k, &[n, row[0], row[1], row[2]]).is_none();
-            if !in_row([row.from, 0, 0]) {
-                return state_out_of_range("from", row.from, n);
-            }
-            match in_row([0, row.label, 0]) {
-                false => label_out_of_range(k, row.label),
-                true => state_out_of_range("to", row.to, n),
-            }
-        }
-        (6, Some(before)) => format!(
-            "{} {} {} is not above the row before it, {} {} {}; rows rise strictly by from, label and to",
-            row.from, row.label, row.to, before.from, before.label, before.to
+    let row_at = |number: usize| rows(table).nth(number.checked_sub(1)?);
+    match (refusal, row_at(number), row_at(number - 1)) {
+        (5, Some(row), _) => row_out_of_range(k, states(table), row),
+        (6, Some(row), Some(before)) => format!(
+            "{row} is not above the row before it, {before}; \
+             rows rise strictly by from, label and to"
         ),
-        (7, _) => format!(
+        (7, Some(row), _) => format!(
             "it is a ninth row from state {}; at most 8 rows leave one state",
             row.from
         ),
-        _ => "with this row the table is too long; its record has a length of at most 1,539".to_string(),
+        _ => "with this row the table is too long; its record has a length of at most 1,539".into(),
+    }
+}
+
+/// Which of a row's bytes is out of range: each is put into a row of its own, beside zeros that are in range.
+fn row_out_of_range(k: u8, n: u8, row: Row) -> String {
+    let is_row = |from, label, to| judge::table(k, &[n, from, label, to]).is_none();
+    if !is_row(row.from, 0, 0) {
+        state_out_of_range("from", row.from, n)
+    } else if !is_row(0, row.label, 0) {
+        label_out_of_range(k, row.label)
+    } else {
+        state_out_of_range("to", row.to, n)
     }
 }
 
@@ -184,21 +195,16 @@ pub fn label_out_of_range(k: u8, label: u8) -> String {
 /// The fault of a log on sound tables.
 fn log_fault(parts: &Casebook, number: u32) -> Fault {
     let judged = |run: &[u8]| judge::log(parts.k, parts.left, parts.right, run);
-    let item = first_refused(parts.run, Part::Log.layout(), |run| {
-        judged(run) == Some(number)
-    });
+    let refused = |run: &[u8]| judged(run) == Some(number);
+    let item = first_refused(parts.run, Part::Log.layout(), refused);
+    let (left, right) = start_states(parts.run);
     let sentence = match item {
-        Item::Entry(_) if number == 3 => {
+        Item::Entry(_) if number == UNFIT_LENGTH => {
             "with this step the log is too long; it has at most 200 steps".to_string()
         }
         Item::Entry(step) => step_sentence(parts.run, step),
-        _ => {
-            let (left, right) = start_states(parts.run);
-            match judged(&[left, 0]).is_some() {
-                true => start_out_of_range("left", left, parts.left),
-                false => start_out_of_range("right", right, parts.right),
-            }
-        }
+        _ if judged(&[left, 0]).is_some() => start_out_of_range("left", left, parts.left),
+        _ => start_out_of_range("right", right, parts.right),
     };
     Fault {
         part: Part::Log,
@@ -217,18 +223,17 @@ fn start_out_of_range(side: &str, state: u8, table: &[u8]) -> String {
 
 /// What is wrong with a step, counted from 1.
 fn step_sentence(run: &[u8], number: usize) -> String {
-    let states = log(run).map(|step| (step.left, step.right));
-    let mut from = std::iter::once(start_states(run)).chain(states);
-    let (Some((p, q)), Some(step)) = (from.nth(number - 1), log(run).nth(number - 1)) else {
-        return "the step is not there".to_string();
-    };
+    let before = log(run).take(number - 1).last();
+    let (p, q) = before.map_or(start_states(run), |step| (step.left, step.right));
+    let step = log(run).nth(number - 1).map_or(String::new(), |step| {
+        let label = match step.label {
+            IDLE_LABEL => IDLE.to_string(),
+            label => format!("label {label}"),
+        };
+        format!("{label} from ({p}, {q}) to ({}, {})", step.left, step.right)
+    });
     format!(
-        "{} from ({p}, {q}) to ({}, {}) is not real; neither machine makes this step alone, no handshake makes it, and it is no joint idle",
-        match label_word(step.label) {
-            word if word == "idle" => word,
-            word => format!("label {word}"),
-        },
-        step.left,
-        step.right
+        "{step} is not real; neither machine makes this step alone, \
+         no handshake makes it, and it is no joint idle"
     )
 }

@@ -5,10 +5,9 @@ use yenuslap::{join, Casebook};
 use super::contents::{half_steps, start_state, states, HALF_HEAD, HALF_STEP, IDLE_LABEL};
 use super::faults::{first_refused, Item};
 use super::judge;
+use super::sizes;
 use super::words::counted;
 
-/// The bytes of the longest log.
-pub const LONGEST_LOG: usize = 602;
 /// The number of halves that do not match.
 const NO_MATCH: u32 = 16;
 
@@ -57,8 +56,14 @@ fn wrong_step(k: u8, side: &str, table: &[u8], half: &[u8], number: usize) -> St
     }
     let (label, to) = (half[end - 2], half[end - 1]);
     match label {
-        IDLE_LABEL => format!("step {number} of the {side} half is an idle from state {from} to {to}; an idle keeps the state"),
-        _ => format!("step {number} of the {side} half goes from {from} by label {label} to {to}, and the {side} table has no such row"),
+        IDLE_LABEL => format!(
+            "step {number} of the {side} half is an idle from state {from} to {to}; \
+             an idle keeps the state"
+        ),
+        _ => format!(
+            "step {number} of the {side} half goes from {from} by label {label} to {to}, \
+             and the {side} table has no such row"
+        ),
     }
 }
 
@@ -88,7 +93,7 @@ pub fn explain_match(book: &Casebook, left: &[u8], right: &[u8]) -> String {
 
 /// Does the engine say that the halves do not match?
 fn no_match(book: &Casebook, left: &[u8], right: &[u8]) -> bool {
-    let mut out = [0; LONGEST_LOG];
+    let mut out = [0; sizes::LOG];
     let joined = join(book.k, book.left, book.right, left, right, &mut out);
     joined.is_err_and(|refusal| refusal.number() == NO_MATCH)
 }
@@ -100,7 +105,8 @@ fn steps_sentence(left: &[u8], right: &[u8], number: usize) -> String {
         _ => "idles".to_string(),
     };
     format!(
-        "at step {number} the left half {} and the right half {}; a move matches an idle or a move by its label's partner, and an idle matches an idle",
+        "at step {number} the left half {} and the right half {}; a move matches an idle \
+         or a move by its label's partner, and an idle matches an idle",
         step(left),
         step(right)
     )

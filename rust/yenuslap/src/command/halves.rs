@@ -17,9 +17,10 @@ pub fn half_text(half: &[u8]) -> String {
     let mut text = start_state(half).to_string();
     for step in half_steps(half) {
         text.push(',');
-        text += &match step.is_idle() {
-            true => IDLE.to_string(),
-            false => format!("{}:{}", step.label, step.to),
+        text += &if step.is_idle() {
+            IDLE.to_string()
+        } else {
+            format!("{}:{}", step.label, step.to)
         };
     }
     text
@@ -31,9 +32,10 @@ pub fn parse_half(text: &str) -> Result<Vec<u8>, String> {
     let mut state = byte(pieces.next().unwrap_or(""), 1, "a start state")?;
     let mut half = vec![state];
     for (number, piece) in pieces.enumerate() {
-        let (label, to) = match piece == IDLE {
-            true => (IDLE_LABEL, state),
-            false => half_move(piece, number + 2)?,
+        let (label, to) = if piece == IDLE {
+            (IDLE_LABEL, state)
+        } else {
+            half_move(piece, number + 2)?
         };
         half.extend([label, to]);
         state = to;

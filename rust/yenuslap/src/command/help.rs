@@ -19,7 +19,7 @@ usage: yenuslap check FILE...        say of each casebook whether it is sound
 
 FILE is a casebook (for write a text); - is standard input. yenuslap SUBCOMMAND --help says more.
 
-  -h, --help       print this help
+  -h, --help       print this help; help SUBCOMMAND prints that of a subcommand
   -V, --version    print the version
 
 Every answer is the proved engine's. Bytes, states, points and splittings are counted from 0,

@@ -6,18 +6,20 @@ use std::io::{self, Read};
 
 use super::arguments::usage;
 use super::failure::{misused, reason, Failure};
+use super::sizes;
 
-/// One byte more than the longest sound casebook: enough to judge a file of any size.
-const CASEBOOK_BYTES: u64 = 3_826;
+/// One byte more than the longest casebook: enough to judge a file of any size.
+const CASEBOOK_BYTES: u64 = sizes::CASEBOOK as u64 + 1;
 
 /// The longest text that is read. The text form of the largest casebook has some 20,000 bytes.
 const TEXT_BYTES: u64 = 1 << 20;
 
 /// A file's name as it is shown.
 pub fn shown_name(file: &OsStr) -> String {
-    match is_standard(file) {
-        true => "standard input".to_string(),
-        false => file.to_string_lossy().into_owned(),
+    if is_standard(file) {
+        "standard input".to_string()
+    } else {
+        file.to_string_lossy().into_owned()
     }
 }
 
@@ -44,9 +46,10 @@ pub fn read_text(file: &OsStr) -> Result<String, Failure> {
 /// The first bytes of a file.
 fn read_at_most(file: &OsStr, most: u64) -> Result<Vec<u8>, Failure> {
     let mut bytes = Vec::new();
-    let read = match is_standard(file) {
-        true => io::stdin().lock().take(most).read_to_end(&mut bytes),
-        false => File::open(file).and_then(|file| file.take(most).read_to_end(&mut bytes)),
+    let read = if is_standard(file) {
+        io::stdin().lock().take(most).read_to_end(&mut bytes)
+    } else {
+        File::open(file).and_then(|file| file.take(most).read_to_end(&mut bytes))
     };
     match read {
         Ok(_) => Ok(bytes),

@@ -5,10 +5,11 @@ use yenuslap::{join, Refusal};
 use super::arguments::{usage, Arguments};
 use super::book::{Book, Halves, Loaded};
 use super::failure::{Ending, Failure};
-use super::half_faults::{explain_half, explain_match, LONGEST_LOG};
+use super::half_faults::{explain_half, explain_match};
 use super::halves::parse_half;
 use super::hex;
 use super::output::Output;
+use super::sizes;
 use super::text_form::log_section;
 
 /// Joins the two halves and prints their log.
@@ -19,9 +20,10 @@ pub fn run(arguments: &Arguments, out: &mut Output) -> Result<Ending, Failure> {
     };
     let loaded = Loaded::read(arguments.file()?)?;
     let log = joined(&loaded.book()?, &halves)?;
-    match arguments.has("hex") {
-        true => out.line(hex::joined(&log))?,
-        false => out.bytes(log_section(&log).as_bytes())?,
+    if arguments.has("hex") {
+        out.line(hex::joined(&log))?;
+    } else {
+        out.bytes(log_section(&log).as_bytes())?;
     }
     Ok(Ending::Fine)
 }
@@ -31,9 +33,10 @@ fn half(arguments: &Arguments, side: &str) -> Result<Vec<u8>, Failure> {
     let Some(text) = arguments.text(side)? else {
         return usage(format!("option --{side} is missing"));
     };
-    let parsed = match arguments.has("hex") {
-        true => hex::parse(text),
-        false => parse_half(text),
+    let parsed = if arguments.has("hex") {
+        hex::parse(text)
+    } else {
+        parse_half(text)
     };
     parsed.or_else(|wrong| usage(format!("--{side}: {wrong}")))
 }
@@ -42,7 +45,7 @@ fn half(arguments: &Arguments, side: &str) -> Result<Vec<u8>, Failure> {
 fn joined(book: &Book, halves: &Halves) -> Result<Vec<u8>, Failure> {
     let parts = &book.parts;
     let (left, right) = (&halves.left, &halves.right);
-    let mut out = vec![0; LONGEST_LOG];
+    let mut out = vec![0; sizes::LOG];
     let length = join(parts.k, parts.left, parts.right, left, right, &mut out)
         .map_err(|refusal| book.refused(refusal, &sentence(book, halves, refusal)))?;
     out.truncate(length);

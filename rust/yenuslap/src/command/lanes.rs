@@ -67,19 +67,18 @@ fn lane(name: &str, state: Option<u8>, cells: impl Iterator<Item = String>) -> S
 
 /// A step of a half: a move with its label and target, or a dot for an idle.
 fn cell(step: &HalfStep) -> String {
-    match step.is_idle() {
-        true => ".".to_string(),
-        false => format!("{}->{}", step.label, step.to),
+    if step.is_idle() {
+        ".".to_string()
+    } else {
+        format!("{}->{}", step.label, step.to)
     }
 }
 
 /// The lane between the halves, if there is a handshake in the band: both halves move there.
 fn handshakes(left: &[HalfStep], right: &[HalfStep]) -> Option<String> {
-    let both = |(l, r): (&HalfStep, &HalfStep)| !l.is_idle() && !r.is_idle();
+    let both = |(left, right): (&HalfStep, &HalfStep)| !left.is_idle() && !right.is_idle();
     let shakes: Vec<bool> = left.iter().zip(right).map(both).collect();
-    let cells = shakes.iter().map(|shake| match shake {
-        true => "shake".to_string(),
-        false => String::new(),
-    });
-    shakes.contains(&true).then(|| lane("", None, cells))
+    let cell = |shake: &bool| if *shake { "shake" } else { "" }.to_string();
+    let any = shakes.contains(&true);
+    any.then(|| lane("", None, shakes.iter().map(cell)))
 }

@@ -24,6 +24,7 @@ mod quotient;
 mod records;
 mod sheet;
 mod show;
+mod sizes;
 mod split;
 mod statement;
 mod statement_parser;
@@ -42,11 +43,15 @@ use failure::{misused, Ending, Failure};
 use output::Output;
 use words::quoted;
 
-/// A subcommand: its name, its options, and what it does.
+/// A subcommand.
 struct Subcommand {
+    /// Its name.
     name: &'static str,
+    /// Its options.
     flags: &'static [Flag],
+    /// What it does.
     run: fn(&Arguments, &mut Output) -> Result<Ending, Failure>,
+    /// Its help.
     help: &'static str,
 }
 
@@ -147,7 +152,8 @@ fn dispatch(arguments: &[OsString], out: &mut Output) -> Result<Ending, Failure>
         return misused(format!("a subcommand is missing\n{}", help::USAGE));
     };
     match first.to_str() {
-        Some("--help" | "-h" | "help") => print(out, help::ALL),
+        Some("--help" | "-h") => print(out, help::ALL),
+        Some("help") => print(out, help_on(rest)),
         Some("--version" | "-V") => print(out, &version()),
         _ => match SUBCOMMANDS
             .iter()
@@ -162,6 +168,16 @@ fn dispatch(arguments: &[OsString], out: &mut Output) -> Result<Ending, Failure>
     }
 }
 
+/// The help on the subcommand that is named, else on all.
+fn help_on(names: &[OsString]) -> &'static str {
+    let named =
+        |subcommand: &&Subcommand| names.first().is_some_and(|name| name == subcommand.name);
+    SUBCOMMANDS
+        .iter()
+        .find(named)
+        .map_or(help::ALL, |subcommand| subcommand.help)
+}
+
 /// Runs a subcommand, or prints its help.
 fn run_one(
     subcommand: &Subcommand,
@@ -170,9 +186,12 @@ fn run_one(
 ) -> Result<Ending, Failure> {
     let name = subcommand.name;
     let parsed = Arguments::parse(subcommand.flags, arguments);
-    let done = parsed.and_then(|parsed| match parsed.has("help") {
-        true => print(out, subcommand.help),
-        false => (subcommand.run)(&parsed, out),
+    let done = parsed.and_then(|parsed| {
+        if parsed.has("help") {
+            print(out, subcommand.help)
+        } else {
+            (subcommand.run)(&parsed, out)
+        }
     });
     done.map_err(|failure| match failure {
         Failure::Usage(text) => {

@@ -38,9 +38,10 @@ impl Output {
 
     /// Hands on what is kept back, so that a failure to write it is told.
     pub fn flush(&mut self) -> Result<(), Failure> {
-        match self.failed {
-            true => Ok(()),
-            false => {
+        if self.failed {
+            Ok(())
+        } else {
+            {
                 let written = self.buffer.flush();
                 self.told(written)
             }

@@ -10,7 +10,9 @@ const LENGTH: usize = 2;
 /// A record that a casebook has.
 #[derive(Clone, Copy, PartialEq, Eq, Debug)]
 pub struct Due {
+    /// The part that is its body.
     pub part: Part,
+    /// Its kind.
     pub kind: u16,
     /// Its name in a sentence.
     pub name: &'static str,
@@ -48,7 +50,9 @@ const fn due(part: Part, kind: u16, name: &'static str, lengths: &'static str) -
 /// A record in a file, or the place where it is due.
 #[derive(Clone, Copy, PartialEq, Eq, Debug)]
 pub struct Record<'a> {
+    /// The whole file.
     bytes: &'a [u8],
+    /// What is due here.
     pub due: Due,
     /// Where it begins.
     pub start: usize,

@@ -72,9 +72,10 @@ fn labels(k: u8) -> String {
         let partners = (first..=highest).filter(|second| judge::are_partners(k, first, *second));
         pairs.extend(partners.map(|second| format!("{first} with {second}")));
     }
-    let pairs = match pairs.is_empty() {
-        true => String::new(),
-        false => format!(" ({})", pairs.join(", ")),
+    let pairs = if pairs.is_empty() {
+        String::new()
+    } else {
+        format!(" ({})", pairs.join(", "))
     };
     format!("pairs: {k}{pairs}; label 0 is the silent step")
 }
@@ -118,16 +119,14 @@ fn splittings(
     };
     let last = *shown.end();
     lanes(book, shown, out)?;
-    match asked.is_none() && last + 1 < count {
-        true => {
-            out.line("")?;
-            let more = count - last - 1;
-            out.line(format!(
-                "and {more} more (--all shows all, --splitting N one)"
-            ))
-        }
-        false => Ok(()),
+    if asked.is_some() || last + 1 == count {
+        return Ok(());
     }
+    let more = count - last - 1;
+    out.line("")?;
+    out.line(format!(
+        "and {more} more (--all shows all, --splitting N one)"
+    ))
 }
 
 /// The lanes of these splittings.

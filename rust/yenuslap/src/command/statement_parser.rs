@@ -9,7 +9,9 @@ use super::tokens::{Place, SyntaxError, Tokens};
 /// A formula, and where in the text each of its nodes stands.
 #[derive(Clone, PartialEq, Eq, Debug)]
 pub struct Statement {
+    /// The formula's nodes in prefix order.
     pub bytes: Vec<u8>,
+    /// The place of each node.
     pub places: Vec<Place>,
 }
 
@@ -221,9 +223,10 @@ fn prefix(tokens: &mut Tokens) -> Result<Option<(&'static Operator, u8)>, Syntax
 fn modality(tokens: &mut Tokens) -> Result<Option<(&'static Operator, u8)>, SyntaxError> {
     let back = tokens.take_if("-").is_some();
     let idle = tokens.take_if(IDLE).is_some();
-    let label = match idle {
-        true => 0,
-        false => tokens.byte("a label or idle")?,
+    let label = if idle {
+        0
+    } else {
+        tokens.byte("a label or idle")?
     };
     tokens.expect(">")?;
     Ok(operator_of_modality(back, !idle).map(|operator| (operator, label)))

@@ -1,7 +1,5 @@
 //! The text form of a casebook: printing it.
 
-use std::fmt::Write;
-
 use yenuslap::Casebook;
 
 use super::contents::{log, rows, start_states, states};
@@ -22,8 +20,7 @@ pub fn text_form(book: &Casebook) -> String {
 fn table(keyword: &str, table: &[u8]) -> String {
     let mut text = format!("{keyword} {}\n", states(table));
     for row in rows(table) {
-        // Writing to a string does not fail.
-        let _ = writeln!(text, "  {} {} {}", row.from, row.label, row.to);
+        text += &format!("  {row}\n");
     }
     text
 }
@@ -34,7 +31,7 @@ pub fn log_section(run: &[u8]) -> String {
     let mut text = format!("log {left} {right}\n");
     for step in log(run) {
         let label = label_word(step.label);
-        let _ = writeln!(text, "  {label} {} {}", step.left, step.right);
+        text += &format!("  {label} {} {}\n", step.left, step.right);
     }
     text
 }

@@ -8,20 +8,30 @@ use super::tokens::{Place, SyntaxError, Tokens};
 /// A part's bytes, and where its head and its entries stand in the text.
 #[derive(Clone, PartialEq, Eq, Debug)]
 pub struct Section {
+    /// The part's bytes.
     pub bytes: Vec<u8>,
+    /// The place of its keyword.
     pub head: Place,
+    /// The place of each row or step.
     pub entries: Vec<Place>,
 }
 
 /// The parts of a casebook as the text has them; whether they are sound is the engine's to say.
 #[derive(Clone, PartialEq, Eq, Debug)]
 pub struct Draft {
+    /// The number of pairs.
     pub k: u8,
+    /// The place of its keyword.
     pub pairs: Place,
+    /// The left table.
     pub left: Section,
+    /// The right table.
     pub right: Section,
+    /// The joint run.
     pub log: Section,
+    /// The question.
     pub question: Statement,
+    /// The place of its keyword.
     pub question_head: Place,
 }
 
@@ -126,16 +136,18 @@ fn begins_step(text: &str) -> bool {
 
 /// Takes a byte that must stand in the line that began at a place.
 fn byte_in_line(tokens: &mut Tokens, began: Place, what: &str) -> Result<u8, SyntaxError> {
-    match tokens.in_line(began.line) {
-        true => tokens.byte(what),
-        false => Err(tokens.line_too_short(began.line, what)),
+    if tokens.in_line(began.line) {
+        tokens.byte(what)
+    } else {
+        Err(tokens.line_too_short(began.line, what))
     }
 }
 
 /// Demands that the line that began at a place has ended.
 fn end_of_line(tokens: &Tokens, began: Place) -> Result<(), SyntaxError> {
-    match tokens.in_line(began.line) {
-        true => tokens.expected("the end of the line"),
-        false => Ok(()),
+    if tokens.in_line(began.line) {
+        tokens.expected("the end of the line")
+    } else {
+        Ok(())
     }
 }

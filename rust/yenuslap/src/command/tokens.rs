@@ -7,7 +7,9 @@ use super::words::quoted;
 /// A place in a text; lines and columns are counted from 1.
 #[derive(Clone, Copy, PartialEq, Eq, Debug)]
 pub struct Place {
+    /// The line.
     pub line: usize,
+    /// The character in the line.
     pub column: usize,
 }
 
@@ -20,14 +22,18 @@ impl fmt::Display for Place {
 /// One word, number or sign of a text.
 #[derive(Clone, Copy, PartialEq, Eq, Debug)]
 pub struct Token<'a> {
+    /// Its characters.
     pub text: &'a str,
+    /// Where it begins.
     pub place: Place,
 }
 
 /// A text that is not of the form asked for: where, and what was expected.
 #[derive(Clone, PartialEq, Eq, Debug)]
 pub struct SyntaxError {
+    /// Where something else was expected.
     pub place: Place,
+    /// What was expected, and what was found.
     pub message: String,
 }
 

@@ -47,9 +47,10 @@ fn go_together(arguments: &Arguments) -> Result<(), Failure> {
     arguments.needs("line-office", "splitting")?;
     arguments.needs("known", "line-office")?;
     let alone = !arguments.has("half") && !arguments.has("line-office");
-    match arguments.has("splitting") && alone {
-        true => usage("option --splitting needs --half or --line-office".to_string()),
-        false => Ok(()),
+    if arguments.has("splitting") && alone {
+        usage("option --splitting needs --half or --line-office".to_string())
+    } else {
+        Ok(())
     }
 }
 
@@ -60,9 +61,10 @@ fn subject(arguments: &Arguments, book: &Book) -> Result<Subject, Failure> {
         return Ok(Subject::Log);
     };
     let halves = book.splitting(number)?;
-    Ok(match arguments.has("line-office") {
-        true => Subject::LineOffice(known, halves),
-        false => Subject::Half(half, halves),
+    Ok(if arguments.has("line-office") {
+        Subject::LineOffice(known, halves)
+    } else {
+        Subject::Half(half, halves)
     })
 }
 
@@ -99,9 +101,10 @@ fn verdict(
 
 /// A verdict as the sheet has it.
 fn letter(holds: bool) -> char {
-    match holds {
-        true => 'T',
-        false => 'F',
+    if holds {
+        'T'
+    } else {
+        'F'
     }
 }
 

@@ -11,11 +11,9 @@ use super::failure::{misused, reason, Ending, Failure};
 use super::faults::{find_fault, Fault, Item, Part};
 use super::input::{is_standard, read_text, shown_name};
 use super::output::Output;
+use super::sizes;
 use super::text_parser::{parse_text, Draft, Section};
 use super::tokens::Place;
-
-/// The bytes of the longest casebook.
-const LONGEST_CASEBOOK: usize = 3_825;
 
 /// Reads the text and writes the casebook.
 pub fn run(arguments: &Arguments, out: &mut Output) -> Result<Ending, Failure> {
@@ -50,7 +48,7 @@ fn casebook_of(name: &str, text: &str) -> Result<Vec<u8>, Failure> {
         Err(error) => return misused(format!("{name}: {error}")),
     };
     let parts = parts_of(&draft);
-    let mut out = vec![0; LONGEST_CASEBOOK];
+    let mut out = vec![0; sizes::CASEBOOK];
     let written = write_casebook(
         parts.k,
         parts.left,
