@@ -3,7 +3,16 @@
 mod command;
 
 use std::process::ExitCode;
+use std::thread;
+
+/// The stack that the command runs on, whatever the system's limit is: a verdict nests as deep as its formula.
+const STACK: usize = 16 << 20;
 
 fn main() -> ExitCode {
-    command::run(std::env::args_os().skip(1).collect())
+    let command = || command::run(std::env::args_os().skip(1).collect());
+    let started = thread::Builder::new().stack_size(STACK).spawn(command);
+    // The thread cannot fail to be joined but by a defect, which has been told then.
+    started.map_or(ExitCode::FAILURE, |thread| {
+        thread.join().unwrap_or(ExitCode::FAILURE)
+    })
 }

@@ -74,16 +74,16 @@ fn ends_early(bytes: &[u8]) -> String {
     let (name, kind, start) = (record.due.name, record.due.kind, record.start);
     let due = format!("the {name} (kind {kind})");
     if length == start {
-        format!("the bytes end at byte {length}, where {due} is due")
+        format!("the bytes end before byte {length}, where {due} is due")
     } else if length < record.body_start() {
         format!(
-            "the bytes end at byte {length}, inside the header of {due} that begins at byte {start}; \
+            "the bytes end before byte {length}, inside the header of {due} that begins at byte {start}; \
              a header has {HEADER} bytes"
         )
     } else {
         let last = record.end() - 1;
         format!(
-            "the bytes end at byte {length}, inside {due} that begins at byte {start} \
+            "the bytes end before byte {length}, inside {due} that begins at byte {start} \
              and by its length goes to byte {last}"
         )
     }

@@ -13,6 +13,7 @@ fn every_subcommand_has_help() {
     let all = run(&["--help"]);
     assert_eq!((all.status, all.err.as_str()), (Some(0), ""));
     assert_eq!(run(&["-h"]), all);
+    assert_eq!(run(&["help"]), all);
     for name in SUBCOMMANDS {
         assert!(
             all.text().contains(&format!("yenuslap {name} FILE")),
@@ -27,6 +28,7 @@ fn every_subcommand_has_help() {
         assert!(text.contains("\nexample:\n  $ yenuslap "), "{text}");
         assert_eq!((help.status, help.err.as_str()), (Some(0), ""));
         assert_eq!(run(&[name, "none", "-h"]), help);
+        assert_eq!(run(&["help", name]), help);
     }
 }
 

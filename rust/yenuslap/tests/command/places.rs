@@ -16,6 +16,10 @@ fn explained(bytes: &[u8], number: u8, sentence: &str) {
 fn bytes_that_end_early() {
     let ends = [
         (0, "byte 0, where the pairs record (kind 1) is due"),
+        (
+            1,
+            "byte 1, inside the header of the pairs record (kind 1) that begins at byte 0; a header has 4 bytes",
+        ),
         (2, "byte 2, inside the header of the pairs record (kind 1) that begins at byte 0; a header has 4 bytes"),
         (4, "byte 4, inside the pairs record (kind 1) that begins at byte 0 and by its length goes to byte 4"),
         (5, "byte 5, where the left table record (kind 2) is due"),
@@ -32,7 +36,7 @@ fn bytes_that_end_early() {
         explained(
             &CASE_A[..length],
             1,
-            &format!("the bytes end at {sentence}"),
+            &format!("the bytes end before {sentence}"),
         );
     }
 }

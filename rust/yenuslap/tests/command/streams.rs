@@ -68,6 +68,26 @@ fn endless_input() {
     assert_eq!(ended.status.code(), Some(1));
 }
 
+/// The deepest formula, with room for little stack: the command does not depend on the system's limit.
+#[test]
+fn little_stack() {
+    let program = env!("CARGO_BIN_EXE_yenuslap");
+    let deep = format!("{}true", "<-0> ".repeat(4_095));
+    let verdict = format!("{program} verdict cases/a.casebook --point 1 --formula '{deep}'");
+    let sheet = format!("{program} sheet cases/a.casebook");
+    let mut shell = Command::new("sh");
+    shell
+        .args(["-c", &format!("ulimit -s 256; {verdict} && {sheet}")])
+        .current_dir(root());
+    let output = shell.output().unwrap();
+    let lines = String::from_utf8_lossy(&output.stdout).into_owned();
+    assert!(
+        lines.starts_with("point 1: F\n0 0 F 0100 F\n"),
+        "{output:?}"
+    );
+    assert_eq!(output.status.code(), Some(0));
+}
+
 /// What a shell command shows on a terminal, as `script` records it; nothing if there is no `script` here.
 fn on_a_terminal(shell: &str) -> Option<String> {
     let mut script = Command::new("script");

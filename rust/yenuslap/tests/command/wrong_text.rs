@@ -65,6 +65,9 @@ fn too_many_entries() {
         .flat_map(|from| (0..8).map(move |to| format!("{from} 0 {to}\n")))
         .collect();
     refused(1, &format!("left 64\n{rows}"), 3, "line 515, column 1: row 513 of the left table: with this row the table is too long; its record has a length of at most 1,539");
+    // The length is judged before the rows, so an earlier fault is not meant.
+    let faulty = rows.replacen("0 0 0", "0 99 0", 1);
+    refused(1, &format!("left 64\n{faulty}"), 3, "line 515, column 1: row 513 of the left table: with this row the table is too long; its record has a length of at most 1,539");
     let steps = "idle 0 0\n".repeat(250);
     refused(3, &format!("log 0 0\n{steps}"), 3, "line 209, column 1: step 201 of the log: with this step the log is too long; it has at most 200 steps");
     let nots = "not ".repeat(64);
