@@ -11,8 +11,10 @@ const STACK: usize = 16 << 20;
 fn main() -> ExitCode {
     let command = || command::run(std::env::args_os().skip(1).collect());
     let started = thread::Builder::new().stack_size(STACK).spawn(command);
-    // The thread cannot fail to be joined but by a defect, which has been told then.
-    started.map_or(ExitCode::FAILURE, |thread| {
-        thread.join().unwrap_or(ExitCode::FAILURE)
-    })
+    let ended = started.map(|thread| thread.join());
+    match ended {
+        Ok(Ok(status)) => status,
+        Ok(Err(_)) => command::failed("stopped by a defect of its own"),
+        Err(_) => command::failed("there is no memory to start with"),
+    }
 }

@@ -3,14 +3,15 @@
 use std::ffi::OsStr;
 
 use yenuslap::{
-    count_splittings, cut, line_office, quotient_of_splitting, read_casebook, split, Casebook,
-    Refusal, Side, Verdicts,
+    count_splittings, cut, line_office, quotient, quotient_of_splitting, read_casebook, split,
+    Casebook, Refusal, Side, Verdicts,
 };
 
 use super::contents::steps;
 use super::explain::explain_casebook;
 use super::failure::Failure;
 use super::faults::{first_refused, Item, Part};
+use super::half_faults::{explain_half, explain_match};
 use super::input::{read_bytes, shown_name};
 use super::judge;
 use super::sizes;
@@ -65,6 +66,17 @@ pub struct Book<'a> {
     pub parts: Casebook<'a>,
 }
 
+impl Halves {
+    /// The half of a side, as the engine takes it where none is named.
+    pub fn known(&self, side: Side) -> &[u8] {
+        if knows_left(side) {
+            &self.left
+        } else {
+            &self.right
+        }
+    }
+}
+
 impl Book<'_> {
     /// How many splittings the log has, or that they are too many.
     pub fn count(&self) -> Result<usize, Refusal> {
@@ -101,6 +113,30 @@ impl Book<'_> {
         left.truncate(length);
         right.truncate(length);
         Ok(Halves { left, right })
+    }
+
+    /// The quotient of the question by the known one of two halves, stopped at a point.
+    pub fn quotient_of_halves(
+        &self,
+        halves: &Halves,
+        side: Side,
+        point: usize,
+    ) -> Result<Vec<u8>, Refusal> {
+        let parts = &self.parts;
+        let mut out = vec![0; sizes::QUOTIENT];
+        let length = quotient(
+            parts.k,
+            parts.left,
+            parts.right,
+            &halves.left,
+            &halves.right,
+            parts.question,
+            side,
+            point,
+            &mut out,
+        )?;
+        out.truncate(length);
+        Ok(out)
     }
 
     /// The quotient of the question by the known half of a splitting, stopped at a point.
@@ -151,19 +187,28 @@ impl Book<'_> {
     /// A refusal of a call that named a splitting and a point.
     pub fn refused_call(&self, refusal: Refusal, number: usize, point: usize) -> Failure {
         let sentence = match (refusal.number(), self.count()) {
-            (12, _) => self.no_such_point(point),
+            (12, _) => no_such_point("log", steps(self.parts.run), point),
             (14, Ok(count)) => no_such_splitting(number, count),
             _ => too_many_splittings(&self.parts),
         };
         self.refused(refusal, &sentence)
     }
 
-    /// The sentence for a point that the log does not have.
-    pub fn no_such_point(&self, point: usize) -> String {
-        let last = steps(self.parts.run);
-        let steps = counted(last, "step");
-        format!("point {point} is beyond the log; it has {steps}, so its points are 0 to {last}")
+    /// A refusal of a call that was given halves.
+    pub fn refused_halves(&self, refusal: Refusal, halves: &Halves) -> Failure {
+        let explain = match refusal.number() {
+            16 => explain_match,
+            _ => explain_half,
+        };
+        let sentence = explain(&self.parts, &halves.left, &halves.right);
+        self.refused(refusal, &sentence)
     }
+}
+
+/// The sentence for a point that a run does not have.
+pub fn no_such_point(run: &str, last: usize, point: usize) -> String {
+    let steps = counted(last, "step");
+    format!("point {point} is beyond the {run}; it has {steps}, so its points are 0 to {last}")
 }
 
 /// The sentence for a splitting that the log does not have.

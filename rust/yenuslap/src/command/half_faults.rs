@@ -18,7 +18,7 @@ pub fn explain_half(book: &Casebook, left: &[u8], right: &[u8]) -> String {
         .iter()
         .find(|(_, table, half)| is_refused(book.k, table, half));
     match refused {
-        Some((side, table, half)) => no_run(book.k, side, table, half),
+        Some((side, table, half)) => explain_one(book.k, side, table, half),
         None => "a half is no run of its table".to_string(),
     }
 }
@@ -29,7 +29,7 @@ fn is_refused(k: u8, table: &[u8], half: &[u8]) -> bool {
 }
 
 /// Why a half is no run of its table.
-fn no_run(k: u8, side: &str, table: &[u8], half: &[u8]) -> String {
+pub fn explain_one(k: u8, side: &str, table: &[u8], half: &[u8]) -> String {
     let refused = |beginning: &[u8]| is_refused(k, table, beginning);
     match first_refused(half, (HALF_HEAD, HALF_STEP), refused) {
         Item::Head => format!(

@@ -136,6 +136,9 @@ Prints the verdict on the log stopped at each point: T if the question holds, F 
   --point P              print only the verdict at this point
   --formula STATEMENT    judge this statement and not the casebook's question
   --splitting N          the splitting whose halves are meant
+  --left HALF --right HALF
+                         these halves are meant, as split prints them: no number is needed, so a
+                         log may have over 65,535 splittings
   --half left|right      judge this half and not the log (also --side)
   --line-office          print two verdicts: the line's, and the machine's that is not known under
                          the quotient by the known half
@@ -151,14 +154,18 @@ example:
 /// The help of `quotient`.
 pub const QUOTIENT: &str = "\
 usage: yenuslap quotient FILE [--splitting N] [--known left|right] [--point P] [--hex]
+       yenuslap quotient FILE --left HALF --right HALF [..]
 
 Prints the quotient of the question by the known half, a line for each splitting: its number, and
 the quotient in the usual notation.
 
   --splitting N         print only the quotient for this splitting
+  --left HALF --right HALF
+                        print only the quotient for these halves, as split prints them: no number
+                        is needed, so a log may have over 65,535 splittings
   --known left|right    the known half; if none is named, the engine's usual one
   --point P             stop the halves at this point; if none is given, at the log's end
-  --hex                 print the quotient's bytes in hexadecimal
+  --hex                 print the quotient's bytes in hexadecimal; halves are given so too
   -h, --help            print this help
 
 example:

@@ -108,6 +108,8 @@ const SUBCOMMANDS: [Subcommand; 8] = [
             Flag::valued("point"),
             Flag::valued("formula"),
             Flag::valued("splitting"),
+            Flag::valued("left"),
+            Flag::valued("right"),
             Flag::valued("half").also("side"),
             Flag::plain("line-office"),
             Flag::valued("known"),
@@ -120,6 +122,8 @@ const SUBCOMMANDS: [Subcommand; 8] = [
         flags: &[
             HELP,
             Flag::valued("splitting"),
+            Flag::valued("left"),
+            Flag::valued("right"),
             Flag::valued("known"),
             Flag::valued("point"),
             Flag::plain("hex"),
@@ -144,6 +148,12 @@ pub fn run(arguments: Vec<OsString>) -> ExitCode {
     let report = |ended: Result<Ending, Failure>| ended.unwrap_or_else(|failure| failure.report());
     let ending = report(done).max(report(flushed));
     ExitCode::from(ending.status())
+}
+
+/// Tells why the command could not run, and gives its exit status.
+pub fn failed(why: &str) -> ExitCode {
+    let failure = Failure::Misused(why.to_string());
+    ExitCode::from(failure.report().status())
 }
 
 /// Finds the subcommand and runs it.

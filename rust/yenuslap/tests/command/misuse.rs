@@ -66,7 +66,7 @@ fn options_and_operands() {
             &["split", "-", "--number", "99999999999999999999"],
             "option --number needs a number, not `99999999999999999999`",
         ),
-        (&["join", "-", "--left", "0"], "option --right is missing"),
+        (&["join", "-", "--left", "0"], "option --left needs --right"),
         (
             &["quotient", "-", "--known", "both"],
             "option --known needs left or right, not `both`",
@@ -80,31 +80,47 @@ fn options_and_operands() {
     }
 }
 
-/// Options of `verdict` that need each other, or exclude each other.
+/// Options of `verdict` and `quotient` that need each other, or exclude each other.
 #[test]
-fn verdict_options() {
-    let faults: [(&[&str], &str); 5] = [
-        (&["--half", "left"], "option --half needs --splitting"),
-        (&["--line-office"], "option --line-office needs --splitting"),
+fn options_of_halves() {
+    let missing = "a splitting is missing (--splitting, or --left and --right)";
+    let needless = "a splitting needs --half or --line-office";
+    let faults: [(&[&str], &str); 9] = [
+        (&["verdict", "--half", "left"], missing),
+        (&["verdict", "--line-office"], missing),
+        (&["verdict", "--splitting", "0"], needless),
+        (&["verdict", "--left=0", "--right=0"], needless),
         (
-            &["--splitting", "0"],
-            "option --splitting needs --half or --line-office",
+            &["verdict", "--known", "left"],
+            "option --known needs --line-office",
         ),
-        (&["--known", "left"], "option --known needs --line-office"),
         (
-            &["--half=left", "--line-office", "--splitting=0"],
+            &["verdict", "--half=left", "--line-office", "--splitting=0"],
             "options --half and --line-office do not go together",
         ),
+        (
+            &[
+                "verdict",
+                "--half=left",
+                "--splitting=0",
+                "--left=0",
+                "--right=0",
+            ],
+            "options --splitting and --left do not go together",
+        ),
+        (
+            &["quotient", "--splitting=0", "--left=0", "--right=0"],
+            "options --splitting and --left do not go together",
+        ),
+        (&["quotient", "--right=0"], "option --right needs --left"),
     ];
-    for (options, fault) in faults {
-        let complaint = format!("verdict: {fault}; see yenuslap verdict --help");
-        complains(
-            &[&["verdict", "-"], options].concat(),
-            &CASE_A,
-            2,
-            &complaint,
-        );
+    for (arguments, fault) in faults {
+        let name = arguments[0];
+        let complaint = format!("{name}: {fault}; see yenuslap {name} --help");
+        complains(&[arguments, &["-"]].concat(), &CASE_A, 2, &complaint);
     }
+    let complaint = "join: options --left and --right are missing; see yenuslap join --help";
+    complains(&["join", "-"], &CASE_A, 2, complaint);
 }
 
 /// Files that are not there, or are no files.

@@ -125,3 +125,60 @@ fn refused() {
     complains(&["quotient", name], b"", 1, &many);
     complains(&["quotient", name, "--splitting=0"], b"", 1, &many);
 }
+
+/// By halves that are given: those of a splitting have its quotient, and no number is needed.
+#[test]
+fn by_halves() {
+    let first = ["--left", "0,1:1", "--right", "0,2:1"];
+    let with = |more: &[&'static str]| [&first[..], more].concat();
+    quotients(&BACK_BY_0, &with(&[]), "<-1> true\n");
+    quotients(&BACK_BY_0, &with(&["--known=left"]), "<-2> true\n");
+    quotients(&BACK_BY_0, &with(&["--point=0"]), "false\n");
+    let hex = ["--hex", "--left=000301", "--right=000401"];
+    quotients(&BACK_BY_0, &hex, "06030000\n");
+    // Halves need not be those of the casebook's log: here the left moves alone.
+    quotients(
+        &[6, 1, 0, 0],
+        &["--left=0,1:1", "--right=0,idle"],
+        "<-1> true\n",
+    );
+    // Sixteen two-way steps by label 1 have over 65,535 splittings; in this one the right made the last.
+    let name = "cases/refused_13_sixteen_two_way_steps.casebook";
+    let left = format!("--left=0{},idle", ",1:0".repeat(15));
+    let right = format!("--right=0{},1:0", ",idle".repeat(15));
+    prints(&["quotient", name, &left, &right], b"", "<-idle> true\n");
+    prints(
+        &["quotient", name, &left, &right, "--known=left"],
+        b"",
+        "<-1> true\n",
+    );
+}
+
+/// 12, 15, 16 and 17 of halves that are given.
+#[test]
+fn refused_halves() {
+    let refused = |halves: [&str; 2], more: &[&str], number: u8, sentence: &str| {
+        let given = ["quotient", "-", "--left", halves[0], "--right", halves[1]];
+        let complaint = format!("standard input: refused {number}: {sentence}");
+        complains(&[&given, more].concat(), &CASE_A, 1, &complaint);
+    };
+    let beyond = "point 2 is beyond the known half; it has 1 step, so its points are 0 to 1";
+    refused(["0,1:1,idle", "0,2:1"], &["--point=2"], 12, beyond);
+    let unequal =
+        "the left half has 2 steps and the right half 1 step; matching halves are equally long";
+    refused(
+        ["0,1:1,idle", "0,2:1"],
+        &["--point=2", "--known=left"],
+        16,
+        unequal,
+    );
+    let no_row =
+        "step 1 of the left half goes from 0 by label 2 to 1, and the left table has no such row";
+    refused(["0,2:1", "0,2:1"], &[], 15, no_row);
+    let even = "the right half has 2 bytes; a half has one byte, and two for each step";
+    refused(["00", "00ff"], &["--hex"], 12, even);
+    refused(["00", "00ff"], &["--hex", "--known=left"], 15, even);
+    let name = "cases/too_large_4463_nodes.casebook";
+    let large = format!("{name}: refused 17: the quotient at point 0 has over 4,096 nodes, and no larger one is written");
+    complains(&["quotient", name, "--left=0", "--right=0"], b"", 1, &large);
+}

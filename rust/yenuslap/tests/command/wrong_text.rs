@@ -179,6 +179,9 @@ fn syntax_errors() {
         "expected a step (label, left target, right target) or `question`, found `rest`",
     );
     wrong(&text_with(4, ""), "line 9, column 8", "expected a step (label, left target, right target) or `question`, found the end of the text");
+    // Columns are characters: this blank has two bytes.
+    let expected = format!("expected the number of pairs {byte}, found `x`");
+    wrong("pairs\u{a0}x", "line 1, column 7", &expected);
     wrong(
         "\u{1b}[31m",
         "line 1, column 1",
