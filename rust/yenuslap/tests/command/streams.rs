@@ -1,8 +1,11 @@
 //! Standard streams: closed pipes, full devices, terminals.
 
-use std::fs::OpenOptions;
+use std::fs::{self, OpenOptions};
 use std::io::Read;
+use std::path::PathBuf;
 use std::process::{Command, Stdio};
+use std::thread;
+use std::time::Duration;
 
 use crate::books::{case_a_with, CASE_A};
 use crate::program::{command, lend, root, run_with};
@@ -88,51 +91,96 @@ fn little_stack() {
     assert_eq!(output.status.code(), Some(0));
 }
 
-/// What a shell command shows on a terminal, as `script` records it; nothing if there is no `script` here.
+/// How long a reader waits before it reads: longer than it takes until progress is shown.
+const WAIT: Duration = Duration::from_millis(400);
+
+/// What a shell command shows on a terminal that is read after a while, as `script` records it; nothing if there is no
+/// `script` here.
 fn on_a_terminal(shell: &str) -> Option<String> {
     let mut script = Command::new("script");
     script
         .args(["-qec", shell, "/dev/null"])
         .current_dir(root())
-        .stdin(Stdio::null());
-    let output = script.output().ok()?;
+        .stdin(Stdio::null())
+        .stdout(Stdio::piped());
+    let Ok(child) = script.spawn() else {
+        eprintln!("no `script` here: what a terminal shows is not tested");
+        return None;
+    };
+    thread::sleep(WAIT);
+    let output = child.wait_with_output().ok()?;
     Some(String::from_utf8_lossy(&output.stdout).into_owned())
 }
 
-/// Progress is shown on a terminal, counts towards the lines due, and is wiped; no pipe gets any of it.
+/// A file with the long casebook, whose sheet has 15 points and 16,384 splittings; it goes when it is dropped.
+struct LongFile(PathBuf);
+
+impl LongFile {
+    /// A file that no other test has.
+    fn new(name: &str) -> LongFile {
+        let path = std::env::temp_dir().join(format!("yenuslap-{name}-{}", std::process::id()));
+        fs::write(&path, long_book()).unwrap();
+        LongFile(path)
+    }
+
+    /// The shell command that prints its sheet.
+    fn sheet(&self) -> String {
+        let program = env!("CARGO_BIN_EXE_yenuslap");
+        format!("{program} sheet {}", self.0.display())
+    }
+}
+
+impl Drop for LongFile {
+    fn drop(&mut self) {
+        let _ = fs::remove_file(&self.0);
+    }
+}
+
+/// Progress is shown on a terminal beside a slow sheet, counts towards the lines due, and is wiped.
 #[test]
-fn progress() {
-    let path = std::env::temp_dir().join(format!("yenuslap-long-{}", std::process::id()));
-    std::fs::write(&path, slow_book()).unwrap();
-    let program = env!("CARGO_BIN_EXE_yenuslap");
-    // A reader that stops for a while makes the sheet slow on any machine.
-    let reader = "(sleep 0.4; cat > /dev/null)";
-    let shell = format!("{program} sheet {} | {reader}", path.display());
-    let shown = on_a_terminal(&shell);
-    let short = on_a_terminal(&format!("{program} sheet cases/a.casebook | cat"));
-    let piped = on_a_terminal(&format!(
-        "({program} sheet {} 2>&1 >/dev/null) | cat",
-        path.display()
-    ));
-    std::fs::remove_file(&path).unwrap();
-    let (Some(shown), Some(short), Some(piped)) = (shown, short, piped) else {
+fn progress_on_a_terminal() {
+    let file = LongFile::new("progress");
+    let slow = format!("{} | (sleep 0.4; cat > /dev/null)", file.sheet());
+    let Some(shown) = on_a_terminal(&slow) else {
         return;
     };
-    // 15 points and 16,384 splittings.
     assert!(shown.contains(" of 245760 lines"), "{shown:?}");
+    let wiped = "\r\u{1b}[K";
     assert!(
-        shown.starts_with("\r\u{1b}[K") && shown.ends_with("\r\u{1b}[K"),
+        shown.starts_with(wiped) && shown.ends_with(wiped),
         "{shown:?}"
     );
     assert!(!shown.contains('\n'));
-    assert_eq!(short.lines().count(), 4);
-    assert!(!short.contains('\u{1b}'), "{short:?}");
-    assert_eq!(piped, "");
 }
 
-/// The long casebook, whose sheet has 15 points and 16,384 splittings.
-fn slow_book() -> Vec<u8> {
-    long_book()
+/// A short sheet shows none, and neither does a slow one that goes to the terminal itself.
+#[test]
+fn no_progress_within_the_sheet() {
+    let file = LongFile::new("no-progress");
+    let Some(shown) = on_a_terminal(&file.sheet()) else {
+        return;
+    };
+    assert_eq!(shown.lines().count(), 245_760);
+    assert!(!shown.contains('\u{1b}'));
+    let program = env!("CARGO_BIN_EXE_yenuslap");
+    let short = on_a_terminal(&format!("{program} sheet cases/a.casebook | cat"));
+    let short = short.unwrap_or_default();
+    assert_eq!(short.lines().count(), 4);
+    assert!(!short.contains('\u{1b}'), "{short:?}");
+}
+
+/// A pipe gets no progress, however slow its sheet is.
+#[test]
+fn no_progress_on_a_pipe() {
+    let mut child = command(&["sheet", "-"]).spawn().unwrap();
+    lend(&mut child, &long_book());
+    thread::sleep(WAIT);
+    let ended = child.wait_with_output().unwrap();
+    assert_eq!(
+        ended.stdout.iter().filter(|byte| **byte == b'\n').count(),
+        245_760
+    );
+    assert_eq!(String::from_utf8_lossy(&ended.stderr), "");
 }
 
 /// A casebook's bytes are not printed to a terminal, unless that is wanted.
