@@ -53,7 +53,7 @@ pub struct Fault {
 
 impl Part {
     /// The part's name, as it stands in a sentence.
-    pub fn name(self) -> &'static str {
+    fn name(self) -> &'static str {
         match self {
             Part::Pairs => "pairs record",
             Part::Left => "left table",
@@ -88,7 +88,7 @@ impl Part {
     }
 }
 
-/// The first part that the engine refuses, and the fault in it.
+/// The first of these parts, which need not be sound, that the engine refuses, and the fault in it.
 pub fn find_fault(parts: &Casebook) -> Option<Fault> {
     let (k, left, right) = (parts.k, parts.left, parts.right);
     if judge::pairs(k).is_some() {

@@ -40,7 +40,9 @@ pub fn read_text(file: &OsStr) -> Result<String, Failure> {
         let name = shown_name(file);
         return misused(format!("{name}: a text has at most {TEXT_BYTES} bytes"));
     }
-    Ok(String::from_utf8_lossy(&bytes).into_owned())
+    // Some editors begin a text with this mark, which is no part of it.
+    let text = bytes.strip_prefix(b"\xef\xbb\xbf").unwrap_or(&bytes);
+    Ok(String::from_utf8_lossy(text).into_owned())
 }
 
 /// The first bytes of a file.

@@ -42,6 +42,7 @@ fn written(text: &str) -> Vec<u8> {
 fn free_layout() {
     let text = "# case A\r\n\r\n  pairs\t2 # k\r\nleft 2\r\n0 1 1#row\n\n0   3 1\nright 2\n0 2 1\n0 4 1\nlog 0 0\n0 1 001\nquestion # \u{e9} <\n  < - 0 >\n(\n((true) )) # end";
     assert_eq!(written(text), CASE_A);
+    assert_eq!(written(&format!("\u{feff}{CASE_A_TEXT}")), CASE_A);
     let latin = [&b"# \xe9\xff\n"[..], CASE_A_TEXT.as_bytes()].concat();
     assert_eq!(run_with(&["write", "-"], &latin).out, CASE_A);
 }
