@@ -12,6 +12,8 @@ mod help;
 mod misuse;
 #[path = "command/places.rs"]
 mod places;
+#[path = "command/plain_places.rs"]
+mod plain_places;
 #[path = "command/program.rs"]
 mod program;
 #[path = "command/quotient.rs"]

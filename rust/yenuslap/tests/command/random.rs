@@ -3,6 +3,7 @@
 use reference::random::Random;
 
 use crate::books::{seeded, CASE_A};
+use crate::plain_places::plain_place;
 use crate::program::{run, run_with, Ran};
 
 /// Demands a status of the command's own, and that what it says is prefixed.
@@ -12,7 +13,7 @@ fn ended(ran: &Ran, what: &str) {
     assert_eq!(ran.status == Some(0), ran.err.is_empty(), "{what}: {ran:?}");
 }
 
-/// Random bytes, changed casebooks and cut ones: the number is the reference's, and it has a place.
+/// Random bytes, changed casebooks and cut ones: number and place are those of the plain implementation.
 #[test]
 fn random_casebooks() {
     let mut random = Random::new(91);
@@ -35,6 +36,13 @@ fn random_casebooks() {
         assert!(ran.text().starts_with(&begin), "{bytes:?}: {}", ran.text());
         let placed = ran.text().contains("byte");
         assert_eq!(placed, expected.is_some(), "{bytes:?}: {}", ran.text());
+        let place = expected.and_then(|number| plain_place(&bytes, number));
+        let place = place.unwrap_or_default();
+        assert!(
+            ran.text().contains(&place),
+            "{bytes:?}: {} {place}",
+            ran.text()
+        );
         numbers[usize::from(expected.unwrap_or(0))] += 1;
     }
     // A ninth row and a fifth forward are too rare to be met at random; `places.rs` has them.
