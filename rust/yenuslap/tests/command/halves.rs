@@ -1,8 +1,10 @@
 //! `split` and `join`.
 
+use std::collections::HashSet;
 use std::fs;
 
 use reference::casebook::read;
+use reference::splitting::count;
 
 use crate::books::{seeded, shipped, CASE_A};
 use crate::program::{complains, prints, run_with};
@@ -66,7 +68,8 @@ fn no_steps() {
     prints(&arguments, b"", "log 1 0\n");
 }
 
-/// What `split` prints joins to the casebook's log, for every splitting; and `split` prints as many as the engine counts.
+/// What `split` prints joins to the casebook's log; and it prints as many splittings as the plain implementation counts,
+/// none of them twice.
 #[test]
 fn round_trips() {
     let shipped = shipped()
@@ -74,19 +77,27 @@ fn round_trips() {
         .map(|(path, _)| fs::read(path).unwrap());
     let mut joined = 0;
     for book in shipped.chain(seeded(48)) {
-        let Ok(parts) = read(&book) else { continue };
-        let run = &book[parts.bodies[3].clone()];
+        let Ok(parts) = read(&book).map(|read| read.parts(&book)) else {
+            continue;
+        };
+        let Ok(splittings) = count(parts.k, &parts.left, &parts.right, &parts.run) else {
+            continue;
+        };
         for hex in [false, true] {
-            joined += round_trip(&book, run, hex);
+            joined += round_trip(&book, &parts.run, hex, splittings);
         }
     }
     assert!(joined > 200, "{joined} splittings");
 }
 
 /// Joins every splitting of a casebook, at most 20; gives how many.
-fn round_trip(book: &[u8], run: &[u8], hex: bool) -> usize {
+fn round_trip(book: &[u8], run: &[u8], hex: bool, splittings: usize) -> usize {
     let options: &[&str] = if hex { &["--hex"] } else { &[] };
     let split = run_with(&[&["split", "-"], options].concat(), book).text();
+    assert_eq!(split.lines().count(), splittings, "{book:?}");
+    let halves = split.lines().filter_map(|line| line.split_once(' '));
+    let distinct: HashSet<&str> = halves.map(|(_, halves)| halves).collect();
+    assert_eq!(distinct.len(), splittings, "{book:?}");
     let log = run_with(&["show", "--text", "-"], book).text();
     let (begin, end) = (log.find("log ").unwrap(), log.find("question ").unwrap());
     let expected = match hex {
@@ -99,7 +110,7 @@ fn round_trip(book: &[u8], run: &[u8], hex: bool) -> usize {
         let arguments = [&["join", "-"], &words[1..], options].concat();
         prints(&arguments, book, &expected);
     }
-    split.lines().count().min(20)
+    splittings.min(20)
 }
 
 /// 15: which half, which step, and why.

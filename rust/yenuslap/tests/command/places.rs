@@ -1,7 +1,9 @@
 //! Refusals 1 to 11 of a file: the number, the place, what was found and the rule, each written out by hand.
 
+use std::fs;
+
 use crate::books::{case_a_asking, case_a_with, record, CASE_A};
-use crate::program::run_with;
+use crate::program::{root, run_with};
 
 /// Demands the explanation of these bytes.
 fn explained(bytes: &[u8], number: u8, sentence: &str) {
@@ -183,6 +185,18 @@ fn questions_that_are_no_tree() {
     let ran = run_with(&["check", "-"], &bytes);
     let begin = "standard input: refused 9: node 64 of the question (bytes 166 to 167: 02 00): with this node the tree is too large; a question has at most 64 nodes";
     assert_eq!(ran.text().trim_end(), begin);
+}
+
+/// Over 65,535 splittings are no fault of the log: the question's is told.
+#[test]
+fn a_question_behind_too_many_splittings() {
+    let path = root().join("cases/refused_13_sixteen_two_way_steps.casebook");
+    let mut bytes = fs::read(path).unwrap();
+    // The question record begins at byte 75; its first node is back by 1.
+    assert_eq!(bytes[75..], [6, 0, 5, 0, 6, 1, 0, 0]);
+    bytes[80] = 9;
+    let sentence = "node 1 of the question (bytes 79 to 80: 06 09): label 9 is out of range; with k 1 the labels are 0 to 2";
+    explained(&bytes, 9, sentence);
 }
 
 /// 10: the forward modality that is one too many, though a later fault of the same number follows.
