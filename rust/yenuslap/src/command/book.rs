@@ -1,0 +1,235 @@
+//! A casebook's file, and the engine's calls on it, each refusal explained.
+
+use std::ffi::OsStr;
+
+use yenuslap::{
+    count_splittings, cut, line_office, quotient, quotient_of_splitting, read_casebook, split,
+    Casebook, Refusal, Side, Verdicts,
+};
+
+use super::contents::steps;
+use super::explain::explain_casebook;
+use super::failure::Failure;
+use super::faults::{first_refused, Item, Part};
+use super::half_faults::{explain_half, explain_match};
+use super::input::{read_bytes, shown_name};
+use super::judge;
+use super::sizes;
+use super::words::counted;
+
+/// A file that was read.
+pub struct Loaded {
+    /// Its name as it is shown.
+    pub name: String,
+    /// As many of its bytes as judge it.
+    pub bytes: Vec<u8>,
+}
+
+impl Loaded {
+    /// Reads a file.
+    pub fn read(file: &OsStr) -> Result<Loaded, Failure> {
+        Ok(Loaded {
+            name: shown_name(file),
+            bytes: read_bytes(file)?,
+        })
+    }
+
+    /// The casebook in the file.
+    pub fn book(&self) -> Result<Book<'_>, Failure> {
+        match read_casebook(&self.bytes) {
+            Ok(parts) => Ok(Book {
+                name: &self.name,
+                parts,
+            }),
+            Err(refusal) => {
+                let sentence = explain_casebook(&self.bytes, refusal);
+                Err(Failure::refused(&self.name, refusal, &sentence))
+            }
+        }
+    }
+}
+
+/// Two half runs, as those of a splitting.
+#[derive(Clone, PartialEq, Eq, Debug)]
+pub struct Halves {
+    /// The left machine's.
+    pub left: Vec<u8>,
+    /// The right machine's.
+    pub right: Vec<u8>,
+}
+
+/// A sound casebook.
+pub struct Book<'a> {
+    /// The name of its file as it is shown.
+    pub name: &'a str,
+    /// Its parts.
+    pub parts: Casebook<'a>,
+}
+
+impl Halves {
+    /// The half of a side, as the engine takes it where none is named.
+    pub fn known(&self, side: Side) -> &[u8] {
+        if knows_left(side) {
+            &self.left
+        } else {
+            &self.right
+        }
+    }
+}
+
+impl Book<'_> {
+    /// How many splittings the log has, or that they are too many.
+    pub fn count(&self) -> Result<usize, Refusal> {
+        let Casebook {
+            k,
+            left,
+            right,
+            run,
+            ..
+        } = self.parts;
+        count_splittings(k, left, right, run)
+    }
+
+    /// How many splittings the log has.
+    pub fn splittings(&self) -> Result<usize, Failure> {
+        let count = self.count();
+        count.map_err(|refusal| self.refused(refusal, &too_many_splittings(&self.parts)))
+    }
+
+    /// The splitting of a number.
+    pub fn splitting(&self, number: usize) -> Result<Halves, Failure> {
+        let parts = &self.parts;
+        let (mut left, mut right) = (vec![0; sizes::HALF], vec![0; sizes::HALF]);
+        let length = split(
+            parts.k,
+            parts.left,
+            parts.right,
+            parts.run,
+            number,
+            &mut left,
+            &mut right,
+        )
+        .map_err(|refusal| self.refused_call(refusal, number, 0))?;
+        left.truncate(length);
+        right.truncate(length);
+        Ok(Halves { left, right })
+    }
+
+    /// The quotient of the question by the known one of two halves, stopped at a point.
+    pub fn quotient_of_halves(
+        &self,
+        halves: &Halves,
+        side: Side,
+        point: usize,
+    ) -> Result<Vec<u8>, Refusal> {
+        let parts = &self.parts;
+        let mut out = vec![0; sizes::QUOTIENT];
+        let length = quotient(
+            parts.k,
+            parts.left,
+            parts.right,
+            &halves.left,
+            &halves.right,
+            parts.question,
+            side,
+            point,
+            &mut out,
+        )?;
+        out.truncate(length);
+        Ok(out)
+    }
+
+    /// The quotient of the question by the known half of a splitting, stopped at a point.
+    pub fn quotient(&self, number: usize, side: Side, point: usize) -> Result<Vec<u8>, Refusal> {
+        let parts = &self.parts;
+        let mut out = vec![0; sizes::QUOTIENT];
+        let length = quotient_of_splitting(
+            parts.k,
+            parts.left,
+            parts.right,
+            parts.run,
+            parts.question,
+            number,
+            side,
+            point,
+            &mut out,
+        )?;
+        out.truncate(length);
+        Ok(out)
+    }
+
+    /// The line's verdict and the machine's under the quotient.
+    pub fn line_office(
+        &self,
+        halves: &Halves,
+        question: &[u8],
+        side: Side,
+        point: usize,
+    ) -> Result<Verdicts, Refusal> {
+        let Casebook { k, left, right, .. } = self.parts;
+        line_office(
+            k,
+            left,
+            right,
+            &halves.left,
+            &halves.right,
+            question,
+            side,
+            point,
+        )
+    }
+
+    /// A refusal of a call on this casebook, with a sentence.
+    pub fn refused(&self, refusal: Refusal, sentence: &str) -> Failure {
+        Failure::refused(self.name, refusal, sentence)
+    }
+
+    /// A refusal of a call that named a splitting and a point.
+    pub fn refused_call(&self, refusal: Refusal, number: usize, point: usize) -> Failure {
+        let sentence = match (refusal.number(), self.count()) {
+            (12, _) => no_such_point("log", steps(self.parts.run), point),
+            (14, Ok(count)) => no_such_splitting(number, count),
+            _ => too_many_splittings(&self.parts),
+        };
+        self.refused(refusal, &sentence)
+    }
+
+    /// A refusal of a call that was given halves.
+    pub fn refused_halves(&self, refusal: Refusal, halves: &Halves) -> Failure {
+        let explain = match refusal.number() {
+            16 => explain_match,
+            _ => explain_half,
+        };
+        let sentence = explain(&self.parts, &halves.left, &halves.right);
+        self.refused(refusal, &sentence)
+    }
+}
+
+/// The sentence for a point that a run does not have.
+pub fn no_such_point(run: &str, last: usize, point: usize) -> String {
+    let steps = counted(last, "step");
+    format!("point {point} is beyond the {run}; it has {steps}, so its points are 0 to {last}")
+}
+
+/// The sentence for a splitting that the log does not have.
+fn no_such_splitting(number: usize, count: usize) -> String {
+    let count = counted(count, "splitting");
+    format!("there is no splitting {number}; the log has {count}, counted from 0")
+}
+
+/// The sentence for a log with too many splittings, with the step from which on they are.
+pub fn too_many_splittings(parts: &Casebook) -> String {
+    let refused =
+        |run: &[u8]| judge::has_too_many_splittings(parts.k, parts.left, parts.right, run);
+    let since = match first_refused(parts.run, Part::Log.layout(), refused) {
+        Item::Entry(step) => format!(", from step {step} on"),
+        _ => String::new(),
+    };
+    format!("the log has over 65,535 splittings{since}; no number names one of so many")
+}
+
+/// Does the engine take the left half as the known one? What an unnamed side means is known to the engine only, so it
+/// is asked for a cut that has a point in the left half alone.
+pub fn knows_left(side: Side) -> bool {
+    cut(&[0], &[], side, 0).is_ok()
+}
