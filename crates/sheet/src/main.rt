@@ -9,7 +9,7 @@ ghost use lib.ListN.{length};
 ghost use Rattle.sheet_lines.specs.Sheets.{sheetOf};
 
 // A sound casebook has at most 3,825 bytes, so one byte more is enough to judge any input. A sheet is printed in blocks: as many whole lines
-// as fit into 4 MiB.
+// as fit into 3 MiB.
 fn main() {
     let mut input = [0u8; 3826];
     let n = io::read_full(STDIN_FILENO, &mut input);
@@ -18,10 +18,10 @@ fn main() {
 }
 
 // Room for a block.
-fn empty_block() -> [u8; 4194304]
-    ensures { λ r. ⌜ 4194304 ≡ length r ⌝ }
+fn empty_block() -> [u8; 3145728]
+    ensures { λ r. ⌜ 3145728 ≡ length r ⌝ }
 {
-    [0; 4194304]
+    [0; 3145728]
 }
 
 // Prints the sheet of any bytes, block by block, until no line is left or standard output takes no more.

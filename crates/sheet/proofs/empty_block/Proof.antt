@@ -5,7 +5,7 @@ use Rattle.sheet.proofs.empty_block.Statement.{statement}
 use Rattle.sheet.proofs.empty_block.Tie as tie
 
 returns : tie.Need-returns
-returns c = sym (length-replicate {A = ℕ} 4194304 0)
+returns c = sym (length-replicate {A = ℕ} 3145728 0)
 
 pub empty-block-spec : {M : Type 1} → statement M
 empty-block-spec = tie.close (tie.spec returns)
