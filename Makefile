@@ -1,9 +1,10 @@
 # make sheet   proves and builds the sheet program and prints the sheet of cases/a.casebook, or of another: make sheet CASEBOOK=path
 # make test    everything: proofs, must-fail edits and programs from nothing, then all other tests
+# make command builds the command for people as target/bin/yenuslap
 # make prove   the quick form: proves what has changed since the last time
 # make bench   times the engine beside the plain implementation of rust/reference and prints the ratios
 
-.PHONY: sheet test prove bench
+.PHONY: sheet test command prove bench
 
 CASEBOOK ?= cases/a.casebook
 
@@ -13,6 +14,11 @@ sheet:
 
 test:
 	@tools/test
+
+command:
+	@rt staticlib engine >&2
+	@cd rust && CARGO_TARGET_DIR=../target/rust cargo build --release --offline --quiet -p yenuslap
+	@mkdir -p target/bin && cp target/rust/release/yenuslap target/bin/yenuslap
 
 prove:
 	rt check
