@@ -2,4 +2,5 @@ pub mod Records
 pub mod RecordLaws
 pub mod Reading
 pub mod RoundTrip
+pub mod Enough
 pub mod Writing

@@ -8,8 +8,8 @@ ghost use Prim.Native.Nat.{_+_, _≤_};
 ghost use lib.ListN.{length};
 ghost use Rattle.sheet_lines.specs.Sheets.{sheetOf};
 
-// A sound casebook has at most 3,825 bytes, so one byte more is enough to judge any input. A sheet is printed in blocks: as many whole lines
-// as fit into 3 MiB.
+// A sound casebook has at most 3,825 bytes, so one byte more is enough to judge any input (`sheet-early` in sheet_lines/proofs). A sheet is
+// printed in blocks: as many whole lines as fit into 3 MiB.
 fn main() {
     let mut input = [0u8; 3826];
     let n = io::read_full(STDIN_FILENO, &mut input);

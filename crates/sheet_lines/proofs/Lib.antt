@@ -12,6 +12,7 @@ pub mod PointLines
 pub mod FillLaws
 pub mod PartsLines
 pub mod SheetBlocks
+pub mod EnoughInput
 pub mod Published
 pub mod Standing
 pub mod KeptHalves
