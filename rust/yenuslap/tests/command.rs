@@ -20,6 +20,8 @@ mod program;
 mod quotient;
 #[path = "command/random.rs"]
 mod random;
+#[path = "command/readme.rs"]
+mod readme;
 #[path = "command/sheet.rs"]
 mod sheet;
 #[path = "command/show.rs"]
