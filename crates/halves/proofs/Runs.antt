@@ -183,12 +183,6 @@ module _ {S : Type 0} (M : System S) (fits : S → ℕ → S → Bool) (d : (p :
         (t .0, t .1 ∙ rw (ne-eqb a 255 n))
     run-goOn (goes {r = r} x idles) = run-more r 255 (last r) (inl (refl, refl)) (run-goOn x)
 
-    -- the test passes exactly for the written steps of the system's runs
-    pub goOn-decides : (p : S) (es : List (ℕ × S)) → Decides ((r : Run S) × (first r ≡ p) × (written r ≡ es) × RunOf M r) (goOn fits p es)
-    goOn-decides p es = decided-by (goOn fits p es)
-        (λ g. let t = goOn-run p es g in (lengthened (start p) es, first-lengthened (start p) es, t .1, t .0))
-        (λ t. rw (← t .1, ← t .2) (run-goOn (t .3) .0))
-
 -- a byte of what is left after n bytes is a byte of the whole
 pub dropped-at : (s : List ℕ) (n m i : ℕ) {l : List ℕ} → drop n s ≡ l → m ≡ n + i → getD l i 0 ≡ getD s m 0
 dropped-at s n m i e h = rw (← e, h) (getD-drop n s i 0)
