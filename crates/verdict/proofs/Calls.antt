@@ -78,11 +78,11 @@ module _ (k : ℕ) (f : List ℕ) (legal : Legal k quotientLimit f) where
 module _ (k : ℕ) (l r s f : List ℕ) where
   -- the checks of the parts
   abbrev pub jointParts : Check
-  jointParts = thenOf (checkPairs k) (thenOf (checkTablesAndJoint k l r s) (checkFormula k 4096 f))
+  jointParts = thenOf (checkPairs k) (thenOf (checkTablesAndJoint k l r s) (checkFormula k quotientLimit f))
 
   joint-regroup : (p : ℕ) → checkJointCall k l r s f p ≡ thenOf jointParts (refusedIf (ltb (steps (jointOf s)) p) PointBeyond)
   unfolding checkJointCall checkTablesAndJoint firstOf
-  joint-regroup p = go (checkPairs k) (checkTable k l) (checkTable k r) (checkJoint k l r s) (checkFormula k 4096 f) (refusedIf (ltb (steps (jointOf s)) p) PointBeyond)
+  joint-regroup p = go (checkPairs k) (checkTable k l) (checkTable k r) (checkJoint k l r s) (checkFormula k quotientLimit f) (refusedIf (ltb (steps (jointOf s)) p) PointBeyond)
     where
       go : (c l r j f b : Check) → thenOf c (thenOf l (thenOf r (thenOf j (thenOf f (thenOf b Sound))))) ≡ thenOf (thenOf c (thenOf (thenOf l (thenOf r (thenOf j Sound))) f)) b
       go (Refused x) l r j f b = refl
@@ -102,8 +102,8 @@ module _ (k : ℕ) (l r s f : List ℕ) where
   pub joint-parts : jointParts ≡ Sound → JointCall
   unfolding checkTablesAndJoint checkJoint firstOf
   joint-parts e =
-      let (pairs, a) = both-sound (checkPairs k) (thenOf (checkTablesAndJoint k l r s) (checkFormula k 4096 f)) e in
-      let (b, formula) = both-sound (checkTablesAndJoint k l r s) (checkFormula k 4096 f) a in
+      let (pairs, a) = both-sound (checkPairs k) (thenOf (checkTablesAndJoint k l r s) (checkFormula k quotientLimit f)) e in
+      let (b, formula) = both-sound (checkTablesAndJoint k l r s) (checkFormula k quotientLimit f) a in
       let (left, c) = both-sound (checkTable k l) _ b in
       let (right, d) = both-sound (checkTable k r) _ c in
       let (run, _) = both-sound (checkJoint k l r s) _ d in
@@ -113,7 +113,7 @@ module _ (k : ℕ) (l r s f : List ℕ) where
         tables = record { left = sound-table k l left; right = sound-table k r right };
         fit = passed (fitJoint s) _ fit;
         real = passed (isJointRun k l r s) _ real;
-        legal = judges (judged-formula k 4096 f) .0 formula;
+        legal = judges (judged-formula k quotientLimit f) .0 formula;
       }
 
   module _ (call : JointCall) where
@@ -195,11 +195,11 @@ nothing-leaves = refl
 module _ (k : ℕ) (t s f : List ℕ) where
   -- the checks of the parts
   abbrev pub halfParts : Check
-  halfParts = thenOf (checkPairs k) (thenOf (checkTable k t) (checkFormula k 4096 f))
+  halfParts = thenOf (checkPairs k) (thenOf (checkTable k t) (checkFormula k quotientLimit f))
 
   half-regroup : (p : ℕ) → checkHalfCall k t s f p ≡ thenOf halfParts (thenOf (refusedIf (beyond s p) PointBeyond) (checkHalf t s))
   unfolding checkHalfCall firstOf
-  half-regroup p = go (checkPairs k) (checkTable k t) (checkFormula k 4096 f) (refusedIf (beyond s p) PointBeyond) (checkHalf t s)
+  half-regroup p = go (checkPairs k) (checkTable k t) (checkFormula k quotientLimit f) (refusedIf (beyond s p) PointBeyond) (checkHalf t s)
     where
       go : (c t f b h : Check) → thenOf c (thenOf t (thenOf f (thenOf b (thenOf h Sound)))) ≡ thenOf (thenOf c (thenOf t f)) (thenOf b h)
       go (Refused x) t f b h = refl
@@ -214,10 +214,10 @@ module _ (k : ℕ) (t s f : List ℕ) where
     pub run : isHalfRun t s ≡ true
     pub legal : Legal k quotientLimit f
 
-  half-parts : halfParts ≡ Sound → (checkTable k t ≡ Sound) × (checkFormula k 4096 f ≡ Sound)
+  half-parts : halfParts ≡ Sound → (checkTable k t ≡ Sound) × (checkFormula k quotientLimit f ≡ Sound)
   half-parts e =
-      let (pairs, a) = both-sound (checkPairs k) (thenOf (checkTable k t) (checkFormula k 4096 f)) e in
-      both-sound (checkTable k t) (checkFormula k 4096 f) a
+      let (pairs, a) = both-sound (checkPairs k) (thenOf (checkTable k t) (checkFormula k quotientLimit f)) e in
+      both-sound (checkTable k t) (checkFormula k quotientLimit f) a
 
   module _ (call : HalfCall) (p : ℕ) (within : beyond s p ≡ false) where
     half-accepted : AcceptedHalf t s
@@ -277,4 +277,4 @@ module _ (k : ℕ) (t s f : List ℕ) where
       let (a, b) = both-sound halfParts (thenOf (refusedIf (beyond s p) PointBeyond) (checkHalf t s)) (sym (half-regroup p) ∙ e) in
       let (x, y) = both-sound (refusedIf (beyond s p) PointBeyond) (checkHalf t s) b in
       let (table, formula) = half-parts a in
-      (record { table = sound-table k t table; run = passed (isHalfRun t s) _ y; legal = judges (judged-formula k 4096 f) .0 formula }, unrefused _ _ x)
+      (record { table = sound-table k t table; run = passed (isHalfRun t s) _ y; legal = judges (judged-formula k quotientLimit f) .0 formula }, unrefused _ _ x)
