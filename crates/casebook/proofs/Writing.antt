@@ -1,14 +1,15 @@
 -- Records written one after the other, each into the rest of the output that the one before left.
 use Prim.Native.Nat.{ℕ, _+_, _-_, _/_, _%_, _≤_, _<_}
 use mathlib.Core.Path.{_≡_, refl, sym, _∙_, ap}
-use mathlib.Core.List.{List, [], _∷_, _++_, append-assoc, append-nil}
+use mathlib.Core.List.{List, [], _∷_, _++_, append-assoc}
 use native.Mathlib.Omega.{arith}
-use lib.ListN.{length, take, drop, set, length-append, length-take, length-drop, drop-of-length-le}
-use lib.Seq.{take-length, take-append-seam, drop-append-seam, drop-drop}
+use lib.ListN.{length, take, drop, set, length-append, length-take, length-drop}
+use lib.Seq.{take-length}
 use borrow.Rule.Slice.PartMut.{putMid}
 use borrow.Author.Tests.{lt-ltb, le-ltb}
-use Rattle.labels.proofs.Slices.{rest, rest-of}
-use Rattle.labels.specs.Refusals.{thenOf, firstOf}
+use Rattle.labels.proofs.Slices.{rest}
+use Rattle.labels.proofs.Outputs.{front-none, front-after, put-four, front-length}
+use Rattle.labels.specs.Refusals.{thenOf, firstOf, inFront}
 use Rattle.labels.specs.Labels.{checkPairs}
 use Rattle.labels.specs.declared.refusal.Refusal.{Refusal}
 use Rattle.labels.specs.declared.refusal.Refusal.the-variants.{OutputTooShort}
@@ -20,42 +21,9 @@ use Rattle.machines.specs.Joints.{checkJoint, checkTablesAndJoint}
 use Rattle.formulas.specs.Formulas.{questionLimit, checkFormula}
 use Rattle.casebook.specs.Records.{recordBytes}
 use Rattle.casebook.specs.Writing.{casebookBytes, checkParts, checkWrite, writeOf, writtenOf}
-use Rattle.casebook.specs.Working.{over}
 use Rattle.casebook.specs.declared.write.Writing.the-variants as writing
 use Rattle.casebook.proofs.RecordLaws.{record-length, table-fits, joint-fits, question-fits}
 use Rattle.casebook.proofs.RoundTrip.{casebook-length, sound-parts}
-
-pub length-over : (b xs : List ℕ) → length b ≤ length xs → length (over b xs) ≡ length xs
-length-over b xs h = omega (arith, length-append b (drop (length b) xs), length-drop (length b) xs)
-
-none-left : (k : ℕ) (l : List ℕ) → drop (length l - k) (drop k l) ≡ []
-none-left k l = drop-of-length-le (drop k l) {i = length l - k} (omega (arith, length-drop k l))
-
--- a piece written into the rest behind another: together they are one piece
-pub over-after : (b d xs zs ys : List ℕ) (k : ℕ) → k ≡ length b → zs ≡ over b xs → ys ≡ over d (rest k zs)
-    → putMid k (length zs - k) zs ys ≡ over (b ++ d) xs
-over-after b d xs zs ys k p q r =
-    rw (
-      r,
-      rest-of k zs,
-      none-left k zs,
-      q,
-      p,
-      take-append-seam b (drop (length b) xs),
-      drop-append-seam b (drop (length b) xs),
-      drop-drop (length d) (length b) xs,
-      append-nil (d ++ drop (length b + length d) xs),
-      length-append b d,
-      append-assoc b d (drop (length b + length d) xs),
-    )
-
--- the four bytes in front of a body
-put-four : (xs : List ℕ) (a b c d : ℕ) → 4 ≤ length xs → set (set (set (set xs 0 a) 1 b) 2 c) 3 d ≡ over (a ∷ b ∷ c ∷ d ∷ []) xs
-put-four [] a b c d h = absurd (omega arith)
-put-four (x ∷ []) a b c d h = absurd (omega arith)
-put-four (x ∷ y ∷ []) a b c d h = absurd (omega arith)
-put-four (x ∷ y ∷ z ∷ []) a b c d h = absurd (omega arith)
-put-four (x ∷ y ∷ z ∷ w ∷ xs) a b c d h = refl
 
 record-split : (kind : ℕ) (body : List ℕ) (a b c : ℕ) → a ≡ (2 + length body) % 256 → b ≡ (2 + length body) / 256 → c ≡ kind → kind < 256
     → (a ∷ b ∷ c ∷ 0 ∷ []) ++ body ≡ recordBytes kind body
@@ -68,10 +36,11 @@ record-split kind body a b c p q r h =
 -- one record
 pub record-put : (out body ys : List ℕ) (kind a b : ℕ) → 4 ≤ length out → length body < 65534 → kind < 256 → a ≡ (length body + 2) % 256 → b ≡ (length body + 2) / 256 % 256
     → let zs = set (set (set (set out 0 a) 1 b) 2 kind) 3 0 in
-    ys ≡ take (length body) body ++ drop (length body) (rest 4 zs) → putMid 4 (length zs - 4) zs ys ≡ over (recordBytes kind body) out
+    ys ≡ take (length body) body ++ drop (length body) (rest 4 zs) → putMid 4 (length zs - 4) zs ys ≡ inFront (recordBytes kind body) out
+unfolding inFront
 record-put out body ys kind a b room short small p q e =
-    over-after (a ∷ b ∷ kind ∷ 0 ∷ []) body out (set (set (set (set out 0 a) 1 b) 2 kind) 3 0) ys 4 refl (put-four out a b kind 0 room) (e ∙ rw (take-length body))
-    ∙ ap (λ z. over z out) (record-split kind body a b kind (omega (arith, p)) (omega (arith, q)) refl small)
+    front-after (a ∷ b ∷ kind ∷ 0 ∷ []) body out (set (set (set (set out 0 a) 1 b) 2 kind) 3 0) ys 4 refl (put-four out a b kind 0 room) (e ∙ rw (take-length body))
+    ∙ ap (λ z. inFront z out) (record-split kind body a b kind (omega (arith, p)) (omega (arith, q)) refl small)
 
 -- five records make a casebook
 pub five-records : (k : ℕ) (l r j q : List ℕ)
@@ -100,7 +69,7 @@ module _ (k : ℕ) (l r j q : List ℕ) where
     unfolding writeOf writtenOf checkWrite firstOf
     write-short h = rw (sound, lt-ltb (length out) (length (casebookBytes k l r j q)) (omega (arith, casebook-length k l r j q))) (refl, refl)
 
-    pub write-whole : (n : ℕ) (after : List ℕ) → n ≡ 21 + length l + length r + length j + length q → n ≤ length out → after ≡ over (casebookBytes k l r j q) out
+    pub write-whole : (n : ℕ) (after : List ℕ) → n ≡ 21 + length l + length r + length j + length q → n ≤ length out → after ≡ inFront (casebookBytes k l r j q) out
         → (writing.Written n ≡ writeOf k l r j q (length out)) × (after ≡ writtenOf k l r j q out)
     unfolding writeOf writtenOf checkWrite firstOf
     write-whole n after e h a = rw (sound, le-ltb (length out) (length (casebookBytes k l r j q)) (omega (arith, casebook-length k l r j q))) (ap writing.Written (omega (arith, e, casebook-length k l r j q)), a)
@@ -108,41 +77,37 @@ module _ (k : ℕ) (l r j q : List ℕ) where
     pub parts-small : (length l ≤ 1537) × (length r ≤ 1537) × (length j ≤ 602) × (length q ≤ 128)
     parts-small = let p = sound-parts k l r j q sound in (table-fits k l (p .left) .2, table-fits k r (p .right) .2, joint-fits k l r j (p .run) .1, question-fits k q (p .question) .1)
 
--- a record that was put leaves the output as long as it was
-pub put-length : (out after bytes : List ℕ) → after ≡ over bytes out → length bytes ≤ length out → length after ≡ length out
-put-length out after bytes e h = ap length e ∙ length-over bytes out h
-
 -- the output with a piece put back at k
 abbrev pub put : ℕ → List ℕ → List ℕ → List ℕ
 put k zs ys = putMid k (length zs - k) zs ys
 
 -- all five records, each into the rest behind those before it
-module _ (k : ℕ) (l r j q out y1 y2 y3 y4 : List ℕ) (e1 : y1 ≡ over (recordBytes 1 (k ∷ [])) (rest 0 out)) (e2 : y2 ≡ over (recordBytes 2 l) (rest 5 (put 0 out y1)))
-    (e3 : y3 ≡ over (recordBytes 3 r) (rest (9 + length l) (put 5 (put 0 out y1) y2)))
-    (e4 : y4 ≡ over (recordBytes 4 j) (rest (9 + length l + 4 + length r) (put (9 + length l) (put 5 (put 0 out y1) y2) y3))) where
+module _ (k : ℕ) (l r j q out y1 y2 y3 y4 : List ℕ) (e1 : y1 ≡ inFront (recordBytes 1 (k ∷ [])) (rest 0 out)) (e2 : y2 ≡ inFront (recordBytes 2 l) (rest 5 (put 0 out y1)))
+    (e3 : y3 ≡ inFront (recordBytes 3 r) (rest (9 + length l) (put 5 (put 0 out y1) y2)))
+    (e4 : y4 ≡ inFront (recordBytes 4 j) (rest (9 + length l + 4 + length r) (put (9 + length l) (put 5 (put 0 out y1) y2) y3))) where
   abbrev four : List ℕ
   four = put (9 + length l + 4 + length r) (put (9 + length l) (put 5 (put 0 out y1) y2) y3) y4
 
   abbrev front : List ℕ
   front = ((([] ++ recordBytes 1 (k ∷ [])) ++ recordBytes 2 l) ++ recordBytes 3 r) ++ recordBytes 4 j
 
-  front-length : length front ≡ 9 + length l + 4 + length r + 4 + length j
-  front-length = simp (length-append, record-length) (omega arith)
+  four-length : length front ≡ 9 + length l + 4 + length r + 4 + length j
+  four-length = simp (length-append, record-length) (omega arith)
 
-  four-put : four ≡ over front out
+  four-put : four ≡ inFront front out
   four-put =
-      let f1 = over-after [] (recordBytes 1 (k ∷ [])) out out y1 0 refl refl e1 in
-      let f2 = over-after ([] ++ recordBytes 1 (k ∷ [])) (recordBytes 2 l) out (put 0 out y1) y2 5 (simp record-length) f1 e2 in
-      let f3 = over-after (([] ++ recordBytes 1 (k ∷ [])) ++ recordBytes 2 l) (recordBytes 3 r) out (put 5 (put 0 out y1) y2) y3 (9 + length l) (simp (length-append, record-length) (omega arith)) f2 e3 in
-      over-after ((([] ++ recordBytes 1 (k ∷ [])) ++ recordBytes 2 l) ++ recordBytes 3 r) (recordBytes 4 j) out (put (9 + length l) (put 5 (put 0 out y1) y2) y3) y4 (9 + length l + 4 + length r)
+      let f1 = front-after [] (recordBytes 1 (k ∷ [])) out out y1 0 refl (front-none out) e1 in
+      let f2 = front-after ([] ++ recordBytes 1 (k ∷ [])) (recordBytes 2 l) out (put 0 out y1) y2 5 (simp record-length) f1 e2 in
+      let f3 = front-after (([] ++ recordBytes 1 (k ∷ [])) ++ recordBytes 2 l) (recordBytes 3 r) out (put 5 (put 0 out y1) y2) y3 (9 + length l) (simp (length-append, record-length) (omega arith)) f2 e3 in
+      front-after ((([] ++ recordBytes 1 (k ∷ [])) ++ recordBytes 2 l) ++ recordBytes 3 r) (recordBytes 4 j) out (put (9 + length l) (put 5 (put 0 out y1) y2) y3) y4 (9 + length l + 4 + length r)
       (simp (length-append, record-length) (omega arith)) f3 e4
 
   -- the fifth has room
   pub fifth-room : 21 + length l + length r + length j + length q ≤ length out → 4 + length q ≤ length (rest (9 + length l + 4 + length r + 4 + length j) four)
   fifth-room h =
-      let n = put-length out four front four-put (omega (arith, front-length)) in
+      let n = front-length front out four four-put (omega (arith, four-length)) in
       simp (length-take, length-drop) (omega (arith, n))
 
-  pub all-put : (y5 : List ℕ) → y5 ≡ over (recordBytes 5 q) (rest (9 + length l + 4 + length r + 4 + length j) four)
-      → put (9 + length l + 4 + length r + 4 + length j) four y5 ≡ over (casebookBytes k l r j q) out
-  all-put y5 e5 = over-after front (recordBytes 5 q) out four y5 (9 + length l + 4 + length r + 4 + length j) (sym front-length) four-put e5 ∙ ap (λ z. over z out) (five-records k l r j q)
+  pub all-put : (y5 : List ℕ) → y5 ≡ inFront (recordBytes 5 q) (rest (9 + length l + 4 + length r + 4 + length j) four)
+      → put (9 + length l + 4 + length r + 4 + length j) four y5 ≡ inFront (casebookBytes k l r j q) out
+  all-put y5 e5 = front-after front (recordBytes 5 q) out four y5 (9 + length l + 4 + length r + 4 + length j) (sym four-length) four-put e5 ∙ ap (λ z. inFront z out) (five-records k l r j q)

@@ -1,11 +1,7 @@
 -- What functions inside the crate promise each other. No public promise cites this file.
 use Prim.Native.Nat.{ℕ, _+_, _≤_}
-use mathlib.Core.List.{List, _++_}
-use lib.ListN.{length, drop}
-
--- bytes written over the front of others; what is past them keeps its value
-abbrev pub over : List ℕ → List ℕ → List ℕ
-over bytes out = bytes ++ drop (length bytes) out
+use mathlib.Core.List.{List}
+use lib.ListN.{length}
 
 -- parts short enough for their records, and room for all of them
 pub record Fitting (l r j q out : List ℕ) : Type 0 where

@@ -70,7 +70,7 @@ impl Cursor {
 }
 
 // The table of records: can a record of this kind have this length?
-pub fn fits(kind: usize, n: usize) -> bool
+pub(crate) fn fits(kind: usize, n: usize) -> bool
     ensures { λ r. ⌜ r ≡ fitLength kind n ⌝ }
 {
     if kind == 1 {

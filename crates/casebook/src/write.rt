@@ -8,9 +8,10 @@ use machines::joint::check_joint;
 ghost use mathlib.Core.Path.{_≡_};
 ghost use Prim.Native.Nat.{_+_, _≤_, _<_};
 ghost use lib.ListN.{length};
+ghost use Rattle.labels.specs.Refusals.{inFront};
 ghost use Rattle.casebook.specs.Records.{recordBytes};
 ghost use Rattle.casebook.specs.Writing.{casebookBytes, checkParts, writeOf, writtenOf};
-ghost use Rattle.casebook.specs.Working.{over, Fitting};
+ghost use Rattle.casebook.specs.Working.{Fitting};
 
 // How many bytes were written, or why none were.
 pub enum Writing {
@@ -56,7 +57,7 @@ fn check_parts(k: u8, left: &[u8], right: &[u8], run: &[u8], question: &[u8]) ->
 // The five records, one after the other.
 fn put_casebook(k: u8, left: &[u8], right: &[u8], run: &[u8], question: &[u8], out: &mut [u8])
     requires { ⌜ Fitting (now left) (now right) (now run) (now question) (now out) ⌝ }
-    ensures { λ r. ⌜ now (out .exit) ≡ over (casebookBytes k (now (left .entry)) (now (right .entry)) (now (run .entry)) (now (question .entry))) (now (out .entry)) ⌝ }
+    ensures { λ r. ⌜ now (out .exit) ≡ inFront (casebookBytes k (now (left .entry)) (now (right .entry)) (now (run .entry)) (now (question .entry))) (now (out .entry)) ⌝ }
 {
     let pairs = [k];
     put_record(&mut out[0..], 1, &pairs);
@@ -72,7 +73,7 @@ fn put_casebook(k: u8, left: &[u8], right: &[u8], run: &[u8], question: &[u8], o
 // One record: its length and kind, then its body.
 fn put_record(out: &mut [u8], kind: u8, body: &[u8])
     requires { ⌜ (4 + length (now body) ≤ length (now out)) × (length (now body) < 65534) ⌝ }
-    ensures { λ r. ⌜ now (out .exit) ≡ over (recordBytes kind (now (body .entry))) (now (out .entry)) ⌝ }
+    ensures { λ r. ⌜ now (out .exit) ≡ inFront (recordBytes kind (now (body .entry))) (now (out .entry)) ⌝ }
 {
     let n = body.len() + 2;
     out[0] = (n % 256) as u8;

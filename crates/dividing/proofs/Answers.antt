@@ -13,12 +13,13 @@ use borrow.Author.Tests.{lt-ltb, le-ltb, ltb-true, ltb-false}
 use Rattle.hml.specs.Tests.{apart}
 use Rattle.hml.specs.Formula.{Formula, size}
 use Rattle.hml.specs.Spell.{spell, length-spell}
-use Rattle.labels.specs.Refusals.{firstOf, outputOf}
+use Rattle.labels.specs.Refusals.{firstOf, inFront, outputOf}
 use Rattle.labels.specs.declared.refusal.Refusal.{Refusal}
 use Rattle.labels.specs.declared.refusal.Refusal.the-variants.{QuotientTooLarge, OutputTooShort}
 use Rattle.labels.specs.declared.refusal.Check.the-variants.{Sound, Refused}
 use Rattle.labels.specs.declared.refusal.Check.{Check}
-use Rattle.dividing.specs.Quotients.{nodesOf, textOf, quotientLimit, checkSize, checkTree, written, answerOf, outputAfter}
+use Rattle.formulas.specs.Formulas.{quotientLimit}
+use Rattle.dividing.specs.Quotients.{nodesOf, textOf, checkSize, checkTree, written, answerOf, outputAfter}
 use Rattle.dividing.specs.declared.divide.Quotient.the-variants as answer
 
 -- the bytes of a tree: two a node
@@ -58,7 +59,7 @@ module _ (ψ : Formula) where
 
     -- in front of what the lent bytes past them were
     pub text-output : (out : List ℕ) → 2 * size ψ ≤ length out → outputAfter Sound (some ψ) out ≡ spell ψ [] ++ drop (2 * size ψ) out
-    unfolding outputAfter checkTree checkSize firstOf nodesOf textOf
+    unfolding outputAfter checkTree checkSize firstOf nodesOf textOf inFront
     text-output out i = rw (le-ltb 4096 (size ψ) h, le-ltb (length out) (2 * size ψ) i, text-length ψ)
 
     pub text-written : (out : List ℕ) → 2 * size ψ ≤ length out → take (2 * size ψ) (outputAfter Sound (some ψ) out) ≡ spell ψ []

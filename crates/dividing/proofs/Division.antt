@@ -14,7 +14,7 @@ use Rattle.hml.specs.Formula.{Formula, size, nesting}
 use Rattle.hml.specs.Spell.{spell, length-spell}
 use Rattle.hml.specs.Quotient.{quotient}
 use Rattle.hml.specs.Labels.{pairs}
-use Rattle.labels.specs.Refusals.{thenOf, firstOf}
+use Rattle.labels.specs.Refusals.{thenOf, firstOf, inFront}
 use Rattle.labels.specs.Labels.{checkPairs, pairing}
 use Rattle.labels.specs.declared.label.Labels.{Labels}
 use Rattle.labels.specs.declared.refusal.Refusal.{Refusal}
@@ -22,22 +22,22 @@ use Rattle.labels.specs.declared.refusal.Refusal.the-variants.{QuotientTooLarge
 use Rattle.labels.specs.declared.refusal.Check.{Check}
 use Rattle.labels.specs.declared.refusal.Check.the-variants.{Sound, Refused}
 use Rattle.labels.proofs.Refusals.{judges, both-sound, passed}
-use Rattle.tables.specs.Tables.{tableOf, checkTable}
-use Rattle.tables.proofs.SoundTables.{SoundTable, sound-table}
+use Rattle.tables.specs.Tables.{tableOf, checkTable, SoundTable}
+use Rattle.tables.proofs.SoundTables.{sound-table}
 use Rattle.halves.specs.Halves.{halfOf, isHalfRun, checkHalf, checkTableAndHalf}
 use Rattle.halves.proofs.HalfRuns.{accepted-half}
 use Rattle.halves.proofs.HalfBuffers.{accepted-held, held-copied}
-use Rattle.formulas.specs.Formulas.{questionLimit, Legal, checkFormula}
+use Rattle.formulas.specs.Formulas.{questionLimit, quotientLimit, Legal, checkFormula}
 use Rattle.formulas.specs.Sizes.{sizesOver}
 use Rattle.formulas.specs.Forwards.{forwardsIn}
-use Rattle.formulas.specs.Working.{Tree, treeOf}
+use Rattle.formulas.specs.Trees.{Tree, treeOf}
 use Rattle.formulas.proofs.Checking.{judged-formula, legal-tree, formula-length}
 use Rattle.formulas.proofs.Operators.{tree-some}
 use Rattle.formulas.proofs.ForwardCount.{nesting-forwards}
 use Rattle.formulas.proofs.TreeSizes.{length-over}
 use Rattle.formulas.proofs.Operands.{legal-part, legal-nesting}
-use Rattle.dividing.specs.Quotients.{treeBy, quotientBy, quotientLimit, answerOf, outputAfter, checkDivision}
-use Rattle.dividing.specs.Working.{inFront, text, Ready, surelyFits}
+use Rattle.dividing.specs.Quotients.{treeBy, quotientBy, answerOf, outputAfter, checkDivision}
+use Rattle.dividing.specs.Working.{text, Ready, surelyFits}
 use Rattle.dividing.specs.declared.divide.Quotient.the-variants as answer
 use Rattle.dividing.proofs.QuotientSize.{quotient-size}
 use Rattle.dividing.proofs.Answers.{text-length, too-large, too-short, enough-room, text-output, refused-kept}

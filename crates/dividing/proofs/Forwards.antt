@@ -18,10 +18,10 @@ use Rattle.hml.specs.Quotient.{ors, ofPartner, quotient}
 use Rattle.labels.specs.Labels.{pairing}
 use Rattle.labels.specs.declared.label.Labels.{Labels}
 use Rattle.labels.proofs.Slices.{rest, rest-of}
-use Rattle.tables.specs.Tables.{tableOf}
-use Rattle.tables.proofs.SoundTables.{SoundTable, no-idle-label}
+use Rattle.tables.specs.Tables.{tableOf, SoundTable}
+use Rattle.tables.proofs.SoundTables.{no-idle-label}
 use Rattle.halves.specs.Runs.{stepOf}
-use Rattle.formulas.specs.Working.{treeOf}
+use Rattle.formulas.specs.Trees.{treeOf}
 use Rattle.formulas.proofs.Operators.{at}
 use Rattle.formulas.proofs.Operands.{Part, operand-is}
 use Rattle.dividing.specs.Working.{Behind, Forward, Listed, one, more, aloneIn, shakenBy, shakenIn, disjunctsOf, text, firstText, texts}

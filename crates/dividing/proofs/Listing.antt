@@ -17,8 +17,8 @@ use Rattle.labels.specs.declared.label.Labels.{Labels}
 use Rattle.labels.specs.declared.label.Partner.the-variants as partner
 use Rattle.labels.proofs.Labels.{found-some, found-none}
 use Rattle.labels.proofs.Slices.{rest}
-use Rattle.tables.specs.Tables.{tableOf, movesIn}
-use Rattle.tables.proofs.SoundTables.{SoundTable, moves-few}
+use Rattle.tables.specs.Tables.{tableOf, movesIn, SoundTable}
+use Rattle.tables.proofs.SoundTables.{moves-few}
 use Rattle.tables.proofs.Searching.{first-move, no-move}
 use Rattle.dividing.specs.Working.{Behind, aloneIn, shakenBy, shakenIn, disjunctsOf}
 

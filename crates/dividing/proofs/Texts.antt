@@ -21,7 +21,7 @@ use Rattle.tables.specs.Tables.{tableOf}
 use Rattle.halves.specs.Runs.{stepOf}
 use Rattle.halves.specs.Halves.{halfOf}
 use Rattle.halves.proofs.HalfBuffers.{HeldHalf, half-empty, half-step}
-use Rattle.formulas.specs.Working.{treeOf}
+use Rattle.formulas.specs.Trees.{treeOf}
 use Rattle.formulas.proofs.Measures.{size-some}
 use Rattle.formulas.proofs.Operators.{at}
 use Rattle.formulas.proofs.Operands.{Part, Connective, operand-is, operands-are, leaf-operator}

@@ -18,7 +18,7 @@ use Rattle.labels.specs.declared.refusal.Check.the-variants as check
 use Rattle.labels.specs.declared.refusal.Refusal.the-variants.{QuotientTooLarge, OutputTooShort}
 use Rattle.tables.specs.Tables.{tableOf, checkTable}
 use Rattle.halves.specs.Halves.{checkHalf}
-use Rattle.formulas.specs.Formulas.{formulaOf, questionLimit, checkFormula}
+use Rattle.formulas.specs.Formulas.{formulaOf, questionLimit, quotientLimit, checkFormula}
 use Rattle.dividing.specs.declared.divide.Quotient.{Quotient}
 use Rattle.dividing.specs.declared.divide.Quotient.the-variants as answer
 
@@ -38,10 +38,6 @@ nodesOf (some φ) = size φ
 unfoldable pub textOf : Option Formula → List ℕ
 textOf none = []
 textOf (some φ) = spell φ []
-
--- "A question has 1 to 64 nodes, a quotient 1 to 4,096"
-abbrev pub quotientLimit : ℕ
-quotientLimit = 4096
 
 -- 17: "the quotient's tree has over 4,096 nodes"
 unfoldable pub checkSize : Option Formula → Check

@@ -5,7 +5,7 @@ use mathlib.Core.Logic.{_⊎_}
 use mathlib.Core.Bool.{Bool, _&&_, cond}
 use mathlib.Core.List.{List, [], _∷_, _++_}
 use mathlib.Core.Option.{Option, none, some}
-use lib.ListN.{length, getD, drop}
+use lib.ListN.{length, getD}
 use lib.Dec.{eqb, leb}
 use Rattle.hml.specs.Tests.{same}
 use Rattle.hml.specs.Lists.{each, given}
@@ -19,14 +19,10 @@ use Rattle.tables.specs.Tables.{tableOf}
 use Rattle.halves.specs.Runs.{stepOf}
 use Rattle.halves.proofs.HalfBuffers.{HeldHalf}
 use Rattle.formulas.specs.Forwards.{forwardsIn}
-use Rattle.formulas.specs.Working.{treeOf}
+use Rattle.formulas.specs.Trees.{treeOf}
 use Rattle.formulas.proofs.Operands.{Part}
 use Rattle.dividing.specs.declared.node.Past.{Past}
 use Rattle.dividing.specs.declared.node.Past.the-variants as past
-
--- bytes in the place of the first ones of a list
-unfoldable pub inFront : List ℕ → List ℕ → List ℕ
-inFront b xs = b ++ drop (length b) xs
 
 -- the piece b, with d behind it, is the piece w
 unfoldable pub Behind : List ℕ → List ℕ → List ℕ → Type 0

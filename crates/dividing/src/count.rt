@@ -7,7 +7,7 @@ use labels::label::Labels;
 ghost use mathlib.Core.Path.{_≡_};
 ghost use Prim.Native.Nat.{_+_, _-_, _*_, _≤_, min};
 ghost use lib.ListN.{length, getD, take};
-ghost use Rattle.tables.proofs.SoundTables.{SoundTable};
+ghost use Rattle.tables.specs.Tables.{SoundTable};
 ghost use Rattle.halves.specs.Halves.{halfOf};
 ghost use Rattle.dividing.specs.Working.{Ready, Forward, Listed, text, texts, firstText};
 

@@ -14,7 +14,7 @@ ghost use mathlib.Core.Path.{_≡_};
 ghost use mathlib.Core.Bool.{true};
 ghost use lib.ListN.{length};
 ghost use Rattle.labels.specs.declared.refusal.Check.the-variants.{Sound};
-ghost use Rattle.tables.proofs.SoundTables.{SoundTable};
+ghost use Rattle.tables.specs.Tables.{SoundTable};
 ghost use Rattle.halves.specs.Halves.{halfOf, isHalfRun};
 ghost use Rattle.formulas.specs.Formulas.{Legal, questionLimit};
 ghost use Rattle.dividing.specs.Quotients.{quotientBy, checkDivision, answerOf, outputAfter};

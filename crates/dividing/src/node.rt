@@ -6,7 +6,8 @@ ghost use mathlib.Core.Path.{_≡_};
 ghost use mathlib.Core.List.{[], _∷_};
 ghost use Prim.Native.Nat.{_≤_};
 ghost use lib.ListN.{length};
-ghost use Rattle.dividing.specs.Working.{pastOf, inFront};
+ghost use Rattle.labels.specs.Refusals.{inFront};
+ghost use Rattle.dividing.specs.Working.{pastOf};
 
 pub(crate) struct Node {
     pub operator: u8,

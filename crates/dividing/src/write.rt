@@ -8,9 +8,10 @@ use labels::label::Labels;
 ghost use mathlib.Core.Path.{_≡_};
 ghost use Prim.Native.Nat.{_-_, _≤_};
 ghost use lib.ListN.{length, getD, take};
-ghost use Rattle.tables.proofs.SoundTables.{SoundTable};
+ghost use Rattle.labels.specs.Refusals.{inFront};
+ghost use Rattle.tables.specs.Tables.{SoundTable};
 ghost use Rattle.halves.specs.Halves.{halfOf};
-ghost use Rattle.dividing.specs.Working.{Ready, Forward, Listed, text, texts, firstText, inFront};
+ghost use Rattle.dividing.specs.Working.{Ready, Forward, Listed, text, texts, firstText};
 
 // Writes the quotient of the first tree of f by the run in the first len bytes. Gives how many bytes it has.
 pub(crate) fn write_tree(

@@ -33,7 +33,7 @@ ghost use Rattle.casebook.specs.Writing.{writeOf, writtenOf};
 ghost use Rattle.verdict.specs.Verdicts.{jointVerdict, halfVerdict};
 ghost use Rattle.splitting.specs.Splittings.{countOf, splitOf, leftOutput, rightOutput};
 ghost use Rattle.joining.specs.Joinings.{joiningOf, joinOutput};
-ghost use Rattle.quotient.specs.Calls.{byHalf, byHalfOutput, byNumber, byNumberOutput, lineOf};
+ghost use Rattle.quotient.specs.Calls.{byHalf, byHalfOutput, byNumber, byNumberOutput, officeOf};
 ghost use Rattle.engine.specs.Answers.{refusedAs, readAnswer, placeOf, placeIn, partAnswer, writeAnswer, sideOf, cutAnswer, verdictAnswer, countAnswer, splitAnswer, joinAnswer, quotientAnswer, bitOf, lineAnswer};
 ghost use Rattle.engine.specs.Working.{Placed};
 
@@ -314,7 +314,7 @@ pub extern "C" fn yenuslap_line_office<'a>(
     side: u8,
     point: usize,
 ) -> u64
-    ensures { λ r. ⌜ r ≡ lineAnswer (lineOf k (now (left .entry)) (now (right .entry)) (now («left_half» .entry)) (now («right_half» .entry)) (now (question .entry)) (sideOf side) point) ⌝ }
+    ensures { λ r. ⌜ r ≡ lineAnswer (officeOf k (now (left .entry)) (now (right .entry)) (now («left_half» .entry)) (now («right_half» .entry)) (now (question .entry)) (sideOf side) point) ⌝ }
 {
     let side = side_of(side);
     match line_office(k, left, right, left_half, right_half, question, side, point) {

@@ -19,18 +19,14 @@ use Rattle.labels.specs.declared.refusal.Refusal.the-variants.{NotATree, Nested
 use Rattle.labels.proofs.Refusals.{Judges, judged-iff, judged-unless, judged-then, then-sound}
 use Rattle.formulas.specs.Formulas.{endOf, treeEnd, wholeOf, formulaOf, isFormula, nestsFit, checkFormula, Legal}
 use Rattle.formulas.specs.Forwards.{forwardsIn}
-use Rattle.formulas.specs.Working.{Tree, treeOf, measureOf, labelsFit}
+use Rattle.formulas.specs.Trees.{Tree, treeOf}
+use Rattle.formulas.specs.Working.{measureOf, labelsFit}
 use Rattle.formulas.specs.declared.tree.TreeEnd.the-variants as end
 use Rattle.formulas.specs.declared.tree.Measure.{Measure}
 use Rattle.formulas.proofs.FormulaLabels.{spelled-labels}
 use Rattle.formulas.proofs.Measures.{measure-spell}
 use Rattle.formulas.proofs.Operators.{tree-spell}
 use Rattle.formulas.proofs.ForwardCount.{spelled-nesting}
-
--- the first tree of bytes that spell one ends behind its nodes
-pub end-spell : (φ : Formula) (rest : List ℕ) → treeEnd (spell φ rest) ≡ end.At (2 * size φ)
-unfolding treeEnd endOf
-end-spell φ rest = rw (parse-spell φ rest)
 
 -- bytes that spell one tree read to it
 pub formula-spell : (φ : Formula) → formulaOf (spell φ []) ≡ some φ

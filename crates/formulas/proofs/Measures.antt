@@ -12,7 +12,8 @@ use Rattle.hml.specs.Formula.{Formula, top, bottom, not, and, or, fwd, back, fw
 use Rattle.hml.specs.Window.{backs}
 use Rattle.hml.specs.Spell.{spell, length-spell, parse-spell}
 use Rattle.formulas.specs.Formulas.{nodeOf, operandsOf}
-use Rattle.formulas.specs.Working.{Tree, measuredAs, measureOf, operandsIn}
+use Rattle.formulas.specs.Trees.{Tree}
+use Rattle.formulas.specs.Working.{measuredAs, measureOf, operandsIn}
 use Rattle.formulas.specs.declared.tree.Measure.{Measure}
 
 -- a formula's bytes stand in front of the others

@@ -11,7 +11,7 @@ use lib.Dec.{eqb}
 use Rattle.hml.specs.Labels.{count}
 use Rattle.hml.specs.Formula.{Formula, and, or, size, nesting, labelled}
 use Rattle.labels.proofs.Slices.{rest, rest-of}
-use Rattle.formulas.specs.Working.{Tree, treeOf}
+use Rattle.formulas.specs.Trees.{Tree, treeOf}
 use Rattle.formulas.specs.Formulas.{Legal}
 use Rattle.formulas.specs.Sizes.{Sized, treeSize, sizesOver}
 use Rattle.formulas.proofs.Measures.{size-some}

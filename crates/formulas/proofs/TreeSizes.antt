@@ -15,7 +15,8 @@ use Rattle.hml.specs.Formula.{Formula, top, bottom, not, and, or, fwd, back, fw
 use Rattle.hml.specs.Spell.{spell, length-spell, Shape, leaf, unary, binary, bad, shape, next, trees, single, parse, parse-spell, parse-sound}
 use Rattle.formulas.specs.Formulas.{operandsOf, nodeOf}
 use Rattle.formulas.specs.Sizes.{sizeIn, treeSize, sizesOf, sizesOver, Sized}
-use Rattle.formulas.specs.Working.{Tree, measureOf, operandsIn, sizeBehind}
+use Rattle.formulas.specs.Trees.{Tree}
+use Rattle.formulas.specs.Working.{measureOf, operandsIn, sizeBehind}
 use Rattle.formulas.specs.declared.node.Node.{Node}
 use Rattle.formulas.specs.declared.node.Node.the-variants as node
 use Rattle.formulas.proofs.Measures.{spell-drop, size-some, measure-spell, first-operand, second-operand}

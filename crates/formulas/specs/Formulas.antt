@@ -47,9 +47,12 @@ wholeOf (some (φ, b ∷ bytes)) = none
 unfoldable pub formulaOf : List ℕ → Option Formula
 formulaOf f = wholeOf (parse f)
 
--- "A question has 1 to 64 nodes"
+-- "A question has 1 to 64 nodes, a quotient 1 to 4,096; verdicts take either"
 abbrev pub questionLimit : ℕ
 questionLimit = 64
+
+abbrev pub quotientLimit : ℕ
+quotientLimit = 4096
 
 -- what it is for bytes to be a formula of a call: they spell one tree, of at most `limit` nodes, whose labels are those of k pairs and
 -- whose forward modalities nest at most 4 deep

@@ -1,4 +1,5 @@
 pub mod Formulas
+pub mod Trees
 pub mod Backs
 pub mod Forwards
 pub mod Sizes

@@ -1,29 +1,16 @@
 -- What functions inside the crate promise each other. No public promise cites this file.
 use Prim.Native.Nat.{ℕ, _-_, _*_}
-use mathlib.Core.Path.{_≡_}
 use mathlib.Core.Bool.{Bool, true, _&&_}
 use mathlib.Core.List.{List, [], _∷_}
 use mathlib.Core.Option.{Option, none, some}
 use lib.ListN.{length, getD}
 use lib.Dec.{leb}
-use Rattle.hml.specs.Formula.{Formula, top, size, nesting}
+use Rattle.hml.specs.Formula.{Formula, size, nesting}
 use Rattle.hml.specs.Window.{backs}
-use Rattle.hml.specs.Spell.{spell, parse}
+use Rattle.hml.specs.Spell.{parse}
 use Rattle.formulas.specs.declared.node.Node.{Node}
 use Rattle.formulas.specs.declared.node.Node.the-variants as node
 use Rattle.formulas.specs.declared.tree.Measure.{Measure}
-
--- bytes that begin with a tree
-unfoldable pub Tree : List ℕ → Type 0
-Tree f = (φ : Formula) × (rest : List ℕ) × (f ≡ spell φ rest)
-
--- the first tree; `top` where there is none
-unfoldable pub treeIn : Option (Formula × List ℕ) → Formula
-treeIn none = top
-treeIn (some t) = t .0
-
-unfoldable pub treeOf : List ℕ → Formula
-treeOf f = treeIn (parse f)
 
 -- the length of the first tree, and how deep its forward and its back modalities nest
 unfoldable pub measuredAs : Option (Formula × List ℕ) → Measure

@@ -1,4 +1,5 @@
-// The operators of document 01, in one place: how many operands a node has, and whether its label byte fits.
+// The table of operators that checks go by: how many operands a node has, and whether its label byte fits. What each operator
+// means is in verdict (src/search.rt, src/step.rt) and dividing (src/node.rt, src/disjuncts.rt, src/count.rt, src/write.rt).
 ghost use mathlib.Core.Path.{_≡_};
 ghost use mathlib.Core.Bool.{_||_};
 ghost use lib.Dec.{eqb};
@@ -11,7 +12,7 @@ pub enum Node {
 }
 
 // The node of an operator and a label byte. Operators 5 and 6 have a label, the others have 0 in its place.
-pub fn read_node(operator: u8, label: u8) -> Node
+pub(crate) fn read_node(operator: u8, label: u8) -> Node
     ensures { λ r. ⌜ r ≡ nodeOf operator label ⌝ }
 {
     if operator == 5 {
@@ -47,7 +48,7 @@ fn unlabelled(operator: u8) -> Node
 }
 
 // Operators 5 and 7 look forward.
-pub fn is_forward(operator: u8) -> bool
+pub(crate) fn is_forward(operator: u8) -> bool
     ensures { λ r. ⌜ r ≡ (eqb operator 5 || eqb operator 7) ⌝ }
 {
     if operator == 5 {
@@ -57,7 +58,7 @@ pub fn is_forward(operator: u8) -> bool
 }
 
 // Operators 6 and 8 look back.
-pub fn is_back(operator: u8) -> bool
+pub(crate) fn is_back(operator: u8) -> bool
     ensures { λ r. ⌜ r ≡ (eqb operator 6 || eqb operator 8) ⌝ }
 {
     if operator != 6 {

@@ -9,7 +9,8 @@ ghost use Prim.Native.Nat.{_+_, _≤_, max};
 ghost use lib.ListN.{getD, length};
 ghost use lib.Dec.{eqb};
 ghost use Rattle.formulas.specs.Formulas.{nodeOf, treeEnd};
-ghost use Rattle.formulas.specs.Working.{Tree, measureOf, operandsIn};
+ghost use Rattle.formulas.specs.Trees.{Tree};
+ghost use Rattle.formulas.specs.Working.{measureOf, operandsIn};
 
 // Where the first tree of some bytes ends.
 pub enum TreeEnd {
@@ -18,7 +19,7 @@ pub enum TreeEnd {
 }
 
 // The end of the first tree, for any bytes: each node takes the place of one that is due, and asks for its operands.
-pub fn tree_end(f: &[u8]) -> TreeEnd
+pub(crate) fn tree_end(f: &[u8]) -> TreeEnd
     ensures { λ r. ⌜ r ≡ treeEnd (now (f .entry)) ⌝ }
 {
     let mut due: usize = 1;

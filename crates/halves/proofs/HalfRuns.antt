@@ -11,18 +11,18 @@ use lib.Seq.{take-nil}
 use lib.Dec.{eqb}
 use borrow.Author.Tests.{eqb-true, eqb-false}
 use Rattle.hml.specs.Tests.{same, Decides, decides, decided-by, decided-le, decided-lt, decided-true, decided-iff, decided-and, decided-same}
-use Rattle.hml.specs.Lists.{_∈_, each, length-each}
+use Rattle.hml.specs.Lists.{each, length-each}
 use Rattle.hml.specs.System.{System, Run, start, _▸_, first, last, steps, stop, RunOf}
-use Rattle.tables.specs.Tables.{statesOf, tableOf, hasMove}
+use Rattle.tables.specs.Tables.{statesOf, tableOf, hasMove, SoundTable}
 use Rattle.halves.specs.Runs.{written, stepOf, goOn}
 use Rattle.halves.specs.Halves.{halfBytes, twos, halfOf, HalfRun, stepFits, isHalfRun, checkHalf, checkTableAndHalf}
 use Rattle.labels.specs.Refusals.{firstOf}
 use Rattle.labels.specs.declared.refusal.Refusal.the-variants.{NotARun}
 use Rattle.labels.proofs.Refusals.{Judges, judged-unless, judged-next, then-sound}
-use Rattle.tables.proofs.SoundTables.{SoundTable, judged-table, no-idle-label}
+use Rattle.tables.proofs.SoundTables.{judged-table, no-idle-label}
 use Rattle.tables.proofs.Chunks.{Chunked, less, chunk, Chunks, chunks-take, chunks-read, chunks-append}
 use Rattle.tables.proofs.Rows.{hasMove-decides}
-use Rattle.halves.proofs.Runs.{NoIdleLabel, Fit, lengthened-more, first-lengthened, length-written, stop-start, stop-lengthened, goOn-take, run-keeps, run-goOn, stepBytes, dropped-at, read-accepted}
+use Rattle.halves.proofs.Runs.{NoIdleLabel, Fit, lengthened-more, first-lengthened, length-written, stop-start, stop-lengthened, goOn-take, run-goOn, stepBytes, dropped-at, read-accepted}
 
 -- the test passes exactly for the steps that the system has
 pub stepFits-decides : (M : System ℕ) (p a q : ℕ) → Decides (Fit M p a q) (stepFits M p a q)
@@ -131,10 +131,6 @@ half-stopped t (p ∷ bs) n e =
     let (o, m, b, g) = decides (half-tested t p bs) .0 e in
     let l = length-take (2 * n) bs in
     rw add-one (decides (half-tested t p (take (2 * n) bs)) .1 (omega arith, omega arith, b, rw (chunks-take twos-chunks bs n) (goOn-take (stepFits (tableOf t)) p n (twos bs) g)))
-
--- if all moves of a table end in its states, an accepted half does
-pub half-in-range : (t s : List ℕ) → ((p a q : ℕ) → (a, q) ∈ tableOf t p → q < statesOf t) → isHalfRun t s ≡ true → last (halfOf s) < statesOf t
-half-in-range t s k e = let a = accepted-half t s e in run-keeps (tableOf t) (λ p. p < statesOf t) (λ p a q i m. k p a q m) (a .run) (a .begins)
 
 -- 15: beside a sound table, a half is accepted exactly if its bytes spell a run of the table, of at most 200 steps, from one of its states
 pub judged-half : (k : ℕ) (t s : List ℕ) → SoundTable k t → Judges (HalfRun t s) (checkHalf t s)

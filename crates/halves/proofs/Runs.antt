@@ -11,7 +11,7 @@ use lib.ListN.{length, take, drop, length-append, length-drop, take-append-drop,
 use lib.Seq.{drop-append-add, append-snoc, getD-drop}
 use lib.Dec.{eqb}
 use borrow.Author.Tests.{eq-eqb, ne-eqb, eqb-true}
-use Rattle.hml.specs.Tests.{Decides, decides, decided-by, both-true}
+use Rattle.hml.specs.Tests.{Decides, decides, both-true}
 use Rattle.hml.specs.Lists.{_∈_, each, length-each}
 use Rattle.hml.specs.System.{System, move, idle, Run, start, _▸_, first, last, steps, undo, stop, Allowed, moves, idles, RunOf, begins, goes}
 use Rattle.tables.proofs.Chunks.{Chunks, chunks-whole, chunks-length}
@@ -182,12 +182,6 @@ module _ {S : Type 0} (M : System S) (fits : S → ℕ → S → Bool) (d : (p :
         let t = run-more r a q (inr (n, i)) (run-goOn x) in
         (t .0, t .1 ∙ rw (ne-eqb a 255 n))
     run-goOn (goes {r = r} x idles) = run-more r 255 (last r) (inl (refl, refl)) (run-goOn x)
-
-    -- the test passes exactly for the written steps of the system's runs
-    pub goOn-decides : (p : S) (es : List (ℕ × S)) → Decides ((r : Run S) × (first r ≡ p) × (written r ≡ es) × RunOf M r) (goOn fits p es)
-    goOn-decides p es = decided-by (goOn fits p es)
-        (λ g. let t = goOn-run p es g in (lengthened (start p) es, first-lengthened (start p) es, t .1, t .0))
-        (λ t. rw (← t .1, ← t .2) (run-goOn (t .3) .0))
 
 -- a byte of what is left after n bytes is a byte of the whole
 pub dropped-at : (s : List ℕ) (n m i : ℕ) {l : List ℕ} → drop n s ≡ l → m ≡ n + i → getD l i 0 ≡ getD s m 0

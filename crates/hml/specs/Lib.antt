@@ -1,4 +1,4 @@
--- The theory of source document 000 as document 01 reads it, in reading order. It knows nothing of bytes, limits or refusals.
+-- The theory of source document 000 as document 01 reads it, in reading order. It knows nothing of tables' and runs' bytes, nor of refusals.
 
 -- tools: what it is for a test to decide a statement; lists
 pub mod Tests
@@ -21,7 +21,7 @@ pub mod Quotient
 pub mod Theorem
 pub mod Bounds
 pub mod Window
-pub mod Windows
+pub mod NewestSteps
 pub mod Line
 -- a machine beside one that never moves: the verdict on its run is the joint one
 pub mod Alone

@@ -8,7 +8,7 @@ use lib.ListN.{length}
 use borrow.Author.Tests.{lt-ltb, le-ltb}
 use Rattle.hml.specs.Tests.{apart}
 use Rattle.hml.specs.System.{last}
-use Rattle.labels.specs.Refusals.{thenOf, firstOf, refusedIf}
+use Rattle.labels.specs.Refusals.{thenOf, firstOf, refusedIf, inFront}
 use Rattle.labels.specs.Labels.{checkPairs}
 use Rattle.labels.specs.declared.refusal.Refusal.{Refusal}
 use Rattle.labels.specs.declared.refusal.Refusal.the-variants.{HalvesDoNotMatch, OutputTooShort}
@@ -19,7 +19,7 @@ use Rattle.tables.specs.Tables.{checkTable}
 use Rattle.halves.specs.Halves.{isHalfRun, checkHalf, checkTableAndHalf}
 use Rattle.halves.proofs.HalfBuffers.{accepted-held}
 use Rattle.joining.specs.Joinings.{halvesMatch, joinBytes, checkHalves, checkJoin, joiningOf, joinOutput}
-use Rattle.joining.specs.Matching.{HalfBytes, checkRuns, wholeRun}
+use Rattle.joining.specs.Working.{HalfBytes, checkRuns}
 use Rattle.joining.specs.declared.join.Joining.the-variants as joining
 use Rattle.joining.proofs.Joined.{join-length}
 
@@ -110,6 +110,6 @@ module _ (k : ℕ) (l r a b : List ℕ) where
         pub join-room : length (joinBytes k a b) ≤ length out
         join-room = omega (arith, size)
 
-        pub join-written : {out′ : List ℕ} → out′ ≡ wholeRun k a b out → (joining.Joined (3 * (length a / 2) + 2) ≡ joiningOf k l r a b (length out)) × (out′ ≡ joinOutput k l r a b out)
-        unfolding joiningOf joinOutput checkJoin firstOf wholeRun
+        pub join-written : {out′ : List ℕ} → out′ ≡ inFront (joinBytes k a b) out → (joining.Joined (3 * (length a / 2) + 2) ≡ joiningOf k l r a b (length out)) × (out′ ≡ joinOutput k l r a b out)
+        unfolding joiningOf joinOutput checkJoin firstOf
         join-written e = rw (c, le-ltb (length out) (length (joinBytes k a b)) join-room) (ap joining.Joined (sym size), e)

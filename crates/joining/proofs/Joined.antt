@@ -16,6 +16,7 @@ use Rattle.hml.specs.Compose.{shakes, decided-shakes, paired, starts, last-join
 use Rattle.hml.specs.Joining.{joinStep, extend, join, join-sound, join-steps}
 use Rattle.hml.specs.Labels.{pairs}
 use Rattle.labels.specs.Labels.{partnerFound}
+use Rattle.labels.specs.Refusals.{inFront}
 use Rattle.labels.specs.declared.label.Label.{Label}
 use Rattle.labels.specs.declared.label.Partner.the-variants as partner
 use Rattle.halves.specs.Runs.{written, stepOf}
@@ -30,7 +31,7 @@ use Rattle.machines.proofs.JointRuns.{stateBytes}
 use Rattle.machines.proofs.Buffers.{put, length-put}
 use Rattle.labels.proofs.Labels.{found-some, found-none}
 use Rattle.joining.specs.Joinings.{joinOf, halvesMatch, runBytes, joinBytes}
-use Rattle.joining.specs.Matching.{HalfBytes, jointLabel, labelFound, putJointStep, wholeRun}
+use Rattle.joining.specs.Working.{HalfBytes, jointLabel, labelFound, putJointStep}
 use Rattle.joining.specs.declared.join.JointLabel.the-variants as joint
 
 -- the label of the joint step of two labels, each case from what the code knows at its return
@@ -352,8 +353,8 @@ module _ (k : ℕ) (a b : List ℕ) (x : HalfBytes a) (y : HalfBytes b) (m : hal
           }
 
       -- all steps are written, and what stood behind them is kept
-      pub write-end : length a / 2 ≤ i → out ≡ wholeRun k a b first
-      unfolding wholeRun joinBytes
+      pub write-end : length a / 2 ≤ i → out ≡ inFront (joinBytes k a b) first
+      unfolding inFront joinBytes
       write-end h =
           let e : i ≡ length a / 2 = omega (arith, w .within) in
           let n = 3 * (length a / 2) + 2 in

@@ -1,2 +1,2 @@
 pub mod Joinings
-pub mod Matching
+pub mod Working

@@ -12,8 +12,9 @@ ghost use mathlib.Core.Bool.{true};
 ghost use Prim.Native.Nat.{_+_, _*_, _≤_, _<_};
 ghost use lib.ListN.{length, getD};
 ghost use Rattle.labels.specs.Labels.{pairing};
+ghost use Rattle.labels.specs.Refusals.{inFront};
 ghost use Rattle.joining.specs.Joinings.{halvesMatch, joinBytes, checkHalves, joiningOf, joinOutput};
-ghost use Rattle.joining.specs.Matching.{HalfBytes, checkRuns, jointLabel, labelFound, putJointStep, wholeRun};
+ghost use Rattle.joining.specs.Working.{HalfBytes, checkRuns, jointLabel, labelFound, putJointStep};
 
 // The length of the joint run, in bytes.
 pub enum Joining {
@@ -150,7 +151,7 @@ fn write_run(labels: Labels, left: &[u8], right: &[u8], out: &mut [u8])
     requires { ⌜ HalfBytes (now left) × HalfBytes (now right) ⌝ }
     requires { ⌜ halvesMatch (labels .pairs) (now left) (now right) ≡ true ⌝ }
     requires { ⌜ length (joinBytes (labels .pairs) (now left) (now right)) ≤ length (now out) ⌝ }
-    ensures { λ r. ⌜ now (out .exit) ≡ wholeRun (labels .pairs) (now (left .entry)) (now (right .entry)) (now (out .entry)) ⌝ }
+    ensures { λ r. ⌜ now (out .exit) ≡ inFront (joinBytes (labels .pairs) (now (left .entry)) (now (right .entry))) (now (out .entry)) ⌝ }
 {
     out[0] = left[0];
     out[1] = right[0];

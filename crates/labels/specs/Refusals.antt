@@ -44,7 +44,11 @@ unfoldable pub firstOf : List Check → Check
 firstOf [] = Sound
 firstOf (c ∷ cs) = thenOf c (firstOf cs)
 
+-- bytes in the place of the first ones of a list
+unfoldable pub inFront : List ℕ → List ℕ → List ℕ
+inFront b xs = b ++ drop (length b) xs
+
 -- a lent output afterwards: "After an answer, lent bytes past it keep theirs"; after a refusal every byte keeps its value
 abbrev pub outputOf : Check → List ℕ → List ℕ → List ℕ
-outputOf Sound bytes out = bytes ++ drop (length bytes) out
+outputOf Sound bytes out = inFront bytes out
 outputOf (Refused r) bytes out = out

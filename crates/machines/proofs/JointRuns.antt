@@ -14,14 +14,14 @@ use Rattle.hml.specs.System.{System, Run, start, _▸_, first, last, steps, sto
 use Rattle.hml.specs.Compose.{beside, left, right, both}
 use Rattle.hml.specs.Real.{Real, real-rows}
 use Rattle.hml.specs.Labels.{pairs}
-use Rattle.tables.specs.Tables.{statesOf, threes, tableOf}
+use Rattle.tables.specs.Tables.{statesOf, threes, tableOf, SoundTable}
 use Rattle.halves.specs.Runs.{written, stepOf, lengthened, goOn}
 use Rattle.machines.specs.Joints.{jointBytes, jointSteps, jointOf, JointRun, isLeftAlone, isRightAlone, shakesTo, isJointIdle, isHandshake, isReal, isRealStep, fitJoint, isJointRun, checkJoint, checkTablesAndJoint}
 use Rattle.halves.proofs.Runs.{NoIdleLabel, Fit, lengthened-more, first-lengthened, length-written, stop-start, stop-lengthened, goOn-take, run-keeps, run-goOn, stepBytes, dropped-at, read-accepted}
 use Rattle.labels.specs.Refusals.{firstOf, refusedIf}
 use Rattle.labels.specs.declared.refusal.Refusal.the-variants.{WrongLength, NotReal}
 use Rattle.labels.proofs.Refusals.{Judges, judged-iff, judged-unless, judged-next, judged-then, then-sound}
-use Rattle.tables.proofs.SoundTables.{SoundTable, judged-table, no-idle-label}
+use Rattle.tables.proofs.SoundTables.{judged-table, no-idle-label}
 use Rattle.tables.proofs.Chunks.{Chunks, chunks-map, threes-chunks, chunks-take, chunks-read, chunks-append}
 use Rattle.tables.proofs.Rows.{hasMove-decides}
 

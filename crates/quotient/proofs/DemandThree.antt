@@ -22,12 +22,12 @@ use Rattle.halves.specs.Cuts.{knownOf, knownPart, otherPart, cutOf}
 use Rattle.halves.specs.declared.side.Side.{Side}
 use Rattle.halves.proofs.Cuts.{cut-stopped}
 use Rattle.machines.specs.Joints.{jointOf}
-use Rattle.formulas.specs.Formulas.{questionLimit, checkFormula}
+use Rattle.formulas.specs.Formulas.{questionLimit, quotientLimit, checkFormula}
 use Rattle.verdict.specs.Verdicts.{verdictOf, jointVerdict, halfVerdict}
 use Rattle.joining.specs.Joinings.{joinBytes, checkHalves}
 use Rattle.splitting.specs.Splittings.{splittingsOf, splittingLimit, checkLog, leftHalf, rightHalf}
 use Rattle.splitting.proofs.AllSplittings.{splitting-joins}
-use Rattle.dividing.specs.Quotients.{quotientLimit, answerOf, outputAfter}
+use Rattle.dividing.specs.Quotients.{answerOf, outputAfter}
 use Rattle.dividing.specs.declared.divide.Quotient.{Quotient}
 use Rattle.dividing.specs.declared.divide.Quotient.the-variants.{Written, Refused}
 use Rattle.dividing.proofs.Answers.{refused-kept, too-short, enough-room, text-written, rest-kept, exactly-too-large}

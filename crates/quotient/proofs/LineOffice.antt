@@ -35,7 +35,7 @@ use Rattle.splitting.proofs.LogRuns.{sound-halves, halves-join, joined-read}
 use Rattle.splitting.proofs.AllSplittings.{joined-log}
 use Rattle.dividing.specs.Quotients.{nodesOf, textOf, checkSize, checkTree, written, answerOf}
 use Rattle.dividing.specs.declared.divide.Quotient.the-variants as answer
-use Rattle.quotient.specs.Calls.{treeByHalf, checkByHalf, byHalf, byHalfOutput, lineHolds, machineHolds, checkLine, verdictsOf, lineOf, Same}
+use Rattle.quotient.specs.Calls.{treeByHalf, checkByHalf, byHalf, byHalfOutput, lineHolds, machineHolds, checkLine, verdictsOf, officeOf, Same}
 use Rattle.quotient.specs.Working.{bothOf}
 use Rattle.quotient.specs.declared.line.LineOffice.{LineOffice}
 use Rattle.quotient.specs.declared.line.LineOffice.the-variants as line
@@ -134,8 +134,8 @@ module _ (k : ℕ) (l r a b f : List ℕ) (side : Side) (point : ℕ) where
           rw size-told (demand .given h out (omega (arith, h, room)) .agree) ∙ line-verdict ∙ ap verdictOf verdicts-same
 
   -- whatever is refused, the two answers of the line office are the same where both are given
-  pub answers-same : Same (lineOf k l r a b f side point)
-  unfolding lineOf Same
+  pub answers-same : Same (officeOf k l r a b f side point)
+  unfolding officeOf Same
   answers-same = go (checkLine k l r a b f side point) refl
     where
       go : (c : Check) → checkLine k l r a b f side point ≡ c → Same (verdictsOf c (lineHolds k l r a b f point) (machineHolds k l r a b f side point))
@@ -154,15 +154,15 @@ module _ (k : ℕ) (l r a b f : List ℕ) (side : Side) (point : ℕ) where
     line-room = omega (arith, written-told (checkTree (checkByHalf k l r a b f side point) tree room) _ n told .1, small line-sound, enough)
 
   -- the answers
-  pub line-refused : (room : ℕ) (x : Refusal) → byHalf k l r a b f side point room ≡ answer.Refused x → 8192 ≤ room → (line.Refused x ≡ lineOf k l r a b f side point) × Same (line.Refused x)
-  unfolding byHalf answerOf lineOf checkLine Same
+  pub line-refused : (room : ℕ) (x : Refusal) → byHalf k l r a b f side point room ≡ answer.Refused x → 8192 ≤ room → (line.Refused x ≡ officeOf k l r a b f side point) × Same (line.Refused x)
+  unfolding byHalf answerOf officeOf checkLine Same
   line-refused room x told enough = let c = sym (no-short (checkByHalf k l r a b f side point) tree room enough) ∙ written-refused _ _ x told in (rw c, tt)
 
   pub line-answered : (out text : List ℕ) (n : ℕ) → byHalf k l r a b f side point (length out) ≡ answer.Written n → text ≡ byHalfOutput k l r a b f side point out
       → (t h : List ℕ) → t ≡ otherPart l r (knownOf side) → h ≡ otherPart a b (knownOf side) → (m : Verdict) → m ≡ halfVerdict k t h (take n text) point
-      → (q : LineOffice) → q ≡ bothOf m → 8192 ≤ length out → (q ≡ lineOf k l r a b f side point) × Same q
-  unfolding lineOf
+      → (q : LineOffice) → q ≡ bothOf m → 8192 ≤ length out → (q ≡ officeOf k l r a b f side point) × Same q
+  unfolding officeOf
   line-answered out text n told e t h u v m y q z enough = (given, rw given answers-same)
     where
-      given : q ≡ lineOf k l r a b f side point
+      given : q ≡ officeOf k l r a b f side point
       given = let sound = line-sound (length out) n told enough in z ∙ rw (y, u, v, e, machine-verdict sound n out enough told, both-given, sound, verdicts-same sound)

@@ -10,7 +10,7 @@ use lib.Dec.{ltb, leb}
 use borrow.Author.Tests.{le-ltb, ltb-false, leb-false}
 use Rattle.hml.specs.Tests.{apart}
 use Rattle.hml.specs.System.{steps}
-use Rattle.labels.specs.Refusals.{thenOf, firstOf, refusedIf}
+use Rattle.labels.specs.Refusals.{thenOf, firstOf, refusedIf, inFront}
 use Rattle.labels.specs.Labels.{checkPairs}
 use Rattle.labels.specs.declared.refusal.Refusal.{Refusal}
 use Rattle.labels.specs.declared.refusal.Refusal.the-variants.{PointBeyond, TooManySplittings, NoSuchSplitting, OutputTooShort}
@@ -30,6 +30,7 @@ use Rattle.joining.specs.Joinings.{checkHalves}
 use Rattle.splitting.specs.Splittings.{splittingsOf, checkLog, splittingLimit, checkCount, checkNumber, checkSplit, leftHalf, rightHalf, halfLength, halved, splitOf, leftOutput, rightOutput}
 use Rattle.splitting.specs.declared.split.Splitting.the-variants as splitting
 use Rattle.splitting.proofs.LogRuns.{sound-log, nth-length}
+use Rattle.splitting.proofs.Outcomes.{halves-answered}
 use Rattle.splitting.proofs.AllSplittings.{splitting-joins}
 use Rattle.dividing.specs.Quotients.{quotientBy, answerOf, outputAfter, checkDivision}
 use Rattle.dividing.proofs.Answers.{part-refused}
@@ -132,10 +133,6 @@ halved-refused : (c : Check) (m : ℕ) (x : Refusal) → halved c m ≡ splittin
 halved-refused Sound m x e = absurd (apart cc)
 halved-refused (Refused y) m x e = let z : y ≡ x = cc in ap Refused z
 
-halved-told : (c : Check) (m n : ℕ) → halved c m ≡ splitting.Halves n → (c ≡ Sound) × (m ≡ n)
-halved-told Sound m n e = (refl, cc)
-halved-told (Refused y) m n e = absurd (apart cc)
-
 -- the quotient by the splitting of a number
 module _ (k : ℕ) (l r s f : List ℕ) (n point : ℕ) where
   -- where the log is sound it has as many steps as threes of bytes
@@ -211,7 +208,7 @@ module _ (k : ℕ) (l r s f : List ℕ) (n point : ℕ) where
     module _ (x y m : ℕ) (told : splitOf k l r s n x y ≡ splitting.Halves m) (room : (401 ≤ x) × (401 ≤ y)) where
       split-sound : checkSplit k l r s n x y ≡ Sound
       unfolding splitOf
-      split-sound = halved-told _ _ m told .0
+      split-sound = halves-answered _ _ m told .0
 
       by-number-passed : checkByNumber k l r s f n point ≡ Sound
       by-number-passed = sym (split-decides x y room) ∙ split-sound
@@ -221,7 +218,7 @@ module _ (k : ℕ) (l r s f : List ℕ) (n point : ℕ) where
 
       half-size : halfLength s ≡ m
       unfolding splitOf
-      half-size = halved-told (checkSplit k l r s n x y) _ m told .1
+      half-size = halves-answered (checkSplit k l r s n x y) _ m told .1
 
       -- they have room in the outputs
       pub halves-room : (m ≤ x) × (m ≤ y)
@@ -249,7 +246,7 @@ module _ (k : ℕ) (l r s f : List ℕ) (n point : ℕ) where
     module _ (x y u v : List ℕ) (m : ℕ) (told : splitOf k l r s n (length x) (length y) ≡ splitting.Halves m)
         (left : u ≡ leftOutput k l r s n x (length y)) (right : v ≡ rightOutput k l r s n (length x) y) (room : (401 ≤ length x) × (401 ≤ length y)) where
       fronts : (take m u ≡ leftHalf k l r s n) × (take m v ≡ rightHalf k l r s n)
-      unfolding leftOutput rightOutput
+      unfolding leftOutput rightOutput inFront
       fronts =
           let sound = split-sound (length x) (length y) m told room in
           let size = half-size (length x) (length y) m told room in

@@ -19,9 +19,8 @@ use Rattle.halves.specs.Halves.{halfOf}
 use Rattle.halves.specs.Cuts.{knownPart, otherPart}
 use Rattle.halves.specs.declared.side.Known.{Known}
 use Rattle.halves.specs.declared.side.Known.the-variants as known
-use Rattle.formulas.specs.Formulas.{questionLimit, Legal, checkFormula}
+use Rattle.formulas.specs.Formulas.{questionLimit, quotientLimit, Legal, checkFormula}
 use Rattle.formulas.proofs.Checking.{judged-formula, formula-spell, one-formula}
-use Rattle.verdict.specs.Verdicts.{nodeLimit}
 use Rattle.dividing.specs.Quotients.{quotientBy, treeBy}
 
 -- the tree of the quotient of bytes that spell a formula
@@ -34,23 +33,23 @@ pub question-read : (k : ℕ) (f : List ℕ) → checkFormula k questionLimit f 
 unfolding Legal
 question-read k f e = let (φ, spelled, _, _, _) = judges (judged-formula k questionLimit f) .0 e in (φ, spelled)
 
-pub question-fits : (k : ℕ) (f : List ℕ) → checkFormula k questionLimit f ≡ Sound → checkFormula k nodeLimit f ≡ Sound
-unfolding Legal nodeLimit
-question-fits k f e = let (φ, spelled, s, l, n) = judges (judged-formula k questionLimit f) .0 e in judges (judged-formula k 4096 f) .1 (φ, spelled, omega (arith, s), l, n)
+pub question-fits : (k : ℕ) (f : List ℕ) → checkFormula k questionLimit f ≡ Sound → checkFormula k quotientLimit f ≡ Sound
+unfolding Legal
+question-fits k f e = let (φ, spelled, s, l, n) = judges (judged-formula k questionLimit f) .0 e in judges (judged-formula k quotientLimit f) .1 (φ, spelled, omega (arith, s), l, n)
 
 -- its quotient, if it has at most 4,096 nodes, is one too: the labels are those of the k pairs, and forward modalities nest no deeper
 pub quotient-fits : (k : ℕ) (t : List ℕ) (x : Run ℕ) (f : List ℕ) (φ : Formula) → f ≡ spell φ [] → checkFormula k questionLimit f ≡ Sound
-    → size (quotient (pairs k) (tableOf t) φ x) ≤ 4096 → checkFormula k nodeLimit (spell (quotient (pairs k) (tableOf t) φ x) []) ≡ Sound
-unfolding Legal nodeLimit pairs
+    → size (quotient (pairs k) (tableOf t) φ x) ≤ quotientLimit → checkFormula k quotientLimit (spell (quotient (pairs k) (tableOf t) φ x) []) ≡ Sound
+unfolding Legal pairs
 quotient-fits k t x f φ spelled e s = go (judges (judged-formula k questionLimit f) .0 e)
   where
     ranged : (b c : ℕ) → pairs k .partner b ≡ some c → c ≤ count k
     ranged b c h = partner-ranged k b c h .3
 
-    go : Legal k questionLimit f → checkFormula k nodeLimit (spell (quotient (pairs k) (tableOf t) φ x) []) ≡ Sound
+    go : Legal k questionLimit f → checkFormula k quotientLimit (spell (quotient (pairs k) (tableOf t) φ x) []) ≡ Sound
     go (χ, other, _, l, n) =
         let same : χ ≡ φ = one-formula χ φ (sym other ∙ spelled) in
-        judges (judged-formula k 4096 (spell (quotient (pairs k) (tableOf t) φ x) [])) .1
+        judges (judged-formula k quotientLimit (spell (quotient (pairs k) (tableOf t) φ x) [])) .1
         (quotient (pairs k) (tableOf t) φ x, refl, s, quotient-labelled (count k) (pairs k) ranged (tableOf t) φ x (rw same at l), omega (arith, quotient-nested (pairs k) (tableOf t) φ x, rw same at n))
 
 -- a formula holds on a joint run stopped at a point exactly if its quotient by the known half, stopped there, holds on the other half, stopped there

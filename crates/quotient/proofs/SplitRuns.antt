@@ -22,8 +22,8 @@ use Rattle.halves.specs.declared.side.Known.{Known}
 use Rattle.halves.specs.declared.side.Known.the-variants as known
 use Rattle.halves.proofs.Cuts.{cut-points}
 use Rattle.machines.specs.Joints.{jointOf, checkJoint}
-use Rattle.formulas.specs.Formulas.{questionLimit, checkFormula}
-use Rattle.verdict.specs.Verdicts.{nodeLimit, checkJointCall, checkHalfCall}
+use Rattle.formulas.specs.Formulas.{questionLimit, quotientLimit, checkFormula}
+use Rattle.verdict.specs.Verdicts.{checkJointCall, checkHalfCall}
 use Rattle.joining.specs.Joinings.{halvesMatch, joinBytes, checkHalves}
 use Rattle.splitting.specs.Splittings.{splittingsOf, splittingLimit, checkLog}
 use Rattle.splitting.proofs.LogRuns.{SoundMachines, sound-log, sound-halves, halves-join, joined-read}
@@ -83,7 +83,7 @@ known-within k l r s a b point split known.Right = split .rightWithin
 
 module _ (k : ℕ) (l r s : List ℕ) (log : LogParts k l r s) (point : ℕ) (within : point ≤ steps (jointOf s)) (f : List ℕ) where
   -- the verdict on the log refuses nothing
-  pub joint-call-sound : checkFormula k nodeLimit f ≡ Sound → checkJointCall k l r s f point ≡ Sound
+  pub joint-call-sound : checkFormula k quotientLimit f ≡ Sound → checkJointCall k l r s f point ≡ Sound
   unfolding checkJointCall firstOf
   joint-call-sound e = rw (log .machines .pairs, log .machines .left, log .machines .right, log .run, e, le-ltb (steps (jointOf s)) point within)
 
@@ -99,7 +99,7 @@ module _ (k : ℕ) (l r s : List ℕ) (log : LogParts k l r s) (point : ℕ) (wi
     by-half-sound e side = rw (log .machines .pairs, log .machines .left, log .machines .right, e, known-within k l r s a b point split (knownOf side), split .left, split .right, split .match)
 
     -- nor the verdict on the other half
-    pub half-call-sound : checkFormula k nodeLimit f ≡ Sound → (known : Known) → checkHalfCall k (otherPart l r known) (otherPart a b known) f point ≡ Sound
+    pub half-call-sound : checkFormula k quotientLimit f ≡ Sound → (known : Known) → checkHalfCall k (otherPart l r known) (otherPart a b known) f point ≡ Sound
     unfolding checkHalfCall firstOf
     half-call-sound e known.Left = rw (log .machines .pairs, log .machines .right, e, split .rightWithin, split .right)
     half-call-sound e known.Right = rw (log .machines .pairs, log .machines .left, e, split .leftWithin, split .left)

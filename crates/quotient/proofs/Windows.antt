@@ -14,7 +14,7 @@ use Rattle.hml.specs.Formula.{Formula}
 use Rattle.hml.specs.Compose.{paired}
 use Rattle.hml.specs.Joining.{join-steps}
 use Rattle.hml.specs.Window.{backs, Alike, quotient-alike}
-use Rattle.hml.specs.Windows.{behind, window-cut, window-steps, run-undo, fewer-undone, fewer-behind, nth-window}
+use Rattle.hml.specs.NewestSteps.{behind, window-cut, window-steps, run-undo, fewer-undone, fewer-behind, nth-window}
 use Rattle.hml.specs.Labels.{pairs}
 use Rattle.labels.specs.Refusals.{firstOf}
 use Rattle.labels.specs.declared.refusal.Check.the-variants.{Sound}

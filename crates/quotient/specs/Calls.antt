@@ -93,8 +93,8 @@ abbrev pub verdictsOf : Check → Bool → Bool → LineOffice
 verdictsOf check.Sound j h = line.Verdicts j h
 verdictsOf (check.Refused x) j h = line.Refused x
 
-unfoldable pub lineOf : ℕ → List ℕ → List ℕ → List ℕ → List ℕ → List ℕ → Side → ℕ → LineOffice
-lineOf k l r a b f side point = verdictsOf (checkLine k l r a b f side point) (lineHolds k l r a b f point) (machineHolds k l r a b f side point)
+unfoldable pub officeOf : ℕ → List ℕ → List ℕ → List ℕ → List ℕ → List ℕ → Side → ℕ → LineOffice
+officeOf k l r a b f side point = verdictsOf (checkLine k l r a b f side point) (lineHolds k l r a b f point) (machineHolds k l r a b f side point)
 
 -- where both are given they are the same
 unfoldable pub Same : LineOffice → Type 0

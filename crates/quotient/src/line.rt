@@ -7,7 +7,7 @@ use labels::refusal::Refusal;
 use verdict::answer::Verdict;
 use verdict::half::half;
 ghost use mathlib.Core.Path.{_≡_};
-ghost use Rattle.quotient.specs.Calls.{lineOf, Same};
+ghost use Rattle.quotient.specs.Calls.{officeOf, Same};
 ghost use Rattle.quotient.specs.Working.{bothOf};
 
 // The verdict on the joint run, and that on the other half under the quotient by the known one.
@@ -28,7 +28,7 @@ pub fn line_office<'a>(
     side: Side,
     point: usize,
 ) -> LineOffice
-    ensures { λ r. ⌜ r ≡ lineOf k (now (left .entry)) (now (right .entry)) (now («left_half» .entry)) (now («right_half» .entry)) (now (question .entry)) side point ⌝ }
+    ensures { λ r. ⌜ r ≡ officeOf k (now (left .entry)) (now (right .entry)) (now («left_half» .entry)) (now («right_half» .entry)) (now (question .entry)) side point ⌝ }
     ensures same { λ r. ⌜ Same r ⌝ }
 {
     let mut text = [0u8; 8192];

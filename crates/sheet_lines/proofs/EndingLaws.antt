@@ -10,7 +10,7 @@ use lib.Seq.{take-at}
 use borrow.Author.Tests.{ltb-false}
 use Rattle.hml.specs.Tests.{apart}
 use Rattle.hml.specs.Formula.{Formula}
-use Rattle.labels.specs.Refusals.{numberOf, firstOf, refusedIf, outputOf}
+use Rattle.labels.specs.Refusals.{numberOf, firstOf, refusedIf, inFront, outputOf}
 use Rattle.labels.specs.declared.refusal.Refusal.{Refusal}
 use Rattle.labels.specs.declared.refusal.Refusal.the-variants.{OutputTooShort}
 use Rattle.labels.specs.declared.refusal.Check.{Check}
@@ -46,7 +46,7 @@ module _ (parts : Check) (tree : Option Formula) (out : List ℕ) where
       ltb-false (length out) (2 * nodesOf tree) (unrefused _ _ c)
 
   written-bytes : (n : ℕ) → answerOf parts tree (length out) ≡ quotient.Written n → (take n (outputAfter parts tree out) ≡ textOf tree) × (n ≡ length (textOf tree)) × (n ≤ length out)
-  unfolding answerOf outputAfter
+  unfolding answerOf outputAfter inFront
   written-bytes n e = go (checkTree parts tree (length out)) refl e
     where
       go : (c : Check) → checkTree parts tree (length out) ≡ c → written c (2 * nodesOf tree) ≡ quotient.Written n
@@ -80,6 +80,7 @@ module _ (k : ℕ) (l r w f : List ℕ) (letter t : ℕ) where
 
 -- an ending that was written to the front of a buffer
 pub ending-front : (xs ys e d : List ℕ) (n : ℕ) → length xs ≡ 16387 → e ≡ d → n ≡ length d → n ≤ 16387 → ys ≡ putAt xs 0 d → (n ≡ length e) × (take n ys ≡ e) × (n ≤ 16387)
+unfolding inFront
 ending-front xs ys e d n s q m h f =
     (m ∙ ap length (sym q), ap (take n) (f ∙ put-first xs d (omega (arith, m, h, s))) ∙ take-at d (drop (length d) xs) n (sym m) ∙ sym q, h)
 

@@ -12,7 +12,7 @@ use Rattle.hml.specs.System.{Run, start, _▸_, move, idle, first, last, steps,
 use Rattle.hml.specs.Compose.{paired}
 use Rattle.hml.specs.Joining.{join-steps}
 use Rattle.hml.specs.Window.{Alike, alike-last, ends, begins, steps as alike-steps}
-use Rattle.hml.specs.Windows.{behind, steps-from, count-parts, fewer-undone, fewer-behind, nth-undone, nth-alike}
+use Rattle.hml.specs.NewestSteps.{behind, steps-from, count-parts, fewer-undone, fewer-behind, nth-undone, nth-alike}
 use Rattle.hml.specs.Labels.{pairs}
 use Rattle.labels.specs.Refusals.{firstOf}
 use Rattle.labels.specs.declared.refusal.Check.the-variants.{Sound}

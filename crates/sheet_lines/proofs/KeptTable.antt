@@ -12,7 +12,7 @@ use lib.Seq.{sets-eq, take-at, drop-at, take-length, take-take, length-take-le}
 use borrow.Rule.Slice.PartMut.{putMid}
 use borrow.Author.Tests.{le-ltb, lt-leb, ltb-true, ltb-false}
 use Rattle.hml.specs.System.{steps}
-use Rattle.labels.specs.Refusals.{firstOf, refusedIf, outputOf}
+use Rattle.labels.specs.Refusals.{firstOf, refusedIf, inFront, outputOf}
 use Rattle.labels.specs.declared.refusal.Refusal.the-variants.{TooManySplittings}
 use Rattle.labels.specs.declared.refusal.Check.{Check}
 use Rattle.labels.specs.declared.refusal.Check.the-variants as check
@@ -79,7 +79,7 @@ module _ (k : ℕ) (l r s : List ℕ) (sound : checkLog k l r s ≡ Sound) where
   -- the half of one of them, split into the table
   pub half-listed : (i : ℕ) → (i < length (splittingsOf k l r s)) × (length (splittingsOf k l r s) ≤ splittingLimit) → (a place : ℕ) (xs ys : List ℕ) → ys ≡ rightOutput k l r s i a (rest (401 * place) xs)
       → 401 ≤ a → (place < 512) × (length xs ≡ 205312) → putMid (401 * place) (length xs - 401 * place) xs ys ≡ putAt xs (401 * place) (rightHalf k l r s i)
-  unfolding rightOutput
+  unfolding rightOutput inFront
   half-listed i (below, few) a place xs ys e x (b, c) =
       let h = rightHalf k l r s i in
       let y = rest (401 * place) xs in

@@ -11,15 +11,15 @@ use borrow.Author.Tests.{eq-eqb, ne-eqb, lt-ltb, le-ltb, eqb-false, ltb-true, le
 use borrow.Rule.Slice.PartMut.{putMid}
 use Rattle.labels.proofs.Slices.{rest}
 use Rattle.sheet_lines.specs.Sheets.{headOf, listed, fitting, bytesOf}
-use Rattle.sheet_lines.specs.Working.{putAt, endingIn, lineIn, lineWith, lineBy, Standing, Known, Filled, Full, Scratch, fromsAfter, endsAfter}
+use Rattle.sheet_lines.specs.Working.{putAt, endingIn, lineIn, lineWith, lineBy, Standing, EndingsKnown, Filled, Full, Scratch, fromsAfter, endsAfter}
 use Rattle.sheet_lines.specs.declared.point.Point.{Point}
-use Rattle.sheet_lines.proofs.Puts.{length-put, drop-put, rest-copied, rest-back}
+use Rattle.sheet_lines.proofs.Puts.{drop-put, rest-copied, rest-back}
 use Rattle.sheet_lines.proofs.Filling.{length-listed, listed-behind, bytes-behind, filled-point, full-point}
 use Rattle.sheet_lines.proofs.FillLaws.{fitting-few}
 use Rattle.sheet_lines.proofs.Standing.{known-put, known-read, known-new}
 
 -- an ending that stands in the output
-module _ (e : ℕ → List ℕ) (ways : ℕ) (froms ends out : List ℕ) (at t : ℕ) (known : Known e ways froms ends out at) (below : t < ways) (stands : getD ends t 0 ≡ 0 → ⊥) where
+module _ (e : ℕ → List ℕ) (ways : ℕ) (froms ends out : List ℕ) (at t : ℕ) (known : EndingsKnown e ways froms ends out at) (below : t < ways) (stands : getD ends t 0 ≡ 0 → ⊥) where
   pub standing-within : (getD froms t 0 ≤ getD ends t 0) × (getD ends t 0 ≤ at) × (getD ends t 0 - getD froms t 0 ≡ length (e t))
   unfolding Standing
   standing-within = let (_, y, z) = known-read e ways froms ends out at known t below stands in omega (arith, y, z)
@@ -80,7 +80,7 @@ last-ends p b n m =
 
 -- the lines of a turn that were written
 module _ (k : ℕ) (l r w f : List ℕ) (p : Point) (ways : ℕ) (froms ends ys zs : List ℕ) (to t n u to′ n′ : ℕ) (b : List ℕ) (same : b ≡ endingIn k l r w f (p .letter) t)
-    (known : Known (endingIn k l r w f (p .letter)) ways froms ends ys to) (room : to ≤ length ys) (begun : n ≤ u)
+    (known : EndingsKnown (endingIn k l r w f (p .letter)) ways froms ends ys to) (room : to ≤ length ys) (begun : n ≤ u)
     (full : Full (fitting (length ys - to) (listed (lineWith p b) n (u - n))) ys to n zs to′ n′) where
   abbrev e : ℕ → List ℕ
   e = endingIn k l r w f (p .letter)
@@ -103,36 +103,33 @@ module _ (k : ℕ) (l r w f : List ℕ) (p : Point) (ways : ℕ) (froms ends ys 
   within : to + length (bytesOf block) ≤ length ys
   within = omega (arith, fitting-room (length ys - to) (listed (lineWith p b) n (u - n)), room)
 
-  pub turn-room : to′ ≤ length zs
-  turn-room = omega (arith, within, full .place, ap length (full .written), length-put ys to (bytesOf block))
-
   pub ending-within : (len : ℕ) → len ≡ length (e t) → (to′ ≡ to → ⊥) → len ≤ to′
   ending-within len z moved = let (a, q) = lines-end moved in omega (arith, z, full .place, ap length q, length-append a (e t))
 
   -- what is known of endings afterwards
-  kept-known : Known e ways froms ends zs to′
+  kept-known : EndingsKnown e ways froms ends zs to′
   kept-known = rw (full .written, full .place) (known-put e ways froms ends ys to known (bytesOf block))
 
-  turn-after : (len : ℕ) → len ≡ length (e t) → length froms ≡ 8192 → length ends ≡ 8192 → Known e ways (fromsAfter froms t len to to′) (endsAfter ends t to to′) zs to′
+  turn-after : (len : ℕ) → len ≡ length (e t) → length froms ≡ 8192 → length ends ≡ 8192 → EndingsKnown e ways (fromsAfter froms t len to to′) (endsAfter ends t to to′) zs to′
   unfolding fromsAfter endsAfter
   turn-after len z s v = go (eqb to′ to) refl
     where
-      entry : (a : List ℕ) → bytesOf block ≡ a ++ e t → t < 8192 → Known e ways (set froms t (to′ - len)) (set ends t to′) zs to′
+      entry : (a : List ℕ) → bytesOf block ≡ a ++ e t → t < 8192 → EndingsKnown e ways (set froms t (to′ - len)) (set ends t to′) zs to′
       entry a q h =
           let c : to′ ≡ to + length (a ++ e t) = full .place ∙ ap (λ x. to + length x) q in
           let d : to′ - len ≡ to + length a = omega (arith, c, z, length-append a (e t)) in
           let o : zs ≡ putAt ys to (a ++ e t) = full .written ∙ ap (putAt ys to) q in
           rw (d, c, o) (known-new e ways froms ends ys to known t a (omega (arith, h, s)) (omega (arith, h, v)) (omega (arith, within, ap length q)))
 
-      test : (to′ ≡ to → ⊥) → (x : Bool) → ltb t 8192 ≡ x → Known e ways (cond x (set froms t (to′ - len)) froms) (cond x (set ends t to′) ends) zs to′
+      test : (to′ ≡ to → ⊥) → (x : Bool) → ltb t 8192 ≡ x → EndingsKnown e ways (cond x (set froms t (to′ - len)) froms) (cond x (set ends t to′) ends) zs to′
       test moved true q = entry (lines-end moved .0) (lines-end moved .1) (ltb-true t 8192 q)
       test moved false q = kept-known
 
-      go : (x : Bool) → eqb to′ to ≡ x → Known e ways (cond x froms (cond (ltb t 8192) (set froms t (to′ - len)) froms)) (cond x ends (cond (ltb t 8192) (set ends t to′) ends)) zs to′
+      go : (x : Bool) → eqb to′ to ≡ x → EndingsKnown e ways (cond x froms (cond (ltb t 8192) (set froms t (to′ - len)) froms)) (cond x ends (cond (ltb t 8192) (set ends t to′) ends)) zs to′
       go true q = kept-known
       go false q = test (eqb-false to′ to q) (ltb t 8192) refl
 
-  pub turn-known : (len : ℕ) → len ≡ length (e t) → length froms ≡ 8192 → length ends ≡ 8192 → (fs es : List ℕ) → fs ≡ fromsAfter froms t len to to′ → es ≡ endsAfter ends t to to′ → Known e ways fs es zs to′
+  pub turn-known : (len : ℕ) → len ≡ length (e t) → length froms ≡ 8192 → length ends ≡ 8192 → (fs es : List ℕ) → fs ≡ fromsAfter froms t len to to′ → es ≡ endsAfter ends t to to′ → EndingsKnown e ways fs es zs to′
   turn-known len z s v fs es x y = rw (x, y) (turn-after len z s v)
 
   -- they are lines of the point

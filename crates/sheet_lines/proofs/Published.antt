@@ -24,7 +24,7 @@ use Rattle.casebook.specs.Records.{fitTableLength, fitRunLength, fitQuestionLen
 use Rattle.casebook.specs.Reading.{readQuestion, readRun, readRight, readLeft, readOf}
 use Rattle.casebook.specs.declared.read.Reading.{Reading}
 use Rattle.casebook.specs.declared.read.Reading.the-variants as reading
-use Rattle.verdict.specs.Verdicts.{nodeLimit, jointHolds, halfHolds, checkJointCall, checkHalfCall, verdictOf, answered, jointVerdict, halfVerdict}
+use Rattle.verdict.specs.Verdicts.{jointHolds, halfHolds, checkJointCall, checkHalfCall, verdictOf, answered, jointVerdict, halfVerdict}
 use Rattle.splitting.specs.Splittings.{splittingsOf, checkLog, splittingLimit, checkCount, leftHalf, rightHalf, countOf}
 use Rattle.splitting.specs.declared.count.Counted.{Counted}
 use Rattle.splitting.specs.declared.count.Counted.the-variants as counted
@@ -137,7 +137,7 @@ computed c =
 pub published : map computed cases ≡ map due cases
 unfolding cases readOf readLeft readRight readRun readQuestion nextAt fitLength fitTableLength fitRunLength fitQuestionLength bodyOf
     countOf checkCount checkLog splittingLimit splittingsOf firstOf checkTable fitTable fitStates checkRows checkRow inRange rowBelow aboveLast leaving count checkJoint fitJoint isJointRun isReal isLeftAlone isRightAlone isHandshake shakesTo isJointIdle hasMove among goOn jointSteps threes rowsOf tableOf machine only pairs partnerAmong partnerOf splits ways shakes jointOf lengthened stepOf
-    jointVerdict checkJointCall jointHolds holds beside formulaOf wholeOf parse trees checkFormula isFormula nestsFit labelled nesting nodeLimit answered verdictOf
+    jointVerdict checkJointCall jointHolds holds beside formulaOf wholeOf parse trees checkFormula isFormula nestsFit labelled nesting answered verdictOf
     byNumber checkByNumber treeByNumber treeByHalf quotientBy treeBy quotient answerOf checkTree checkSize nodesOf textOf size spell leftHalf rightHalf halfBytes written halfOf twos
     halfVerdict checkHalfCall halfHolds checkHalf isHalfRun stepFits beyond
     sheetOf readLines partsLines countedLines linesOf listed lineOf headOf endingOf quotientAt textAt letterOf decimal digitsWithin hexadecimal hexDigit

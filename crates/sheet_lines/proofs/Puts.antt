@@ -6,6 +6,7 @@ use native.Mathlib.Omega.{arith}
 use lib.ListN.{length, getD, set, take, drop, length-set}
 use lib.Seq.{sets, sets-eq, set-set, set-comm, length-sets, take-set-le, length-take-le, take-nil, take-suc, take-length, drop-at, drop-drop, drop-length}
 use borrow.Rule.Slice.PartMut.{putMid, postOf, post-is}
+use Rattle.labels.specs.Refusals.{inFront}
 use Rattle.labels.proofs.Slices.{rest, rest-of}
 use Rattle.sheet_lines.specs.Digits.{decimal, hexDigit, hexadecimal}
 use Rattle.sheet_lines.specs.Working.{putAt}
@@ -40,8 +41,8 @@ put-behind xs at (a ∷ b) d =
     ap (λ n. sets (sets (set xs at a) (suc at) b) n d) z ∙ put-behind (set xs at a) (suc at) b d
 
 -- bytes at the front of an output
-pub put-first : (xs b : List ℕ) → length b ≤ length xs → putAt xs 0 b ≡ b ++ drop (length b) xs
-unfolding putAt
+pub put-first : (xs b : List ℕ) → length b ≤ length xs → putAt xs 0 b ≡ inFront b xs
+unfolding putAt inFront
 put-first xs b h = let z : 0 + length b ≡ length b = omega arith in sets-eq b xs 0 (omega (arith, h)) ∙ rw z
 
 -- what stands in front keeps its value

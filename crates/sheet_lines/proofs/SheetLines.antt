@@ -12,6 +12,7 @@ use borrow.Author.Tests.{lt-ltb, le-ltb, leb-true, leb-false}
 use Rattle.hml.specs.Lists.{each}
 use Rattle.hml.specs.System.{steps}
 use Rattle.machines.specs.Joints.{jointOf}
+use Rattle.labels.specs.Refusals.{inFront}
 use Rattle.labels.specs.declared.refusal.Refusal.the-variants.{OutputTooShort}
 use Rattle.sheet_lines.specs.Sheets.{lineOf, linesOf, listed, bytesOf, fitting, firstTooLong, checkRoom, writtenOr, blockAnswer, blockOutput}
 use Rattle.sheet_lines.specs.Working.{putAt, Full, numberedLine}
@@ -111,7 +112,7 @@ module _ (due : List (List ℕ)) (e : due ≡ []) where
   nothing-answer room = rw e
 
   pub nothing-output : (out : List ℕ) → out ≡ blockOutput due out
-  unfolding blockOutput checkRoom firstTooLong fitting bytesOf
+  unfolding blockOutput checkRoom firstTooLong fitting bytesOf inFront
   nothing-output out = rw e
 
 -- lines are due, and the first does not fit

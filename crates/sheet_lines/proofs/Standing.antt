@@ -9,7 +9,7 @@ use lib.ListN.{length, getD, set, take, drop, length-append}
 use lib.Dec.{eqb}
 use lib.Seq.{sets-eq, drop-at, take-at, length-take-le, getD-set-same, getD-set-other}
 use borrow.Author.Tests.{eqb-true, eqb-false}
-use Rattle.sheet_lines.specs.Working.{putAt, Standing, Known, Forgotten}
+use Rattle.sheet_lines.specs.Working.{putAt, Standing, EndingsKnown, Forgotten}
 use Rattle.sheet_lines.proofs.Puts.{put-part}
 
 -- four pieces
@@ -27,14 +27,14 @@ put-read xs at b d h =
 
 module _ (e : ℕ → List ℕ) (ways : ℕ) (froms ends : List ℕ) where
   -- none stands there
-  pub known-forgotten : (out : List ℕ) (at : ℕ) → Forgotten ends ways → Known e ways froms ends out at
-  unfolding Known Forgotten
+  pub known-forgotten : (out : List ℕ) (at : ℕ) → Forgotten ends ways → EndingsKnown e ways froms ends out at
+  unfolding EndingsKnown Forgotten
   known-forgotten out at f t h = inl (f t h)
 
-  module _ (out : List ℕ) (at : ℕ) (known : Known e ways froms ends out at) where
+  module _ (out : List ℕ) (at : ℕ) (known : EndingsKnown e ways froms ends out at) where
     -- they stand there still when bytes are written behind them
-    pub known-put : (d : List ℕ) → Known e ways froms ends (putAt out at d) (at + length d)
-    unfolding Known Standing
+    pub known-put : (d : List ℕ) → EndingsKnown e ways froms ends (putAt out at d) (at + length d)
+    unfolding EndingsKnown Standing
     known-put d t h = go (known t h)
       where
         go : (getD ends t 0 ≡ 0) ⊎ Standing e out at (getD froms t 0) (getD ends t 0) t → (getD ends t 0 ≡ 0) ⊎ Standing e (putAt out at d) (at + length d) (getD froms t 0) (getD ends t 0) t
@@ -43,7 +43,7 @@ module _ (e : ℕ → List ℕ) (ways : ℕ) (froms ends : List ℕ) where
 
     -- the ending of one of them
     pub known-read : (t : ℕ) → t < ways → (getD ends t 0 ≡ 0 → ⊥) → Standing e out at (getD froms t 0) (getD ends t 0) t
-    unfolding Known
+    unfolding EndingsKnown
     known-read t h n = go (known t h)
       where
         go : (getD ends t 0 ≡ 0) ⊎ Standing e out at (getD froms t 0) (getD ends t 0) t → Standing e out at (getD froms t 0) (getD ends t 0) t
@@ -52,8 +52,8 @@ module _ (e : ℕ → List ℕ) (ways : ℕ) (froms ends : List ℕ) where
 
     -- a new one, behind other bytes
     pub known-new : (t : ℕ) (head : List ℕ) → t < length froms → t < length ends → at + length (head ++ e t) ≤ length out
-        → Known e ways (set froms t (at + length head)) (set ends t (at + length (head ++ e t))) (putAt out at (head ++ e t)) (at + length (head ++ e t))
-    unfolding Known Standing
+        → EndingsKnown e ways (set froms t (at + length head)) (set ends t (at + length (head ++ e t))) (putAt out at (head ++ e t)) (at + length (head ++ e t))
+    unfolding EndingsKnown Standing
     known-new t head l m r u i = go (eqb u t) refl
       where
         go : (b : Bool) → eqb u t ≡ b

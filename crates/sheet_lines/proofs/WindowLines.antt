@@ -16,13 +16,13 @@ use Rattle.hml.specs.Window.{backs}
 use Rattle.labels.specs.declared.refusal.Check.the-variants.{Sound}
 use Rattle.halves.specs.declared.side.Side.the-variants as side
 use Rattle.machines.specs.Joints.{jointOf}
-use Rattle.formulas.specs.Formulas.{formulaOf}
+use Rattle.formulas.specs.Formulas.{formulaOf, quotientLimit}
 use Rattle.formulas.specs.Backs.{backsIn, backsOf}
 use Rattle.formulas.proofs.Checking.{formula-spell}
 use Rattle.verdict.specs.Verdicts.{jointVerdict, halfVerdict}
 use Rattle.splitting.specs.Splittings.{splittingsOf, splittingLimit, leftHalf, rightHalf}
 use Rattle.splitting.proofs.LogRuns.{sound-log}
-use Rattle.dividing.specs.Quotients.{quotientLimit, textOf, answerOf}
+use Rattle.dividing.specs.Quotients.{textOf, answerOf}
 use Rattle.dividing.proofs.Answers.{text-length}
 use Rattle.quotient.specs.Calls.{treeByNumber, byNumber, byNumberOutput}
 use Rattle.quotient.specs.Windows.{windowOf, restOf}

@@ -83,8 +83,8 @@ lineBy k l r w f p n = lineIn k l r w f (p .letter) (p .number) n (n / p .after 
 unfoldable pub Standing : (ℕ → List ℕ) → List ℕ → ℕ → ℕ → ℕ → ℕ → Type 0
 Standing e out at from end t = (take (length (e t)) (drop from out) ≡ e t) × (from + length (e t) ≡ end) × (end ≤ at)
 
-unfoldable pub Known : (ℕ → List ℕ) → ℕ → List ℕ → List ℕ → List ℕ → ℕ → Type 0
-Known e ways froms ends out at = (t : ℕ) → t < ways → (getD ends t 0 ≡ 0) ⊎ Standing e out at (getD froms t 0) (getD ends t 0) t
+unfoldable pub EndingsKnown : (ℕ → List ℕ) → ℕ → List ℕ → List ℕ → List ℕ → ℕ → Type 0
+EndingsKnown e ways froms ends out at = (t : ℕ) → t < ways → (getD ends t 0 ≡ 0) ⊎ Standing e out at (getD froms t 0) (getD ends t 0) t
 
 -- what the writing of lines works with: where endings stand in the output, a quotient's bytes, and a line
 pub record Scratch (froms ends text line : List ℕ) : Type 0 where

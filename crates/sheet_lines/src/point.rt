@@ -16,7 +16,7 @@ ghost use Rattle.machines.specs.Joints.{jointOf};
 ghost use Rattle.splitting.specs.Splittings.{splittingsOf, splittingLimit, countOf};
 ghost use Rattle.formulas.specs.Backs.{backsOf};
 ghost use Rattle.sheet_lines.specs.Sheets.{letterOf, lineOf, listed, fitting};
-ghost use Rattle.sheet_lines.specs.Working.{Asked, Full, countedAs, afterOf, Forgotten, Scratch, endingIn, lineWith, lineBy, Known, Shared, fromsAfter, endsAfter};
+ghost use Rattle.sheet_lines.specs.Working.{Asked, Full, countedAs, afterOf, Forgotten, Scratch, endingIn, lineWith, lineBy, EndingsKnown, Shared, fromsAfter, endsAfter};
 
 // What the lines of a point share: the point's number, the joint verdict's letter, how many splittings there are of its window, the steps before it by
 // which quotients differ, and of what follows it, and how the halves of the window's splittings are kept.
@@ -118,7 +118,7 @@ fn write_numbers<'a>(
     requires { ⌜ (0 < point .after) × (0 < point .ways) × (point .after ≤ 65536) ⌝ }
     requires { ⌜ Shared k (now left) (now right) (now window) (now question) point (now halves) ⌝ }
     requires { ⌜ Scratch (now froms) (now ends) (now text) (now line) ⌝ }
-    requires { ⌜ Known (endingIn k (now left) (now right) (now window) (now question) (point .letter)) (point .ways) (now froms) (now ends) (now out) at ⌝ }
+    requires { ⌜ EndingsKnown (endingIn k (now left) (now right) (now window) (now question) (point .letter)) (point .ways) (now froms) (now ends) (now out) at ⌝ }
     ensures { λ r. ⌜ Full (fitting (length (now (out .entry)) - at) (listed (lineBy k (now (left .entry)) (now (right .entry)) (now (window .entry)) (now (question .entry)) point) number (until - number))) (now (out .entry)) at number (now (out .exit)) (r .at) (r .number) ⌝ }
     ensures { λ r. ⌜ Scratch (now (froms .exit)) (now (ends .exit)) (now (text .exit)) (now (line .exit)) ⌝ }
 {
@@ -176,7 +176,7 @@ fn take_ending<'a>(
     requires { ⌜ (t < point .ways) × (at ≤ length (now out)) ⌝ }
     requires { ⌜ Shared k (now left) (now right) (now window) (now question) point (now halves) ⌝ }
     requires { ⌜ Scratch (now froms) (now ends) (now text) (now line) ⌝ }
-    requires { ⌜ Known (endingIn k (now left) (now right) (now window) (now question) (point .letter)) (point .ways) (now froms) (now ends) (now out) at ⌝ }
+    requires { ⌜ EndingsKnown (endingIn k (now left) (now right) (now window) (now question) (point .letter)) (point .ways) (now froms) (now ends) (now out) at ⌝ }
     ensures { λ r. ⌜ r ≡ length (endingIn k (now (left .entry)) (now (right .entry)) (now (window .entry)) (now (question .entry)) (point .letter) t) ⌝ }
     ensures { λ r. ⌜ take r (drop 14 (now (line .exit))) ≡ endingIn k (now (left .entry)) (now (right .entry)) (now (window .entry)) (now (question .entry)) (point .letter) t ⌝ }
     ensures { λ r. ⌜ r ≤ 16387 ⌝ }

@@ -12,7 +12,7 @@ use Rattle.hml.specs.Compose.{paired}
 use Rattle.hml.specs.Real.{JoinOf}
 use Rattle.hml.specs.Joining.{join-first, join-steps}
 use Rattle.hml.specs.Split.{splits}
-use Rattle.hml.specs.Windows.{splits-some}
+use Rattle.hml.specs.NewestSteps.{splits-some}
 use Rattle.hml.specs.Labels.{pairs}
 use Rattle.labels.specs.declared.refusal.Check.the-variants.{Sound}
 use Rattle.tables.specs.Tables.{tableOf}

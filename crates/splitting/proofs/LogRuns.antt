@@ -20,8 +20,8 @@ use Rattle.labels.specs.Refusals.{firstOf, refusedIf}
 use Rattle.labels.specs.Labels.{checkPairs}
 use Rattle.labels.specs.declared.refusal.Check.the-variants.{Sound}
 use Rattle.labels.proofs.Refusals.{judges, both-sound, passed}
-use Rattle.tables.specs.Tables.{statesOf, tableOf, checkTable}
-use Rattle.tables.proofs.SoundTables.{SoundTable, sound-table, no-idle-label, moves-distinct}
+use Rattle.tables.specs.Tables.{statesOf, tableOf, checkTable, SoundTable}
+use Rattle.tables.proofs.SoundTables.{sound-table, no-idle-label, moves-distinct}
 use Rattle.halves.specs.Runs.{written}
 use Rattle.halves.specs.Halves.{halfBytes, halfOf, HalfRun, isHalfRun, checkHalf}
 use Rattle.halves.proofs.Runs.{length-written, stepBytes}

@@ -3,12 +3,12 @@ use Prim.Native.Nat.{ℕ, _≤_, _<_}
 use mathlib.Core.Path.{_≡_, refl, sym, _∙_, ap}
 use mathlib.Core.List.{List, _++_}
 use native.Mathlib.Omega.{arith}
-use lib.ListN.{length, take, drop}
+use lib.ListN.{length, take}
 use lib.Seq.{take-at}
 use lib.Dec.{leb}
 use borrow.Author.Tests.{lt-leb, le-ltb, leb-false}
 use Rattle.hml.specs.Tests.{apart}
-use Rattle.labels.specs.Refusals.{firstOf, refusedIf}
+use Rattle.labels.specs.Refusals.{firstOf, refusedIf, inFront}
 use Rattle.labels.specs.declared.refusal.Check.{Check}
 use Rattle.labels.specs.declared.refusal.Check.the-variants as check
 use Rattle.labels.specs.declared.refusal.Check.the-variants.{Sound}
@@ -24,16 +24,16 @@ use Rattle.splitting.proofs.LogRuns.{nth-length}
 pub record SplitGives (k : ℕ) (l r s : List ℕ) (n : ℕ) (x y a b : List ℕ) : Type 0 where
   pub answer : splitOf k l r s n (length x) (length y) ≡ splitting.Halves (length a)
   pub equal : length b ≡ length a
-  pub left : leftOutput k l r s n x (length y) ≡ a ++ drop (length a) x
-  pub right : rightOutput k l r s n (length x) y ≡ b ++ drop (length b) y
+  pub left : leftOutput k l r s n x (length y) ≡ inFront a x
+  pub right : rightOutput k l r s n (length x) y ≡ inFront b y
 
 -- what a call of the join answers for the lent output: the length of the log s, with which the output then begins
 pub record JoinGives (k : ℕ) (l r a b out s : List ℕ) : Type 0 where
   pub answer : joiningOf k l r a b (length out) ≡ joining.Joined (length s)
-  pub output : joinOutput k l r a b out ≡ s ++ drop (length s) out
+  pub output : joinOutput k l r a b out ≡ inFront s out
 
 -- an answer shows that no check refused, and its value
-halves-answered : (c : Check) (m n : ℕ) → halved c m ≡ splitting.Halves n → (c ≡ Sound) × (m ≡ n)
+pub halves-answered : (c : Check) (m n : ℕ) → halved c m ≡ splitting.Halves n → (c ≡ Sound) × (m ≡ n)
 halves-answered check.Sound m n e = (refl, cc)
 halves-answered (check.Refused x) m n e = absurd (apart cc)
 
@@ -81,7 +81,7 @@ module _ (k : ℕ) (l r s : List ℕ) (n : ℕ) where
 
   -- and nothing else is given
   pub split-given : (x y a b : List ℕ) → SplitGives k l r s n x y a b → (checkSplit k l r s n (length x) (length y) ≡ Sound) × (leftHalf k l r s n ≡ a) × (rightHalf k l r s n ≡ b)
-  unfolding splitOf leftOutput rightOutput
+  unfolding splitOf leftOutput rightOutput inFront
   split-given x y a b g =
       let (e, m) = halves-answered (checkSplit k l r s n (length x) (length y)) (halfLength s) (length a) (g .answer) in
       let (u, v) = nth-length k l r s n (split-checked (length x) (length y) e .1) in
@@ -99,7 +99,7 @@ module _ (k : ℕ) (l r a b : List ℕ) where
 
   -- and nothing else is given
   pub join-given : (out s : List ℕ) → JoinGives k l r a b out s → (checkHalves k l r a b ≡ Sound) × (joinBytes k a b ≡ s)
-  unfolding joiningOf joinOutput
+  unfolding joiningOf joinOutput inFront
   join-given out s g =
       let (e, m) = join-answered (checkJoin k l r a b (length out)) (length (joinBytes k a b)) (length s) (g .answer) in
       (join-checked (length out) e, same-front _ s _ _ m (rw e at (g .output)))

@@ -8,7 +8,7 @@ use lib.ListN.{length}
 use lib.Dec.{ltb}
 use borrow.Author.Tests.{lt-ltb, le-ltb, le-leb, lt-leb, ltb-false}
 use Rattle.hml.specs.Tests.{apart}
-use Rattle.labels.specs.Refusals.{firstOf, refusedIf}
+use Rattle.labels.specs.Refusals.{firstOf, refusedIf, inFront}
 use Rattle.labels.specs.Labels.{checkPairs}
 use Rattle.labels.specs.declared.refusal.Refusal.{Refusal}
 use Rattle.labels.specs.declared.refusal.Refusal.the-variants.{TooManySplittings, NoSuchSplitting, OutputTooShort}
@@ -16,8 +16,8 @@ use Rattle.labels.specs.declared.refusal.Check.{Check}
 use Rattle.labels.specs.declared.refusal.Check.the-variants.{Sound, Refused}
 use Rattle.labels.proofs.Refusals.{both-sound, unrefused}
 use Rattle.machines.specs.Joints.{checkTablesAndJoint}
-use Rattle.splitting.specs.Splittings.{splittingsOf, checkLog, splittingLimit, checkCount, checkNumber, checkSplit, halfLength, counted, countOf, splitOf, leftOutput, rightOutput}
-use Rattle.splitting.specs.Working.{Log, wholeLeft, wholeRight}
+use Rattle.splitting.specs.Splittings.{splittingsOf, checkLog, splittingLimit, checkCount, checkNumber, checkSplit, leftHalf, rightHalf, halfLength, counted, countOf, splitOf, leftOutput, rightOutput}
+use Rattle.splitting.specs.Working.{Log}
 use Rattle.splitting.specs.declared.count.Counted.the-variants as count
 use Rattle.splitting.specs.declared.split.Splitting.the-variants as splitting
 use Rattle.splitting.proofs.LogRuns.{sound-log, sound-ready}
@@ -125,7 +125,7 @@ module _ (k : ℕ) (l r s : List ℕ) (i : ℕ) (x y : List ℕ) where
   unfolding splitOf leftOutput rightOutput
   split-refused z e = (rw e, (rw e, rw e))
 
-  pub split-answered : checkSplit k l r s i (length x) (length y) ≡ Sound → (u v : List ℕ) → u ≡ wholeLeft k l r s i x → v ≡ wholeRight k l r s i y
+  pub split-answered : checkSplit k l r s i (length x) (length y) ≡ Sound → (u v : List ℕ) → u ≡ inFront (leftHalf k l r s i) x → v ≡ inFront (rightHalf k l r s i) y
       → (splitting.Halves (2 * (length s / 3) + 1) ≡ splitOf k l r s i (length x) (length y)) × ((u ≡ leftOutput k l r s i x (length y)) × (v ≡ rightOutput k l r s i (length x) y))
-  unfolding splitOf leftOutput rightOutput wholeLeft wholeRight halfLength
+  unfolding splitOf leftOutput rightOutput halfLength
   split-answered e u v p q = (rw (e, split-log k l r s i (length x) (length y) e .run .counted), (rw e p, rw e q))

@@ -14,6 +14,7 @@ use Rattle.hml.specs.Labels.{pairs}
 use Rattle.hml.specs.Split.{grown, splits, splits-sound}
 use Rattle.hml.specs.Indexed.{element}
 use Rattle.hml.specs.Numbered.{splits-at}
+use Rattle.labels.specs.Refusals.{inFront}
 use Rattle.tables.specs.Tables.{tableOf}
 use Rattle.halves.specs.Runs.{written}
 use Rattle.halves.specs.Halves.{halfBytes}
@@ -25,7 +26,7 @@ use Rattle.splitting.specs.Splittings.{splittingsOf, leftHalf, rightHalf
 use Rattle.ways.specs.declared.step.JointStep.{JointStep}
 use Rattle.ways.specs.declared.step.Way.{Way}
 use Rattle.ways.specs.StepWays.{Steps, wayStruct, chosen}
-use Rattle.splitting.specs.Working.{Log, stepHere, optionsAt, wayAt, stepMeant, labelByte, targetByte, putStep, wholeLeft, wholeRight}
+use Rattle.splitting.specs.Working.{Log, stepHere, optionsAt, wayAt, stepMeant, labelByte, targetByte, putStep}
 use Rattle.splitting.proofs.Counts.{upTo, splitsUpTo, up-to-start, up-to-end, states-before, one-step, step-splits}
 use Rattle.splitting.proofs.LogRuns.{nth-length}
 
@@ -107,8 +108,8 @@ module _ (k : ℕ) (l r s : List ℕ) where
     pub below : n < length (splitsUpTo k l r s i)
     pub leftSize : length x ≡ length x₀
     pub rightSize : length y ≡ length y₀
-    pub left : halfBytes (nthUpTo i n .0) ++ drop (2 * i + 1) x ≡ wholeLeft k l r s number x₀
-    pub right : halfBytes (nthUpTo i n .1) ++ drop (2 * i + 1) y ≡ wholeRight k l r s number y₀
+    pub left : halfBytes (nthUpTo i n .0) ++ drop (2 * i + 1) x ≡ inFront (leftHalf k l r s number) x₀
+    pub right : halfBytes (nthUpTo i n .1) ++ drop (2 * i + 1) y ≡ inFront (rightHalf k l r s number) y₀
 
 module _ {k : ℕ} {l r s : List ℕ} (g : Log k l r s) where
   half-room : halfLength s ≡ 2 * (length s / 3) + 1
@@ -116,7 +117,7 @@ module _ {k : ℕ} {l r s : List ℕ} (g : Log k l r s) where
   half-room = rw (g .run .counted)
 
   pub unrolled-start : (number : ℕ) (x y : List ℕ) → number < length (splittingsOf k l r s) → Unrolled k l r s number x y (length s / 3) number x y
-  unfolding splittingsOf wholeLeft wholeRight leftHalf rightHalf
+  unfolding splittingsOf inFront leftHalf rightHalf
   unrolled-start number x y h =
       let (u, v) = nth-length k l r s number h in
       record {
@@ -210,8 +211,8 @@ module _ {k : ℕ} {l r s : List ℕ} (g : Log k l r s) where
           only-one : n ≡ 0
           only-one = let b = rw (z, up-to-start g) at (u .below) in omega (arith, b)
 
-      pub unrolled-left : set x 0 (getD s 0 0) ≡ wholeLeft k l r s number x₀
+      pub unrolled-left : set x 0 (getD s 0 0) ≡ inFront (leftHalf k l r s number) x₀
       unrolled-left = first-put x (getD s 0 0) (first-room .0) ∙ rw (start-left, z) at (u .left)
 
-      pub unrolled-right : set y 0 (getD s 1 0) ≡ wholeRight k l r s number y₀
+      pub unrolled-right : set y 0 (getD s 1 0) ≡ inFront (rightHalf k l r s number) y₀
       unrolled-right = first-put y (getD s 1 0) (first-room .1) ∙ rw (start-right, z) at (u .right)

@@ -1,7 +1,7 @@
 -- What functions inside the crate promise each other. No public promise cites this file.
 use Prim.Native.Nat.{ℕ, _+_, _*_, _%_}
-use mathlib.Core.List.{List, _++_}
-use lib.ListN.{length, getD, set, drop}
+use mathlib.Core.List.{List}
+use lib.ListN.{length, getD, set}
 use Rattle.hml.specs.Tests.{tested-ℕ}
 use Rattle.hml.specs.System as theory
 use Rattle.hml.specs.System.{move, idle}
@@ -13,7 +13,6 @@ use Rattle.halves.specs.declared.step.Step.{Step}
 use Rattle.halves.specs.declared.step.Step.the-variants as step
 use Rattle.machines.proofs.JointRuns.{Tables, AcceptedJoint}
 use Rattle.machines.proofs.Buffers.{Held}
-use Rattle.splitting.specs.Splittings.{leftHalf, rightHalf}
 use Rattle.ways.specs.StepWays.{Steps, chosen}
 use Rattle.ways.specs.declared.step.JointStep.{JointStep}
 
@@ -57,10 +56,3 @@ targetByte p idle = p
 -- a half's bytes with step i written
 unfoldable pub putStep : List ℕ → ℕ → ℕ → theory.Step ℕ → List ℕ
 putStep out i p s = set (set out (2 * i + 1) (labelByte s)) (2 * i + 1 + 1) (targetByte p s)
-
--- the lent outputs with the halves of splitting n in front
-unfoldable pub wholeLeft : ℕ → List ℕ → List ℕ → List ℕ → ℕ → List ℕ → List ℕ
-wholeLeft k l r s n out = leftHalf k l r s n ++ drop (length (leftHalf k l r s n)) out
-
-unfoldable pub wholeRight : ℕ → List ℕ → List ℕ → List ℕ → ℕ → List ℕ → List ℕ
-wholeRight k l r s n out = rightHalf k l r s n ++ drop (length (rightHalf k l r s n)) out

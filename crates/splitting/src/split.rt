@@ -13,9 +13,10 @@ use ways::count::count_ways;
 ghost use mathlib.Core.Path.{_≡_};
 ghost use Prim.Native.Nat.{_+_, _*_, _/_, _≤_, _<_};
 ghost use lib.ListN.{length, getD};
+ghost use Rattle.labels.specs.Refusals.{inFront};
 ghost use Rattle.machines.proofs.JointRuns.{Tables};
-ghost use Rattle.splitting.specs.Splittings.{splittingsOf, checkSplit, splitOf, leftOutput, rightOutput, halfLength};
-ghost use Rattle.splitting.specs.Working.{Log, optionsAt, wayAt, stepMeant, putStep, wholeLeft, wholeRight};
+ghost use Rattle.splitting.specs.Splittings.{splittingsOf, leftHalf, rightHalf, checkSplit, splitOf, leftOutput, rightOutput, halfLength};
+ghost use Rattle.splitting.specs.Working.{Log, optionsAt, wayAt, stepMeant, putStep};
 
 // The length of each half, in bytes.
 pub enum Splitting {
@@ -94,8 +95,8 @@ fn write_halves(
     requires { ⌜ Log (labels .pairs) (now left) (now right) (now run) ⌝ }
     requires { ⌜ number < length (splittingsOf (labels .pairs) (now left) (now right) (now run)) ⌝ }
     requires { ⌜ (halfLength (now run) ≤ length (now «left_out»)) × (halfLength (now run) ≤ length (now «right_out»)) ⌝ }
-    ensures { λ r. ⌜ now («left_out» .exit) ≡ wholeLeft (labels .pairs) (now (left .entry)) (now (right .entry)) (now (run .entry)) number (now («left_out» .entry)) ⌝ }
-    ensures { λ r. ⌜ now («right_out» .exit) ≡ wholeRight (labels .pairs) (now (left .entry)) (now (right .entry)) (now (run .entry)) number (now («right_out» .entry)) ⌝ }
+    ensures { λ r. ⌜ now («left_out» .exit) ≡ inFront (leftHalf (labels .pairs) (now (left .entry)) (now (right .entry)) (now (run .entry)) number) (now («left_out» .entry)) ⌝ }
+    ensures { λ r. ⌜ now («right_out» .exit) ≡ inFront (rightHalf (labels .pairs) (now (left .entry)) (now (right .entry)) (now (run .entry)) number) (now («right_out» .entry)) ⌝ }
 {
     let mut n = number;
     let mut i = run.len() / 3;

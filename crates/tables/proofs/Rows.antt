@@ -10,7 +10,7 @@ use lib.ListN.{length, getD, take, drop, length-take, length-drop}
 use lib.Dec.{eqb, ltb}
 use borrow.Author.Tests.{lt-ltb, le-ltb, eq-eqb, ne-eqb, ltb-true, ltb-false, eqb-true}
 use Rattle.hml.specs.Tests.{apart, same, Decides, decided-iff, decided-and, decided-same}
-use Rattle.hml.specs.Lists.{_∈_, any, only, each, any-map, decided-any}
+use Rattle.hml.specs.Lists.{_∈_, only, each, decided-any}
 use Rattle.hml.specs.System.{System}
 use Rattle.hml.specs.Machine.{Row, machine}
 use Rattle.tables.specs.Tables.{threes, rowsOf, among, hasMove, rowsFrom, bytesOf, rowBelow, leaving, Rising, none, one, more}
@@ -113,34 +113,6 @@ before-count {rows = r ∷ rows} s p i h = go (ltb (r .0) p) refl i h (before-co
     go true e zero h later = ltb-true (r .0) p e
     go true e (suc i) h later = later i (omega arith)
 
--- the rows from the count on leave p or a state above it
-after-count : {rows : List Row} → Rising rows → (p i : ℕ) → below p rows ≤ i → i < length rows → p ≤ getD rows i (0, 0, 0) .0
-unfolding below
-after-count {rows = []} s p i h k = absurd (omega arith)
-after-count {rows = r ∷ rows} s p i h k = go (ltb (r .0) p) refl i h k (after-count (rising-tail s) p)
-  where
-    go : (a : Bool) → ltb (r .0) p ≡ a → (i : ℕ) → cond a 1 0 + below p rows ≤ i → i < length (r ∷ rows)
-        → ((j : ℕ) → below p rows ≤ j → j < length rows → p ≤ getD rows j (0, 0, 0) .0) → p ≤ getD (r ∷ rows) i (0, 0, 0) .0
-    go false e i h k later = omega (arith, ltb-false (r .0) p e, head-least s i k)
-    go true e zero h k later = absurd (omega arith)
-    go true e (suc i) h k later = later i (omega arith) (omega arith)
-
--- the rows in the span of p leave p
-pub span-row : {rows : List Row} → Rising rows → (p i : ℕ) → below p rows ≤ i → i < below (p + 1) rows → getD rows i (0, 0, 0) .0 ≡ p
-span-row {rows} s p i h k = omega (arith, after-count s p i h (omega (arith, below-le (p + 1) rows)), before-count s (p + 1) i k)
-
--- a row that leaves p is in the span of p
-pub row-span : {rows : List Row} → Rising rows → (p i : ℕ) → i < length rows → getD rows i (0, 0, 0) .0 ≡ p → (below p rows ≤ i) × (i < below (p + 1) rows)
-row-span {rows} s p i h e = (go (ltb i (below p rows)) refl, stop (ltb i (below (p + 1) rows)) refl)
-  where
-    go : (a : Bool) → ltb i (below p rows) ≡ a → below p rows ≤ i
-    go true t = absurd (omega (arith, before-count s p i (ltb-true i (below p rows) t)))
-    go false t = ltb-false i (below p rows) t
-
-    stop : (a : Bool) → ltb i (below (p + 1) rows) ≡ a → i < below (p + 1) rows
-    stop true t = ltb-true i (below (p + 1) rows) t
-    stop false t = absurd (omega (arith, after-count s (p + 1) i (ltb-false i (below (p + 1) rows) t) h))
-
 -- in rows that rise, those that leave p stand together, behind those that leave a lower state
 pub span-rows : {rows : List Row} → Rising rows → (p : ℕ) → rowsFrom p rows ≡ take (leaving p rows) (drop (below p rows) rows)
 unfolding rowsFrom below leaving only
@@ -166,10 +138,6 @@ moves-from p (r ∷ rows) = go (same (r .0) p) (moves-from p rows)
         → only b (r .1, r .2) ++ machine rows p ≡ map (λ r. (r .1, r .2)) (only b r ++ rowsFrom p rows)
     go true e = ap ((r .1, r .2) ∷_) e
     go false e = e
-
--- a search of the moves that leave p is a search of its rows
-pub any-moves : (F : ℕ × ℕ → Bool) (p : ℕ) (rows : List Row) → any F (machine rows p) ≡ any (λ r. F (r .1, r .2)) (rowsFrom p rows)
-any-moves F p rows = rw (moves-from p rows) (any-map F (λ r. (r .1, r .2)) (rowsFrom p rows))
 
 -- row i is the three bytes from 3 i on
 pub threes-at : (l : List ℕ) (i : ℕ) → i < length (threes l) → getD (threes l) i (0, 0, 0) ≡ (getD l (3 * i) 0, getD l (3 * i + 1) 0, getD l (3 * i + 2) 0)

@@ -53,9 +53,6 @@ pub search-rows : (F : ℕ × ℕ → Bool) (rows : List ℕ) → Searching (mov
 unfolding Searching movesIn
 search-rows F rows = any-map F (λ r. (r .1, r .2)) (threes rows)
 
-pub search-start : (t : List ℕ) (p : ℕ) (F : ℕ × ℕ → Bool) (rows : List ℕ) → rows ≡ bytesOf (rowsFrom p (rowsOf t)) → Searching (tableOf t p) F rows
-search-start t p F rows e = rw (leaving-moves t p rows e) at (search-rows F rows)
-
 module _ (moves : List (ℕ × ℕ)) (F : ℕ × ℕ → Bool) (rows : List ℕ) (g : Searching moves F rows) where
   pub search-end : length rows < 3 → false ≡ any F moves
   unfolding Searching

@@ -11,14 +11,14 @@ use lib.Dec.{eqb, ltb}
 use borrow.Author.Tests.{eqb-true}
 use Rattle.labels.proofs.Refusals.{Judges, accepts, judges, judged-unless, judged-fault, judged-iff, judged-then}
 use Rattle.hml.specs.Tests.{same, Decides, decides, decided-lt, decided-le, decided-true, decided-iff, decided-and, decided-or, decided-same, same-refl}
-use Rattle.hml.specs.Lists.{_∈_, only, ∈-only, ∈-each, each-∈}
+use Rattle.hml.specs.Lists.{_∈_, only, ∈-only, each-∈}
 use Rattle.hml.specs.Machine.{Row, machine}
 use Rattle.hml.specs.Labels.{count}
 use Rattle.hml.specs.Distinct.{Distinct, distinct-only, distinct-each}
 use Rattle.labels.specs.Refusals.{firstOf}
 use Rattle.labels.specs.declared.refusal.Refusal.the-variants.{WrongLength, OutOfRange, RowNotAbove, NinthRow}
 use Rattle.labels.specs.declared.refusal.Check.the-variants.{Sound}
-use Rattle.tables.specs.Tables.{statesOf, rowsOf, tableOf, fitTable, fitStates, inRange, rowBelow, aboveLast, leaving, checkRow, checkRows, checkTable, Rising, none, one, more, Ready}
+use Rattle.tables.specs.Tables.{statesOf, rowsOf, tableOf, fitTable, fitStates, inRange, rowBelow, aboveLast, leaving, checkRow, checkRows, checkTable, Rising, none, one, more, SoundTable, Ready}
 
 -- a row in range
 abbrev pub Ranged : ℕ → ℕ → Row → Type 0
@@ -163,15 +163,6 @@ judged-rows k n before (r ∷ rows) = judged-iff join part (judged-then (judged-
         let (fewer, few) = eight-more before r rows .0 (f .eight) in
         ((f .ranged r (here refl), above, fewer), record { ranged = λ s i. f .ranged s (there i); rising = rest; eight = few })
 
--- a table as document 01 says: n, then rows of three bytes; 1 to 64 states; rows in range, each above the one before, at most 8 from a state
-pub record SoundTable (k : ℕ) (t : List ℕ) : Type 0 where
-  pub fits : (length t % 3 ≡ 1) × (length t ≤ 1537)
-  pub some : 1 ≤ statesOf t
-  pub few-states : statesOf t ≤ 64
-  pub ranged : (r : Row) → r ∈ rowsOf t → (r .0 < statesOf t) × (r .1 ≤ count k) × (r .2 < statesOf t)
-  pub rising : Rising (rowsOf t)
-  pub eight : (p : ℕ) → leaving p (rowsOf t) ≤ 8
-
 -- the check of a table judges whether it is sound
 pub judged-table : (k : ℕ) (t : List ℕ) → Judges (SoundTable k t) (checkTable k t)
 unfolding checkTable firstOf fitTable fitStates leaving
@@ -186,10 +177,6 @@ judged-table k t = judged-iff
 pub sound-table : (k : ℕ) (t : List ℕ) → checkTable k t ≡ Sound → SoundTable k t
 sound-table k t = judges (judged-table k t) .0
 
--- a table as document 01 says is accepted
-pub table-sound : (k : ℕ) (t : List ℕ) → SoundTable k t → checkTable k t ≡ Sound
-table-sound k t = judges (judged-table k t) .1
-
 -- what a row must be for a move from p to come from it
 only-row : (r : Row) (p : ℕ) {z : ℕ × ℕ} → z ∈ only (same (r .0) p) (r .1, r .2) → (p, z .0, z .1) ≡ r
 only-row r p i =
@@ -200,11 +187,6 @@ only-row r p i =
 pub move-row : (rows : List Row) (p a q : ℕ) → (a, q) ∈ machine rows p → (p, a, q) ∈ rows
 unfolding machine
 move-row rows p a q i = let (r, m, o) = each-∈ _ rows i in ∈-cast (only-row r p o) m
-
--- a row is a move
-pub row-move : (rows : List Row) (p a q : ℕ) → (p, a, q) ∈ rows → (a, q) ∈ machine rows p
-unfolding machine
-row-move rows p a q i = ∈-each _ i (∈-only (same p p) .1 (same-refl p, refl))
 
 -- as many moves leave a state as rows
 pub moves-length : (p : ℕ) (rows : List Row) → length (machine rows p) ≡ leaving p rows

@@ -1,13 +1,13 @@
 -- Tables: document 01, "Machines and labels", and the numbers 3, 5, 6 and 7 of "Who can cause a refusal".
 -- A table as bytes is n, then its rows, three bytes each: from, label, to.
-use Prim.Native.Nat.{ℕ, _+_, _-_, _%_, _≤_}
+use Prim.Native.Nat.{ℕ, _+_, _*_, _%_, _≤_, _<_}
 use mathlib.Core.Path.{_≡_}
 use mathlib.Core.Bool.{Bool, true, cond, _&&_, _||_, not}
 use mathlib.Core.List.{List, [], _∷_, map}
 use lib.ListN.{length, getD}
 use lib.Dec.{eqb, leb, ltb}
 use Rattle.hml.specs.Tests.{same}
-use Rattle.hml.specs.Lists.{any, each, only}
+use Rattle.hml.specs.Lists.{_∈_, any, each, only}
 use Rattle.hml.specs.System.{System}
 use Rattle.hml.specs.Machine.{Row, machine}
 use Rattle.hml.specs.Labels.{count}
@@ -54,6 +54,10 @@ among moves a q = any (λ m. same (m .0) a && same (m .1) q) moves
 -- has the system a move from p with this label and target?
 unfoldable pub hasMove : System ℕ → ℕ → ℕ → ℕ → Bool
 hasMove M p a q = among (M p) a q
+
+-- row i of a table's bytes
+abbrev pub rowOf : List ℕ → ℕ → Row
+rowOf t i = (getD t (3 * i + 1) 0, getD t (3 * i + 1 + 1) 0, getD t (3 * i + 1 + 2) 0)
 
 -- a row by its number, from 0
 abbrev pub rowStruct : Row → declared-row.Row
@@ -118,6 +122,15 @@ pub data Rising : List Row → Type 0 where
   none : Rising []
   one : {r : Row} → Rising (r ∷ [])
   more : {r s : Row} {rows : List Row} → rowBelow r s ≡ true → Rising (s ∷ rows) → Rising (r ∷ s ∷ rows)
+
+-- a table as document 01 says: n, then rows of three bytes; 1 to 64 states; rows in range, each above the one before, at most 8 from a state
+pub record SoundTable (k : ℕ) (t : List ℕ) : Type 0 where
+  pub fits : (length t % 3 ≡ 1) × (length t ≤ 1537)
+  pub some : 1 ≤ statesOf t
+  pub few-states : statesOf t ≤ 64
+  pub ranged : (r : Row) → r ∈ rowsOf t → (r .0 < statesOf t) × (r .1 ≤ count k) × (r .2 < statesOf t)
+  pub rising : Rising (rowsOf t)
+  pub eight : (p : ℕ) → leaving p (rowsOf t) ≤ 8
 
 -- a table that no check refuses, as far as functions that search it need it
 pub record Ready (t : List ℕ) : Type 0 where

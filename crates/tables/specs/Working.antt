@@ -1,21 +1,16 @@
 -- What functions inside the crate promise each other. No public promise cites this file.
-use Prim.Native.Nat.{ℕ, zero, suc, _+_, _*_, _<_}
+use Prim.Native.Nat.{ℕ, zero, suc, _+_, _<_}
 use mathlib.Core.Path.{_≡_}
 use mathlib.Core.Bool.{cond}
 use mathlib.Core.List.{List, [], _∷_}
 use lib.Dec.{ltb}
-use lib.ListN.{getD}
 use Rattle.hml.specs.Machine.{Row}
-use Rattle.tables.specs.Tables.{leaving, checkRow}
+use Rattle.tables.specs.Tables.{rowOf, leaving, checkRow}
 use Rattle.tables.specs.declared.row.Row as declared-row
 use Rattle.tables.specs.declared.check.Judged.{Judged}
 use Rattle.tables.specs.declared.check.Judged.the-variants as judged-as
 use Rattle.labels.specs.declared.refusal.Check.{Check}
 use Rattle.labels.specs.declared.refusal.Check.the-variants as check
-
--- row i of a table's bytes
-abbrev pub rowOf : List ℕ → ℕ → Row
-rowOf t i = (getD t (3 * i + 1) 0, getD t (3 * i + 1 + 1) 0, getD t (3 * i + 1 + 2) 0)
 
 abbrev pub tripleOf : declared-row.Row → Row
 tripleOf r = (r .from, r .label .0, r .to)

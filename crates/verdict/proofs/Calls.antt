@@ -24,38 +24,37 @@ use Rattle.labels.specs.declared.refusal.Check.{Check}
 use Rattle.labels.specs.declared.refusal.Check.the-variants.{Sound, Refused}
 use Rattle.labels.proofs.Slices.{copied}
 use Rattle.labels.proofs.Refusals.{then-sound, both-sound, passed, unrefused, judges}
-use Rattle.tables.specs.Tables.{tableOf, checkTable, fitTable, fitStates, rowsOf, threes, checkRows}
-use Rattle.tables.proofs.SoundTables.{SoundTable, sound-table, no-idle-label}
+use Rattle.tables.specs.Tables.{tableOf, checkTable, fitTable, fitStates, rowsOf, threes, checkRows, SoundTable}
+use Rattle.tables.proofs.SoundTables.{sound-table, no-idle-label}
 use Rattle.halves.specs.Halves.{halfOf, isHalfRun, checkHalf, checkTableAndHalf}
 use Rattle.halves.specs.Cuts.{beyond}
 use Rattle.halves.proofs.HalfRuns.{AcceptedHalf, accepted-half, half-stop}
 use Rattle.machines.specs.Joints.{jointOf, fitJoint, isJointRun, checkJoint, checkTablesAndJoint}
 use Rattle.machines.proofs.JointRuns.{Tables, AcceptedJoint, accepted-joint, joint-stop}
 use Rattle.machines.proofs.Buffers.{Held, accepted-held}
-use Rattle.formulas.specs.Formulas.{formulaOf, Legal, checkFormula}
+use Rattle.formulas.specs.Formulas.{formulaOf, quotientLimit, Legal, checkFormula}
 use Rattle.formulas.specs.Sizes.{sizesOver}
-use Rattle.formulas.specs.Working.{treeOf}
+use Rattle.formulas.specs.Trees.{treeOf}
 use Rattle.formulas.proofs.Checking.{judged-formula, legal-tree}
 use Rattle.formulas.proofs.TreeSizes.{length-over}
 use Rattle.formulas.proofs.Operands.{legal-part, legal-nesting, legal-labels}
-use Rattle.verdict.specs.Verdicts.{nodeLimit, jointHolds, halfHolds, checkJointCall, checkHalfCall, verdictOf, answered, jointVerdict, halfVerdict}
+use Rattle.verdict.specs.Verdicts.{jointHolds, halfHolds, checkJointCall, checkHalfCall, verdictOf, answered, jointVerdict, halfVerdict}
 use Rattle.verdict.specs.Working.{Ready, gridOf, judged, tablesHold, besideStill}
 use Rattle.verdict.specs.declared.answer.Verdict.{Verdict}
 use Rattle.verdict.specs.declared.answer.Verdict.the-variants as verdict
 use Rattle.verdict.proofs.Still.{still-read, still-length, still-take, still-ends}
 
 -- a legal formula is ready for its verdict, with the sizes of its trees
-module _ (k : ℕ) (f : List ℕ) (legal : Legal k nodeLimit f) where
+module _ (k : ℕ) (f : List ℕ) (legal : Legal k quotientLimit f) where
   pub legal-ready : (sizes xs : List ℕ) (n : ℕ) → length sizes ≡ 4096 → length xs ≡ 614 → Held xs n → n ≤ 602 → Ready k (sizesOver f sizes) xs n 0 f
-  unfolding nodeLimit
   legal-ready sizes xs n z w h i =
-      let p = legal-part k nodeLimit f legal sizes (omega (arith, z)) in
+      let p = legal-part k quotientLimit f legal sizes (omega (arith, z)) in
       record {
         tree = p .tree;
-        ranged = legal-labels k nodeLimit f legal;
+        ranged = legal-labels k quotientLimit f legal;
         sized = p .sized;
         held = h;
-        room = omega (arith, legal-nesting k nodeLimit f legal, i, w);
+        room = omega (arith, legal-nesting k quotientLimit f legal, i, w);
         size = w;
         slots = length-over f sizes ∙ z;
       }
@@ -65,7 +64,7 @@ module _ (k : ℕ) (f : List ℕ) (legal : Legal k nodeLimit f) where
       (p : b ≡ judged labels gl gr (treeOf f) j) where
     tables-judged : b ≡ present (λ φ. tablesHold labels l r φ j) (formulaOf f)
     unfolding judged tablesHold
-    tables-judged = rw (legal-tree k nodeLimit f legal) (p ∙ ap₂ (λ L R. holds (beside (pairing labels) L R) (treeOf f) j) (fun-ext el) (fun-ext er))
+    tables-judged = rw (legal-tree k quotientLimit f legal) (p ∙ ap₂ (λ L R. holds (beside (pairing labels) L R) (treeOf f) j) (fun-ext el) (fun-ext er))
 
     pub legal-holds : b ≡ true → verdict.Holds ≡ verdictOf (present (λ φ. tablesHold labels l r φ j) (formulaOf f))
     unfolding verdictOf
@@ -79,11 +78,11 @@ module _ (k : ℕ) (f : List ℕ) (legal : Legal k nodeLimit f) where
 module _ (k : ℕ) (l r s f : List ℕ) where
   -- the checks of the parts
   abbrev pub jointParts : Check
-  jointParts = thenOf (checkPairs k) (thenOf (checkTablesAndJoint k l r s) (checkFormula k 4096 f))
+  jointParts = thenOf (checkPairs k) (thenOf (checkTablesAndJoint k l r s) (checkFormula k quotientLimit f))
 
   joint-regroup : (p : ℕ) → checkJointCall k l r s f p ≡ thenOf jointParts (refusedIf (ltb (steps (jointOf s)) p) PointBeyond)
-  unfolding checkJointCall checkTablesAndJoint firstOf nodeLimit
-  joint-regroup p = go (checkPairs k) (checkTable k l) (checkTable k r) (checkJoint k l r s) (checkFormula k 4096 f) (refusedIf (ltb (steps (jointOf s)) p) PointBeyond)
+  unfolding checkJointCall checkTablesAndJoint firstOf
+  joint-regroup p = go (checkPairs k) (checkTable k l) (checkTable k r) (checkJoint k l r s) (checkFormula k quotientLimit f) (refusedIf (ltb (steps (jointOf s)) p) PointBeyond)
     where
       go : (c l r j f b : Check) → thenOf c (thenOf l (thenOf r (thenOf j (thenOf f (thenOf b Sound))))) ≡ thenOf (thenOf c (thenOf (thenOf l (thenOf r (thenOf j Sound))) f)) b
       go (Refused x) l r j f b = refl
@@ -98,13 +97,13 @@ module _ (k : ℕ) (l r s f : List ℕ) where
     pub tables : Tables k l r
     pub fit : fitJoint s ≡ true
     pub real : isJointRun k l r s ≡ true
-    pub legal : Legal k nodeLimit f
+    pub legal : Legal k quotientLimit f
 
   pub joint-parts : jointParts ≡ Sound → JointCall
-  unfolding checkTablesAndJoint checkJoint firstOf nodeLimit
+  unfolding checkTablesAndJoint checkJoint firstOf
   joint-parts e =
-      let (pairs, a) = both-sound (checkPairs k) (thenOf (checkTablesAndJoint k l r s) (checkFormula k 4096 f)) e in
-      let (b, formula) = both-sound (checkTablesAndJoint k l r s) (checkFormula k 4096 f) a in
+      let (pairs, a) = both-sound (checkPairs k) (thenOf (checkTablesAndJoint k l r s) (checkFormula k quotientLimit f)) e in
+      let (b, formula) = both-sound (checkTablesAndJoint k l r s) (checkFormula k quotientLimit f) a in
       let (left, c) = both-sound (checkTable k l) _ b in
       let (right, d) = both-sound (checkTable k r) _ c in
       let (run, _) = both-sound (checkJoint k l r s) _ d in
@@ -114,7 +113,7 @@ module _ (k : ℕ) (l r s f : List ℕ) where
         tables = record { left = sound-table k l left; right = sound-table k r right };
         fit = passed (fitJoint s) _ fit;
         real = passed (isJointRun k l r s) _ real;
-        legal = judges (judged-formula k 4096 f) .0 formula;
+        legal = judges (judged-formula k quotientLimit f) .0 formula;
       }
 
   module _ (call : JointCall) where
@@ -196,11 +195,11 @@ nothing-leaves = refl
 module _ (k : ℕ) (t s f : List ℕ) where
   -- the checks of the parts
   abbrev pub halfParts : Check
-  halfParts = thenOf (checkPairs k) (thenOf (checkTable k t) (checkFormula k 4096 f))
+  halfParts = thenOf (checkPairs k) (thenOf (checkTable k t) (checkFormula k quotientLimit f))
 
   half-regroup : (p : ℕ) → checkHalfCall k t s f p ≡ thenOf halfParts (thenOf (refusedIf (beyond s p) PointBeyond) (checkHalf t s))
-  unfolding checkHalfCall firstOf nodeLimit
-  half-regroup p = go (checkPairs k) (checkTable k t) (checkFormula k 4096 f) (refusedIf (beyond s p) PointBeyond) (checkHalf t s)
+  unfolding checkHalfCall firstOf
+  half-regroup p = go (checkPairs k) (checkTable k t) (checkFormula k quotientLimit f) (refusedIf (beyond s p) PointBeyond) (checkHalf t s)
     where
       go : (c t f b h : Check) → thenOf c (thenOf t (thenOf f (thenOf b (thenOf h Sound)))) ≡ thenOf (thenOf c (thenOf t f)) (thenOf b h)
       go (Refused x) t f b h = refl
@@ -213,12 +212,12 @@ module _ (k : ℕ) (t s f : List ℕ) where
   pub record HalfCall : Type 0 where
     pub table : SoundTable k t
     pub run : isHalfRun t s ≡ true
-    pub legal : Legal k nodeLimit f
+    pub legal : Legal k quotientLimit f
 
-  half-parts : halfParts ≡ Sound → (checkTable k t ≡ Sound) × (checkFormula k 4096 f ≡ Sound)
+  half-parts : halfParts ≡ Sound → (checkTable k t ≡ Sound) × (checkFormula k quotientLimit f ≡ Sound)
   half-parts e =
-      let (pairs, a) = both-sound (checkPairs k) (thenOf (checkTable k t) (checkFormula k 4096 f)) e in
-      both-sound (checkTable k t) (checkFormula k 4096 f) a
+      let (pairs, a) = both-sound (checkPairs k) (thenOf (checkTable k t) (checkFormula k quotientLimit f)) e in
+      both-sound (checkTable k t) (checkFormula k quotientLimit f) a
 
   module _ (call : HalfCall) (p : ℕ) (within : beyond s p ≡ false) where
     half-accepted : AcceptedHalf t s
@@ -273,9 +272,9 @@ module _ (k : ℕ) (t s f : List ℕ) where
   half-judged p e b c h = rw (half-regroup p, e, b) (h ∙ rw (half-parts e .0) (then-sound (checkHalf t s)))
 
   pub half-call : (p : ℕ) → checkHalfCall k t s f p ≡ Sound → HalfCall × (beyond s p ≡ false)
-  unfolding checkHalf nodeLimit
+  unfolding checkHalf
   half-call p e =
       let (a, b) = both-sound halfParts (thenOf (refusedIf (beyond s p) PointBeyond) (checkHalf t s)) (sym (half-regroup p) ∙ e) in
       let (x, y) = both-sound (refusedIf (beyond s p) PointBeyond) (checkHalf t s) b in
       let (table, formula) = half-parts a in
-      (record { table = sound-table k t table; run = passed (isHalfRun t s) _ y; legal = judges (judged-formula k 4096 f) .0 formula }, unrefused _ _ x)
+      (record { table = sound-table k t table; run = passed (isHalfRun t s) _ y; legal = judges (judged-formula k quotientLimit f) .0 formula }, unrefused _ _ x)

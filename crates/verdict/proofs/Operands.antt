@@ -17,7 +17,7 @@ use Rattle.labels.proofs.Slices.{rest, rest-of, rest-length}
 use Rattle.halves.specs.Runs.{stepOf}
 use Rattle.machines.specs.Joints.{jointOf}
 use Rattle.machines.proofs.Buffers.{Held, held-empty, held-shorter, held-step}
-use Rattle.formulas.specs.Working.{Tree, treeOf}
+use Rattle.formulas.specs.Trees.{Tree, treeOf}
 use Rattle.formulas.proofs.Operators.{Unary, at}
 use Rattle.formulas.proofs.Operands.{Part, Connective, connected, operand-part, operand-is, first-part, second-part, size-read, second-room, operands-are, nesting-connected, labelled-connected}
 use Rattle.verdict.specs.declared.step.Step.the-variants as step

@@ -19,13 +19,9 @@ use Rattle.tables.specs.Tables.{tableOf, checkTable}
 use Rattle.halves.specs.Halves.{halfOf, checkHalf}
 use Rattle.halves.specs.Cuts.{beyond}
 use Rattle.machines.specs.Joints.{jointOf, checkJoint}
-use Rattle.formulas.specs.Formulas.{formulaOf, checkFormula}
+use Rattle.formulas.specs.Formulas.{formulaOf, quotientLimit, checkFormula}
 use Rattle.verdict.specs.declared.answer.Verdict.{Verdict}
 use Rattle.verdict.specs.declared.answer.Verdict.the-variants as verdict
-
--- "A question has 1 to 64 nodes, a quotient 1 to 4,096; verdicts take either."
-unfoldable pub nodeLimit : ℕ
-nodeLimit = 4096
 
 -- the verdict on two tables and a joint run of them, stopped at a point: the tables beside each other, the formula that the bytes
 -- spell, the run that the bytes spell
@@ -43,7 +39,7 @@ checkJointCall k l r s f point = firstOf
     ∷ checkTable k l
     ∷ checkTable k r
     ∷ checkJoint k l r s
-    ∷ checkFormula k nodeLimit f
+    ∷ checkFormula k quotientLimit f
     ∷ refusedIf (ltb (steps (jointOf s)) point) PointBeyond
     ∷ [])
 
@@ -52,7 +48,7 @@ unfoldable pub checkHalfCall : ℕ → List ℕ → List ℕ → List ℕ → �
 checkHalfCall k t s f point = firstOf
     (checkPairs k
     ∷ checkTable k t
-    ∷ checkFormula k nodeLimit f
+    ∷ checkFormula k quotientLimit f
     ∷ refusedIf (beyond s point) PointBeyond
     ∷ checkHalf t s
     ∷ [])

@@ -15,7 +15,7 @@ use Rattle.labels.specs.Labels.{pairing}
 use Rattle.labels.specs.declared.label.Labels.{Labels}
 use Rattle.tables.specs.Tables.{tableOf}
 use Rattle.machines.proofs.Buffers.{Held}
-use Rattle.formulas.specs.Working.{Tree, treeOf}
+use Rattle.formulas.specs.Trees.{Tree, treeOf}
 use Rattle.formulas.specs.Sizes.{Sized}
 use Rattle.verdict.specs.declared.step.States.{States}
 use Rattle.verdict.specs.declared.step.Step.{Step}

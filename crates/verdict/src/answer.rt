@@ -11,8 +11,8 @@ ghost use Rattle.hml.specs.Lists.{present};
 ghost use Rattle.machines.specs.Joints.{jointOf};
 ghost use Rattle.machines.proofs.JointRuns.{Tables};
 ghost use Rattle.machines.proofs.Buffers.{Held};
-ghost use Rattle.formulas.specs.Formulas.{formulaOf, Legal};
-ghost use Rattle.verdict.specs.Verdicts.{nodeLimit, verdictOf};
+ghost use Rattle.formulas.specs.Formulas.{formulaOf, quotientLimit, Legal};
+ghost use Rattle.verdict.specs.Verdicts.{verdictOf};
 ghost use Rattle.verdict.specs.Working.{tablesHold};
 
 pub enum Verdict {
@@ -33,7 +33,7 @@ pub(crate) fn verdict_on(
 ) -> Verdict
     requires { ⌜ Tables (labels .pairs) (now left) (now right) ⌝ }
     requires { ⌜ Held (now run) len × (len ≤ 602) × (length (now run) ≡ 614) ⌝ }
-    requires { ⌜ Legal (labels .pairs) nodeLimit (now formula) ⌝ }
+    requires { ⌜ Legal (labels .pairs) quotientLimit (now formula) ⌝ }
     ensures { λ r. ⌜ r ≡ verdictOf (present (λ φ. tablesHold labels (now (left .entry)) (now (right .entry)) φ (jointOf (take len (now (run .entry))))) (formulaOf (now (formula .entry)))) ⌝ }
 {
     let mut left_grid = [0u8; 1088];

@@ -4,8 +4,7 @@ use labels::label::Labels;
 ghost use mathlib.Core.Path.{_≡_};
 ghost use Prim.Native.Nat.{ℕ, _+_, _*_, _≤_};
 ghost use lib.ListN.{drop, replicate};
-ghost use Rattle.tables.specs.Tables.{tableOf};
-ghost use Rattle.tables.proofs.SoundTables.{SoundTable};
+ghost use Rattle.tables.specs.Tables.{tableOf, SoundTable};
 ghost use Rattle.verdict.specs.Working.{Grid, Within, pairsIn, gridOf, skippedIn};
 
 // The rows of a sound table by the state that they leave, written into an empty grid.

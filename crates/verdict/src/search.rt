@@ -20,7 +20,7 @@ ghost use Rattle.hml.specs.Formula.{fwd};
 ghost use Rattle.labels.specs.Labels.{pairing};
 ghost use Rattle.halves.specs.Runs.{stepOf};
 ghost use Rattle.machines.specs.Joints.{jointOf};
-ghost use Rattle.formulas.specs.Working.{treeOf};
+ghost use Rattle.formulas.specs.Trees.{treeOf};
 ghost use Rattle.verdict.specs.Working.{Grids, Ready, Shown, Within, judged, pairsIn, gridOf, tried, shaken, pairOf, targetsOf};
 
 // Does the first tree of f hold on the run in the first len bytes? "And" and "or" stop as soon as they can.

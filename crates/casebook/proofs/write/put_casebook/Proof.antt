@@ -1,8 +1,9 @@
 -- Each record goes into the rest of the output behind those before it.
 use native.Mathlib.Omega.{arith}
+use Rattle.labels.proofs.Outputs.{front-length}
 use Rattle.casebook.specs.Writing.{casebookBytes}
 use Rattle.casebook.proofs.RoundTrip.{casebook-length}
-use Rattle.casebook.proofs.Writing.{fifth-room, all-put, put-length}
+use Rattle.casebook.proofs.Writing.{fifth-room, all-put}
 use borrow.Author.Needs.{needs}
 use Rattle.casebook.proofs.write.put_casebook.Statement.{statement}
 use Rattle.casebook.proofs.write.put_casebook.Tie as tie
@@ -90,7 +91,7 @@ put-record-requires-5 c κs =
 same-length : tie.Need-same-length
 same-length c =
     let s = c .before .before .before .before .before .before .before .before .before .before .before .before .before .before .before .before .before .before .before .before .before .before .before .before .before .before in
-    put-length (s .args .out .now) _ (casebookBytes (s .args .k) (s .args .left .now) (s .args .right .now) (s .args .run .now) (s .args .question .now))
+    front-length (casebookBytes (s .args .k) (s .args .left .now) (s .args .right .now) (s .args .run .now) (s .args .question .now)) (s .args .out .now) _
     (all-put (s .args .k) (s .args .left .now) (s .args .right .now) (s .args .run .now) (s .args .question .now) (s .args .out .now) _ _ _ _ (c .before .before .before .before .before .before .before .before .before .before .before .before .before .before .before .before .before .before .put-record .ensures) (c .before .before .before .before .before .before .before .before .before .before .before .before .before .before .put-record2 .ensures) (c .before .before .before .before .before .before .before .before .before .before .put-record3 .ensures) (c .before .before .before .before .before .before .put-record4 .ensures) _ (c .before .before .put-record5 .ensures))
     (omega (arith, s .pre .room, casebook-length (s .args .k) (s .args .left .now) (s .args .right .now) (s .args .run .now) (s .args .question .now)))
 

@@ -2,9 +2,10 @@
 use native.Mathlib.Omega.{arith}
 use mathlib.Core.Path.{refl}
 use lib.ListN.{length-set, length-take, length-drop}
+use Rattle.labels.proofs.Outputs.{front-length}
 use Rattle.casebook.specs.Records.{recordBytes}
 use Rattle.casebook.proofs.RecordLaws.{record-length}
-use Rattle.casebook.proofs.Writing.{record-put, put-length}
+use Rattle.casebook.proofs.Writing.{record-put}
 use borrow.Author.Needs.{needs}
 use Rattle.casebook.proofs.write.put_record.Statement.{statement}
 use Rattle.casebook.proofs.write.put_record.Tie as tie
@@ -45,7 +46,7 @@ copy-requires c κs = simp (length-take, length-drop, length-set) (omega (arith,
 same-length : tie.Need-same-length
 same-length c =
     let s = c .before .before .before .before .before .before in
-    put-length (s .args .out .now) _ (recordBytes (s .args .kind) (s .args .body .now)) (record-put (s .args .out .now) (s .args .body .now) _ (s .args .kind) _ _ (omega (arith, s .pre .0)) (s .pre .1) (omega arith) refl refl (c .before .before .copy .ensures .1)) (omega (arith, s .pre .0, record-length (s .args .kind) (s .args .body .now)))
+    front-length (recordBytes (s .args .kind) (s .args .body .now)) (s .args .out .now) _ (record-put (s .args .out .now) (s .args .body .now) _ (s .args .kind) _ _ (omega (arith, s .pre .0)) (s .pre .1) (omega arith) refl refl (c .before .before .copy .ensures .1)) (omega (arith, s .pre .0, record-length (s .args .kind) (s .args .body .now)))
 
 returns : tie.Need-returns
 returns c =

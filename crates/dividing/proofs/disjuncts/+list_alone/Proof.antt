@@ -12,7 +12,8 @@ use mathlib.Core.Path.{refl}
 use native.Mathlib.Omega.{arith}
 use lib.ListN.{length}
 use Rattle.labels.proofs.Slices.{rest-length}
-use Rattle.dividing.proofs.Pieces.{front-length, nothing, two-pieces, first-fits, second-fits, first-length, second-length}
+use Rattle.labels.proofs.Outputs.{front-length}
+use Rattle.dividing.proofs.Pieces.{nothing, two-pieces, first-fits, second-fits, first-length, second-length}
 use Rattle.dividing.proofs.Listing.{alone-none, alone-skip, alone-more}
 
 abbrev μ-list-alone : Measures 2 list-alone-kinds.ps ℕ

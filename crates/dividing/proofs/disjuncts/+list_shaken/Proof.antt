@@ -15,7 +15,8 @@ use borrow.Author.Needs.{needs}
 use Rattle.labels.specs.Labels.{pairing}
 use lib.ListN.{length}
 use Rattle.labels.proofs.Slices.{rest-length}
-use Rattle.dividing.proofs.Pieces.{front-length, nothing, two-pieces, first-fits, second-fits, first-length, second-length}
+use Rattle.labels.proofs.Outputs.{front-length}
+use Rattle.dividing.proofs.Pieces.{nothing, two-pieces, first-fits, second-fits, first-length, second-length}
 use Rattle.dividing.proofs.Listing.{shaken-none, shaken-skip, shaken-more}
 
 abbrev μ-list-shaken : Measures 2 list-shaken-kinds.ps ℕ

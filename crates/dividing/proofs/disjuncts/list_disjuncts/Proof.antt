@@ -7,11 +7,11 @@ use mathlib.Core.List.{List, [], _∷_}
 use Prim.Native.Nat.{ℕ}
 use native.Mathlib.Omega.{arith}
 use borrow.Author.Tests.{not-true, not-false}
-use Rattle.tables.specs.Tables.{rowsOf, rowsFrom, bytesOf, tableOf, movesIn, Rising}
+use Rattle.tables.specs.Tables.{rowsOf, rowsFrom, bytesOf, tableOf, movesIn, Rising, SoundTable}
 use Rattle.tables.proofs.Searching.{leaving-moves}
-use Rattle.tables.proofs.SoundTables.{SoundTable}
 use Rattle.dividing.specs.Working.{aloneIn}
-use Rattle.dividing.proofs.Pieces.{joined, front-length, one-piece, two-pieces, second-fits, second-length}
+use Rattle.labels.proofs.Outputs.{front-length}
+use Rattle.dividing.proofs.Pieces.{joined, one-piece, two-pieces, second-fits, second-length}
 use Rattle.dividing.proofs.Listing.{idle-listed, label-listed, silent-listed, alone-room, listed-fits}
 
 -- the rows that were found have the moves of the state

@@ -4,7 +4,7 @@ use Rattle.dividing.proofs.disjuncts.put_disjunct.Statement.{statement}
 use Rattle.dividing.proofs.disjuncts.put_disjunct.Tie as tie
 use native.Mathlib.Omega.{arith}
 use lib.ListN.{length-set}
-use Rattle.dividing.proofs.Pieces.{put-four}
+use Rattle.labels.proofs.Outputs.{put-four}
 
 slice-write-out : tie.Need-slice-write-out
 slice-write-out c = search needs

@@ -5,7 +5,7 @@ use Rattle.dividing.proofs.divide.write_quotient.Tie as tie
 use mathlib.Core.Path.{refl, sym, _∙_}
 use native.Mathlib.Omega.{arith}
 use Rattle.halves.proofs.HalfRuns.{accepted-half}
-use Rattle.dividing.proofs.Pieces.{front-length}
+use Rattle.labels.proofs.Outputs.{front-length}
 use Rattle.labels.proofs.Slices.{copied}
 use Rattle.dividing.proofs.Division.{question-ready, sure-fits, answer-large, answer-short, counted-fits, text-fits, answer-written}
 

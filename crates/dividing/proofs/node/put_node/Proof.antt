@@ -2,7 +2,7 @@
 use borrow.Author.Needs.{needs}
 use Rattle.dividing.proofs.node.put_node.Statement.{statement}
 use Rattle.dividing.proofs.node.put_node.Tie as tie
-use Rattle.dividing.proofs.Pieces.{put-two}
+use Rattle.labels.proofs.Outputs.{put-two}
 
 slice-write-out : tie.Need-slice-write-out
 slice-write-out c = search needs

@@ -5,12 +5,12 @@ use mathlib.Core.Path.{_≡_, refl, sym, _∙_}
 use native.Mathlib.Omega.{arith}
 use native.Mathlib.Nat.{mod-lt}
 use borrow.Author.Needs.{needs}
-use Rattle.sheet_lines.specs.Working.{Filled, Known, Scratch, endingIn, lineBy}
+use Rattle.sheet_lines.specs.Working.{Filled, EndingsKnown, Scratch, endingIn, lineBy}
 use Rattle.sheet_lines.proofs.Filling.{kept, filled-none, filled-end}
 use Rattle.sheet_lines.proofs.PointTurns.{ending-within, turn-known, turn-done, turn-full, scratch-kept}
 
 abbrev Inv-loop : tie.InvT-loop
-Inv-loop k left right window question point number until at out₀ froms₀ ends₀ halves text₀ line₀ after n₀ to₀ out froms ends text line n to = Filled (lineBy k left right window question point) out₀ at number until out to n × Known (endingIn k left right window question (point .letter)) (point .ways) froms ends out to × Scratch froms ends text line
+Inv-loop k left right window question point number until at out₀ froms₀ ends₀ halves text₀ line₀ after n₀ to₀ out froms ends text line n to = Filled (lineBy k left right window question point) out₀ at number until out to n × EndingsKnown (endingIn k left right window question (point .letter)) (point .ways) froms ends out to × Scratch froms ends text line
 
 abbrev μ-loop : tie.MeasureT-loop
 μ-loop k left right window question point number until at out₀ froms₀ ends₀ halves text₀ line₀ after n₀ to₀ out froms ends text line n to = until - n

@@ -12,7 +12,8 @@ use Rattle.labels.proofs.Slices.{rest-length}
 use Rattle.halves.specs.Halves.{halfOf}
 use Rattle.halves.proofs.HalfBuffers.{half-longer, put-two-back}
 use Rattle.dividing.specs.Working.{firstText}
-use Rattle.dividing.proofs.Pieces.{front-length, joined, two-pieces, first-fits, second-fits, second-length}
+use Rattle.labels.proofs.Outputs.{front-length}
+use Rattle.dividing.proofs.Pieces.{joined, two-pieces, first-fits, second-fits, second-length}
 use Rattle.dividing.proofs.Readiness.{longer-ready}
 use Rattle.dividing.proofs.Forwards.{listed-room, listed-keeps, listed-rest, texts-last, texts-more, first-text}
 use Rattle.dividing.proofs.write.+write_disjunct+write_disjuncts+write_forward+write_modal+write_tree.Proof.Measures.{write-disjunct-at, write-disjuncts-at, write-disjunct-claims, write-disjuncts-claims}

@@ -9,7 +9,8 @@ use Rattle.labels.proofs.Slices.{rest-length}
 use Rattle.halves.specs.Halves.{halfOf}
 use Rattle.halves.proofs.HalfBuffers.{half-last}
 use Rattle.formulas.proofs.Operators.{node-room}
-use Rattle.dividing.proofs.Pieces.{front-length, taken, piece-within, piece-length}
+use Rattle.labels.proofs.Outputs.{front-length}
+use Rattle.dividing.proofs.Pieces.{taken, piece-within, piece-length}
 use Rattle.dividing.proofs.Listing.{listed-fits}
 use Rattle.dividing.proofs.Readiness.{forward-ready}
 use Rattle.dividing.proofs.Forwards.{forward-texts, forward-listed}

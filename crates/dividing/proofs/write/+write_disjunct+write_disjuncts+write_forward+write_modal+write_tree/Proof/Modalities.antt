@@ -11,7 +11,8 @@ use Rattle.labels.proofs.Slices.{rest-length}
 use Rattle.halves.specs.Halves.{halfOf}
 use Rattle.formulas.proofs.Operators.{node-room}
 use Rattle.formulas.proofs.Operands.{back-operator}
-use Rattle.dividing.proofs.Pieces.{front-length, one-piece, two-pieces, second-fits, second-length}
+use Rattle.labels.proofs.Outputs.{front-length}
+use Rattle.dividing.proofs.Pieces.{one-piece, two-pieces, second-fits, second-length}
 use Rattle.dividing.proofs.Readiness.{back-ready}
 use Rattle.dividing.proofs.Texts as texts
 use Rattle.dividing.proofs.write.+write_disjunct+write_disjuncts+write_forward+write_modal+write_tree.Proof.Measures.{write-modal-at, write-modal-claims}

@@ -11,7 +11,8 @@ use Rattle.halves.specs.Halves.{halfOf}
 use Rattle.formulas.proofs.Operators.{node-room}
 use Rattle.formulas.proofs.Operands.{size-read, second-room, connective-operator}
 use Rattle.dividing.specs.Working.{text}
-use Rattle.dividing.proofs.Pieces.{front-length, one-piece, joined, two-pieces, second-fits, second-length}
+use Rattle.labels.proofs.Outputs.{front-length}
+use Rattle.dividing.proofs.Pieces.{one-piece, joined, two-pieces, second-fits, second-length}
 use Rattle.dividing.proofs.Readiness.{inner, inner-ready, second-ready}
 use Rattle.dividing.proofs.Texts as texts
 use Rattle.dividing.proofs.write.+write_disjunct+write_disjuncts+write_forward+write_modal+write_tree.Proof.Measures.{write-tree-at, write-tree-claims}

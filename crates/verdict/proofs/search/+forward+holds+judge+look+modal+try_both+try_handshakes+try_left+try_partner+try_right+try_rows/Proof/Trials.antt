@@ -10,7 +10,7 @@ use lib.ListN.{length, take}
 use Rattle.hml.specs.System.{_▸_}
 use Rattle.halves.specs.Runs.{stepOf}
 use Rattle.machines.specs.Joints.{jointOf}
-use Rattle.formulas.specs.Working.{treeOf}
+use Rattle.formulas.specs.Trees.{treeOf}
 use Rattle.formulas.proofs.Operators.{node-room}
 use Rattle.machines.proofs.Buffers.{put-back, length-put, longer-run, held-longer}
 use Rattle.verdict.specs.Working.{judged, pairOf, targetsOf}

@@ -1,9 +1,9 @@
--- What the functions of joining promise each other. No public promise cites this file.
+-- What functions inside the crate promise each other. No public promise cites this file.
 use Prim.Native.Nat.{ℕ, _+_, _*_}
 use mathlib.Core.Bool.{cond}
-use mathlib.Core.List.{List, [], _∷_, _++_}
+use mathlib.Core.List.{List, [], _∷_}
 use mathlib.Core.Option.{Option, none, some}
-use lib.ListN.{length, getD, drop}
+use lib.ListN.{length, getD}
 use lib.Dec.{eqb}
 use Rattle.hml.specs.Lists.{guard}
 use Rattle.hml.specs.System.{Pairing}
@@ -15,7 +15,6 @@ use Rattle.tables.specs.Tables.{checkTable}
 use Rattle.halves.specs.Halves.{checkHalf}
 use Rattle.halves.proofs.HalfBuffers.{HeldHalf}
 use Rattle.machines.proofs.Buffers.{put}
-use Rattle.joining.specs.Joinings.{joinBytes}
 use Rattle.joining.specs.declared.join.JointLabel.{JointLabel}
 use Rattle.joining.specs.declared.join.JointLabel.the-variants as joint
 
@@ -43,7 +42,3 @@ putLabelled (some c) out n p q = put out n c p q
 
 unfoldable pub putJointStep : ℕ → List ℕ → List ℕ → ℕ → List ℕ → List ℕ
 putJointStep k a b i out = putLabelled (jointLabel (pairs k) (getD a (2 * i + 1) 0) (getD b (2 * i + 1) 0)) out (3 * i + 2) (getD a (2 * i + 2) 0) (getD b (2 * i + 2) 0)
-
--- the lent output with the joint run in front
-unfoldable pub wholeRun : ℕ → List ℕ → List ℕ → List ℕ → List ℕ
-wholeRun k a b out = joinBytes k a b ++ drop (length (joinBytes k a b)) out
