@@ -1,6 +1,6 @@
 -- The fields of a line, as they are written one after the other.
 use Prim.Native.Nat.{ℕ, zero, suc, _+_, _-_, _≤_, _<_}
-use mathlib.Core.Path.{_≡_, refl, sym, _∙_, ap}
+use mathlib.Core.Path.{_≡_, refl, _∙_, ap}
 use mathlib.Core.Bool.{Bool, true, false}
 use mathlib.Core.List.{List, [], _∷_, _++_, append-assoc}
 use native.Mathlib.Omega.{arith}
@@ -14,7 +14,7 @@ use Rattle.labels.specs.declared.refusal.Refusal.the-variants as refusal
 use Rattle.sheet_lines.specs.Digits.{decimal}
 use Rattle.sheet_lines.specs.Sheets.{blank, lineFeed, headOf, refusedLine}
 use Rattle.sheet_lines.specs.Working.{putAt}
-use Rattle.sheet_lines.proofs.DigitLaws.{count-small, count-2, count-few}
+use Rattle.sheet_lines.proofs.DigitLaws.{count-small, count-2}
 use Rattle.sheet_lines.proofs.Puts.{put-two, behind-piece, behind-one, behind-three}
 
 -- numbers of refusals have two digits at most

@@ -7,6 +7,7 @@ use native.Mathlib.Omega.{arith}
 use native.Mathlib.Nat.{mod-lt, div-add-mod', mul-add-div-right, div-eq-of-lt}
 use lib.ListN.{length, getD, set, take, drop, length-append, length-set}
 use lib.Dec.{eqb, leb, ltb}
+use lib.Seq.{take-at}
 use borrow.Author.Tests.{eq-eqb, ne-eqb, lt-ltb, le-ltb, eqb-false, ltb-true, leb-true}
 use borrow.Rule.Slice.PartMut.{putMid}
 use Rattle.labels.proofs.Slices.{rest}
@@ -32,12 +33,7 @@ module _ (e : ℕ → List ℕ) (ways : ℕ) (froms ends out : List ℕ) (at t :
 
 -- bytes copied behind the first 14 of a line
 pub copied-ending : (line b d : List ℕ) (n : ℕ) → n ≡ length b → 14 + length b ≤ length line → d ≡ take (length b) b ++ drop (length b) (rest 14 line) → take n (drop 14 (putMid 14 (length line - 14) line d)) ≡ b
-copied-ending line b d n z h g =
-    ap (λ o. take n (drop 14 o)) (rest-copied line b d 14 h g) ∙ ap (take n) (drop-put line 14 b h) ∙ ap (λ m. take m (b ++ drop (14 + length b) line)) z ∙ take-front b (drop (14 + length b) line)
-  where
-    take-front : (a c : List ℕ) → take (length a) (a ++ c) ≡ a
-    take-front [] c = refl
-    take-front (x ∷ a) c = ap (x ∷_) (take-front a c)
+copied-ending line b d n z h g = ap (λ o. take n (drop 14 o)) (rest-copied line b d 14 h g) ∙ ap (take n) (drop-put line 14 b h) ∙ take-at b (drop (14 + length b) line) n (sym z)
 
 -- bytes made there
 pub made-ending : (line d : List ℕ) (n : ℕ) (b : List ℕ) → 14 ≤ length line → take n d ≡ b → take n (drop 14 (putMid 14 (length line - 14) line d)) ≡ b

@@ -9,7 +9,7 @@ use lib.Dec.{ltb}
 use lib.Seq.{take-at, take-add, take-take, drop-at, drop-drop}
 use borrow.Author.Tests.{ltb-true, ltb-false, lt-ltb, le-ltb}
 use Rattle.sheet_lines.specs.Digits.{decimal}
-use Rattle.sheet_lines.specs.Sheets.{blank, headOf, listed, fitting, bytesOf}
+use Rattle.sheet_lines.specs.Sheets.{blank, headOf, listed, fitting}
 use Rattle.sheet_lines.specs.Working.{putAt, lineWith, digitLine, Headed, Tens, Filled, Full}
 use Rattle.sheet_lines.specs.declared.point.Point.{Point}
 use Rattle.sheet_lines.proofs.DigitLaws.{decimal-small, decimal-more}

@@ -16,7 +16,7 @@ ghost use Rattle.machines.specs.Joints.{jointOf};
 ghost use Rattle.splitting.specs.Splittings.{splittingsOf, splittingLimit, countOf};
 ghost use Rattle.formulas.specs.Backs.{backsOf};
 ghost use Rattle.sheet_lines.specs.Sheets.{letterOf, lineOf, listed, fitting};
-ghost use Rattle.sheet_lines.specs.Working.{Asked, Full, countedAs, afterOf, Forgotten, Scratch, endingIn, lineWith, lineBy, EndingsKnown, Shared, fromsAfter, endsAfter};
+ghost use Rattle.sheet_lines.specs.Working.{Asked, Full, countedAs, afterOf, Forgotten, Scratch, endingIn, lineBy, EndingsKnown, Shared, fromsAfter, endsAfter};
 
 // What the lines of a point share: the point's number, the joint verdict's letter, how many splittings there are of its window, the steps before it by
 // which quotients differ, and of what follows it, and how the halves of the window's splittings are kept.

@@ -4,9 +4,10 @@ use std::ffi::OsStr;
 
 use yenuslap::{
     count_splittings, cut, line_office, quotient, quotient_of_splitting, read_casebook, split,
-    Casebook, Refusal, Side, Verdicts,
+    Casebook, Refusal, Side, Verdicts, MOST_HALF, MOST_QUOTIENT,
 };
 
+use super::answer::answer;
 use super::contents::steps;
 use super::explain::explain_casebook;
 use super::failure::Failure;
@@ -14,7 +15,6 @@ use super::faults::{first_refused, Item, Part};
 use super::half_faults::{explain_half, explain_match};
 use super::input::{read_bytes, shown_name};
 use super::judge;
-use super::sizes;
 use super::words::counted;
 
 /// A file that was read.
@@ -99,7 +99,7 @@ impl Book<'_> {
     /// The splitting of a number.
     pub fn splitting(&self, number: usize) -> Result<Halves, Failure> {
         let parts = &self.parts;
-        let (mut left, mut right) = (vec![0; sizes::HALF], vec![0; sizes::HALF]);
+        let (mut left, mut right) = (vec![0; MOST_HALF], vec![0; MOST_HALF]);
         let length = split(
             parts.k,
             parts.left,
@@ -123,39 +123,24 @@ impl Book<'_> {
         point: usize,
     ) -> Result<Vec<u8>, Refusal> {
         let parts = &self.parts;
-        let mut out = vec![0; sizes::QUOTIENT];
-        let length = quotient(
-            parts.k,
-            parts.left,
-            parts.right,
-            &halves.left,
-            &halves.right,
-            parts.question,
-            side,
-            point,
-            &mut out,
-        )?;
-        out.truncate(length);
-        Ok(out)
+        answer(MOST_QUOTIENT, |out| {
+            let (k, left, right) = (parts.k, parts.left, parts.right);
+            let (left_half, right_half) = (&halves.left, &halves.right);
+            let question = parts.question;
+            quotient(
+                k, left, right, left_half, right_half, question, side, point, out,
+            )
+        })
     }
 
     /// The quotient of the question by the known half of a splitting, stopped at a point.
     pub fn quotient(&self, number: usize, side: Side, point: usize) -> Result<Vec<u8>, Refusal> {
         let parts = &self.parts;
-        let mut out = vec![0; sizes::QUOTIENT];
-        let length = quotient_of_splitting(
-            parts.k,
-            parts.left,
-            parts.right,
-            parts.run,
-            parts.question,
-            number,
-            side,
-            point,
-            &mut out,
-        )?;
-        out.truncate(length);
-        Ok(out)
+        answer(MOST_QUOTIENT, |out| {
+            let (k, left, right) = (parts.k, parts.left, parts.right);
+            let (run, question) = (parts.run, parts.question);
+            quotient_of_splitting(k, left, right, run, question, number, side, point, out)
+        })
     }
 
     /// The line's verdict and the machine's under the quotient.

@@ -1,11 +1,10 @@
 //! Why two halves are refused, and where: asked of the engine by beginnings of them.
 
-use yenuslap::{join, Casebook};
+use yenuslap::{join, Casebook, MOST_RUN};
 
 use super::contents::{half_steps, start_state, states, HALF_HEAD, HALF_STEP, IDLE_LABEL};
 use super::faults::{first_refused, Item};
 use super::judge;
-use super::sizes;
 use super::words::counted;
 
 /// The number of halves that do not match.
@@ -93,7 +92,7 @@ pub fn explain_match(book: &Casebook, left: &[u8], right: &[u8]) -> String {
 
 /// Does the engine say that the halves do not match?
 fn no_match(book: &Casebook, left: &[u8], right: &[u8]) -> bool {
-    let mut out = [0; sizes::LOG];
+    let mut out = [0; MOST_RUN];
     let joined = join(book.k, book.left, book.right, left, right, &mut out);
     joined.is_err_and(|refusal| refusal.number() == NO_MATCH)
 }

@@ -4,12 +4,13 @@ use std::ffi::{OsStr, OsString};
 use std::fs::File;
 use std::io::{self, Read};
 
+use yenuslap::MOST_CASEBOOK;
+
 use super::arguments::usage;
 use super::failure::{misused, reason, Failure};
-use super::sizes;
 
 /// One byte more than the longest casebook: enough to judge a file of any size.
-const CASEBOOK_BYTES: u64 = sizes::CASEBOOK as u64 + 1;
+const CASEBOOK_BYTES: u64 = MOST_CASEBOOK as u64 + 1;
 
 /// The longest text that is read. The text form of the largest casebook has some 20,000 bytes.
 const TEXT_BYTES: u64 = 1 << 20;

@@ -1,14 +1,14 @@
 //! `yenuslap join`: two halves joined to their log on a casebook's machines.
 
-use yenuslap::join;
+use yenuslap::{join, MOST_RUN};
 
+use super::answer::answer;
 use super::arguments::{usage, Arguments};
 use super::asked::halves;
 use super::book::{Book, Halves, Loaded};
 use super::failure::{Ending, Failure};
 use super::hex;
 use super::output::Output;
-use super::sizes;
 use super::text_form::log_section;
 
 /// Joins the two halves and prints their log.
@@ -30,9 +30,8 @@ pub fn run(arguments: &Arguments, out: &mut Output) -> Result<Ending, Failure> {
 fn joined(book: &Book, halves: &Halves) -> Result<Vec<u8>, Failure> {
     let parts = &book.parts;
     let (left, right) = (&halves.left, &halves.right);
-    let mut out = vec![0; sizes::LOG];
-    let length = join(parts.k, parts.left, parts.right, left, right, &mut out)
-        .map_err(|refusal| book.refused_halves(refusal, halves))?;
-    out.truncate(length);
-    Ok(out)
+    answer(MOST_RUN, |out| {
+        join(parts.k, parts.left, parts.right, left, right, out)
+    })
+    .map_err(|refusal| book.refused_halves(refusal, halves))
 }

@@ -1,5 +1,6 @@
 //! The subcommands, and everything that they share.
 
+mod answer;
 mod arguments;
 mod asked;
 mod book;
@@ -24,7 +25,6 @@ mod quotient;
 mod records;
 mod sheet;
 mod show;
-mod sizes;
 mod split;
 mod statement;
 mod statement_parser;

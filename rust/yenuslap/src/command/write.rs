@@ -4,14 +4,14 @@ use std::ffi::OsStr;
 use std::fs;
 use std::io::{self, IsTerminal};
 
-use yenuslap::{write_casebook, Casebook, Refusal};
+use yenuslap::{write_casebook, Casebook, Refusal, MOST_CASEBOOK};
 
+use super::answer::answer;
 use super::arguments::{usage, Arguments};
 use super::failure::{misused, reason, Ending, Failure};
 use super::faults::{find_fault, Fault, Item, Part};
 use super::input::{is_standard, read_text, shown_name};
 use super::output::Output;
-use super::sizes;
 use super::text_parser::{parse_text, Draft, Section};
 use super::tokens::Place;
 
@@ -48,18 +48,11 @@ fn casebook_of(name: &str, text: &str) -> Result<Vec<u8>, Failure> {
         Err(error) => return misused(format!("{name}: {error}")),
     };
     let parts = parts_of(&draft);
-    let mut out = vec![0; sizes::CASEBOOK];
-    let written = write_casebook(
-        parts.k,
-        parts.left,
-        parts.right,
-        parts.run,
-        parts.question,
-        &mut out,
-    );
-    let length = written.map_err(|refusal| refused(name, &draft, refusal))?;
-    out.truncate(length);
-    Ok(out)
+    answer(MOST_CASEBOOK, |out| {
+        let (left, right) = (parts.left, parts.right);
+        write_casebook(parts.k, left, right, parts.run, parts.question, out)
+    })
+    .map_err(|refusal| refused(name, &draft, refusal))
 }
 
 /// The parts that a text has.

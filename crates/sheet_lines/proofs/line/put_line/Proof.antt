@@ -4,7 +4,6 @@ use Rattle.sheet_lines.proofs.line.put_line.Tie as tie
 use Prim.Native.Nat.{_+_}
 use mathlib.Core.Path.{_∙_, ap}
 use lib.ListN.{set}
-use native.Mathlib.Omega.{arith}
 use Rattle.sheet_lines.proofs.Puts.{put-set, rest-copied}
 
 sub-copy : tie.Need-sub-copy

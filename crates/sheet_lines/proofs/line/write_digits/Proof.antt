@@ -1,10 +1,9 @@
 use Rattle.sheet_lines.proofs.line.write_digits.Statement.{statement}
 use Rattle.sheet_lines.proofs.line.write_digits.Tie as tie
 use Prim.Native.Nat.{_+_, _-_, _%_}
-use mathlib.Core.Path.{_≡_, _∙_}
+use mathlib.Core.Path.{_≡_}
 use native.Mathlib.Omega.{arith}
 use Rattle.sheet_lines.specs.Working.{Filled, digitLine}
-use Rattle.sheet_lines.proofs.Puts.{put-kept}
 use Rattle.sheet_lines.proofs.Filling.{kept, filled-none, filled-end}
 use Rattle.sheet_lines.proofs.TurnLaws.{tens-few, digits-more, digits-stop}
 

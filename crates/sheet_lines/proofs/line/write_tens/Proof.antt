@@ -1,7 +1,6 @@
 use borrow.Author.Needs.{needs}
 use Rattle.sheet_lines.proofs.line.write_tens.Statement.{statement}
 use Rattle.sheet_lines.proofs.line.write_tens.Tie as tie
-use mathlib.Core.Path.{_∙_}
 use native.Mathlib.Omega.{arith}
 use Rattle.sheet_lines.proofs.LineLaws.{length-head}
 use Rattle.sheet_lines.proofs.TurnLaws.{tens-few, put-longer, put-lines, ending-kept}

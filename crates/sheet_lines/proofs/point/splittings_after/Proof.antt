@@ -1,7 +1,6 @@
 use borrow.Author.Needs.{needs}
 use Rattle.sheet_lines.proofs.point.splittings_after.Statement.{statement}
 use Rattle.sheet_lines.proofs.point.splittings_after.Tie as tie
-use native.Mathlib.Omega.{arith}
 use Rattle.sheet_lines.proofs.PointLaws.{after-one, after-more}
 
 returns : tie.Need-returns

@@ -1,7 +1,7 @@
 use borrow.Author.Needs.{needs}
 use Rattle.sheet_lines.proofs.point.take_ending.Statement.{statement}
 use Rattle.sheet_lines.proofs.point.take_ending.Tie as tie
-use mathlib.Core.Path.{sym, _∙_, ap}
+use mathlib.Core.Path.{_∙_, ap}
 use native.Mathlib.Omega.{arith}
 use lib.ListN.{length}
 use Rattle.labels.proofs.Slices.{rest-length}

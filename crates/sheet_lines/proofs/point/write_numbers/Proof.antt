@@ -1,7 +1,7 @@
 use Rattle.sheet_lines.proofs.point.write_numbers.Statement.{statement}
 use Rattle.sheet_lines.proofs.point.write_numbers.Tie as tie
 use Prim.Native.Nat.{_-_}
-use mathlib.Core.Path.{_≡_, refl, sym, _∙_}
+use mathlib.Core.Path.{refl, sym, _∙_}
 use native.Mathlib.Omega.{arith}
 use native.Mathlib.Nat.{mod-lt}
 use borrow.Author.Needs.{needs}
