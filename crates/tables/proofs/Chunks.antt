@@ -2,7 +2,8 @@
 use Prim.Native.Nat.{ℕ, zero, suc, _+_, _*_, _/_, _%_, _<_}
 use mathlib.Core.Path.{_≡_, refl, sym, _∙_, ap}
 use mathlib.Core.List.{List, [], _∷_, _++_, map, append-nil, append-assoc}
-use native.Mathlib.Nat.{mul-zero, mul-suc, add-comm, mul-add-mod-self-right, mod-eq-of-lt, mul-add-div-right, div-eq-of-lt}
+use native.Mathlib.Nat.{mul-zero, mul-suc, add-comm, mul-add-mod-self-right, mod-eq-of-lt, mul-add-div-right}
+use native.Mathlib.Nat.{div-eq-of-lt}
 use native.Mathlib.Omega.{arith}
 use lib.ListN.{length, take, drop, length-append, length-take, length-drop}
 use lib.Seq.{take-nil, drop-nil, take-append-add, drop-append-add}
@@ -62,15 +63,20 @@ module _ {B : Type 0} {k : ℕ} {g : B → List ℕ} {f : List ℕ → List B} (
   module _ (bs : List ℕ) where
     -- what is read behind n chunks is what is left behind the first n of what is read
     pub chunks-drop : (n : ℕ) → f (drop (k * n) bs) ≡ drop n (f bs)
-    chunks-drop n = let (rest, h, e) = chunks-split (c .every bs) in ap (λ (l : List ℕ). f (drop (k * n) l)) (sym e) ∙ drop-each (f bs) n rest h
+    chunks-drop n =
+        let (rest, h, e) = chunks-split (c .every bs) in
+        ap (λ (l : List ℕ). f (drop (k * n) l)) (sym e) ∙ drop-each (f bs) n rest h
 
     -- what is read of the first n chunks is the first n of what is read
     pub chunks-take : (n : ℕ) → f (take (k * n) bs) ≡ take n (f bs)
-    chunks-take n = let (rest, h, e) = chunks-split (c .every bs) in ap (λ (l : List ℕ). f (take (k * n) l)) (sym e) ∙ take-each (f bs) n rest h
+    chunks-take n =
+        let (rest, h, e) = chunks-split (c .every bs) in
+        ap (λ (l : List ℕ). f (take (k * n) l)) (sym e) ∙ take-each (f bs) n rest h
 
     -- the bytes: the chunks that are read, and fewer than k
     counted : (rest : List ℕ) → each g (f bs) ++ rest ≡ bs → length bs ≡ length (f bs) * k + length rest
-    counted rest e = ap length (sym e) ∙ length-append (each g (f bs)) rest ∙ ap (_+ length rest) (length-each g k (c .sized) (f bs))
+    counted rest e =
+        ap length (sym e) ∙ length-append (each g (f bs)) rest ∙ ap (_+ length rest) (length-each g k (c .sized) (f bs))
 
     -- there are as many chunks as the bytes have room for
     pub chunks-length : length (f bs) ≡ length bs / k
@@ -83,7 +89,8 @@ module _ {B : Type 0} {k : ℕ} {g : B → List ℕ} {f : List ℕ → List B} (
       pub chunks-whole : each g (f bs) ≡ bs
       chunks-whole =
           let (rest, h, e) = chunks-split (c .every bs) in
-          let z : length rest ≡ 0 = sym (mod-eq-of-lt h) ∙ sym (mul-add-mod-self-right (length (f bs)) k (length rest)) ∙ ap (_% k) (sym (counted rest e)) ∙ whole in
+          let z : length rest ≡ 0 = sym (mod-eq-of-lt h) ∙ sym (mul-add-mod-self-right (length (f bs)) k (length rest))
+          ∙ ap (_% k) (sym (counted rest e)) ∙ whole in
           sym (append-nil (each g (f bs))) ∙ ap (each g (f bs) ++_) (sym (no-bytes rest z)) ∙ e
 
       -- what stands after whole chunks is read after them
@@ -92,7 +99,8 @@ module _ {B : Type 0} {k : ℕ} {g : B → List ℕ} {f : List ℕ → List B} (
 
 -- the same chunks by another name
 pub chunks-map : {B C : Type 0} {k : ℕ} {g : B → List ℕ} {f : List ℕ → List B} (to : B → C) (from : C → B)
-    → ((b : B) → from (to b) ≡ b) → ((e : C) → to (from e) ≡ e) → Chunks k g f → Chunks k (λ e. g (from e)) (λ bs. map to (f bs))
+    → ((b : B) → from (to b) ≡ b) → ((e : C) → to (from e) ≡ e) → Chunks k g f
+    → Chunks k (λ e. g (from e)) (λ bs. map to (f bs))
 chunks-map {C = C} {k} {g} to from back forth c = record {
   some = c .some;
   sized = λ e. c .sized (from e);

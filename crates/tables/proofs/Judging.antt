@@ -13,7 +13,8 @@ use Rattle.hml.proofs.Tests.{apart}
 use Rattle.hml.specs.Machine.{Row}
 use Rattle.hml.specs.Labels.{count, positive}
 use Rattle.labels.specs.Refusals.{firstOf, thenOf, refusedIf}
-use Rattle.tables.specs.Tables.{inRange, rowBelow, aboveLast, leaving, checkRow, checkRows, checkTable, fitTable, fitStates, statesOf, rowsOf, rowOf, rowRead, rowStruct}
+use Rattle.tables.specs.Tables.{inRange, rowBelow, aboveLast, leaving, checkRow, checkRows, checkTable, fitTable}
+use Rattle.tables.specs.Tables.{fitStates, statesOf, rowsOf, rowOf, rowRead, rowStruct}
 use Rattle.labels.proofs.Refusals.{then-sound}
 use Rattle.tables.proofs.Rows.{below-from, rows-at}
 use Rattle.tables.specs.Working.{tripleOf, upTo, judgedBy, judged, Counted}
@@ -50,7 +51,8 @@ module _ (r s : Row) where
 
   pub by-target : r .0 ≡ s .0 → r .1 ≡ s .1 → ltb (r .2) (s .2) ≡ rowBelow r s
   unfolding rowBelow
-  by-target e f = rw (eq-eqb _ _ e, le-ltb (r .0) (s .0) (omega (arith, e)), eq-eqb _ _ f, le-ltb (r .1) (s .1) (omega (arith, f)))
+  by-target e f =
+      rw (eq-eqb _ _ e, le-ltb (r .0) (s .0) (omega (arith, e)), eq-eqb _ _ f, le-ltb (r .1) (s .1) (omega (arith, f)))
 
 -- the rows before the first are none, and before another its predecessor and those before that
 upTo-none : (t : List ℕ) (i : ℕ) → i ≡ 0 → upTo t i ≡ []
@@ -62,7 +64,8 @@ unfolding upTo
 upTo-last t zero n = absurd (n refl)
 upTo-last t (suc i) n = let e : suc i - 1 ≡ i = omega arith in rw e
 
-above-last : (t : List ℕ) (i : ℕ) → (i ≡ 0 → ⊥) → {b : Bool} → rowBelow (rowOf t (i - 1)) (rowOf t i) ≡ b → aboveLast (upTo t i) (rowOf t i) ≡ b
+above-last : (t : List ℕ) (i : ℕ) → (i ≡ 0 → ⊥) → {b : Bool} → rowBelow (rowOf t (i - 1)) (rowOf t i) ≡ b
+    → aboveLast (upTo t i) (rowOf t i) ≡ b
 unfolding aboveLast
 above-last t i n h = rw (upTo-last t i n) h
 
@@ -92,19 +95,27 @@ module _ (k n : ℕ) (t : List ℕ) (i : ℕ) where
       low-judged h = rw (fits, upTo-last t i some, h)
 
       module _ (rises : rowBelow (rowOf t (i - 1)) (rowOf t i) ≡ true) where
-        sound-judged : (m : ℕ) → leaving (rowOf t i .0) (upTo t i) ≡ m → m < 8 → judged-as.Leaving (1 + m) ≡ judged k n t i
+        sound-judged : (m : ℕ) → leaving (rowOf t i .0) (upTo t i) ≡ m → m < 8
+            → judged-as.Leaving (1 + m) ≡ judged k n t i
         unfolding judged judgedBy checkRow firstOf aboveLast
         sound-judged m e h = rw (e, fits, above-last t i some rises, lt-leb 8 m h)
 
-        pub new-judged : (e : ℕ) → Counted t i e → (rowOf t (i - 1) .0 ≡ rowOf t i .0 → ⊥) → judged-as.Leaving 1 ≡ judged k n t i
-        new-judged e h d = sound-judged 0 (counted-at t i e some h .1 (rowOf t i .0) (above-from _ _ (below-from _ _ rises) d)) (omega arith)
+        pub new-judged : (e : ℕ) → Counted t i e → (rowOf t (i - 1) .0 ≡ rowOf t i .0 → ⊥)
+            → judged-as.Leaving 1 ≡ judged k n t i
+        new-judged e h d =
+            sound-judged 0 (counted-at t i e some h .1 (rowOf t i .0) (above-from _ _ (below-from _ _ rises) d))
+            (omega arith)
 
-        pub more-judged : (e : ℕ) → Counted t i e → rowOf t (i - 1) .0 ≡ rowOf t i .0 → e < 8 → judged-as.Leaving (e + 1) ≡ judged k n t i
-        more-judged e h d few = ap judged-as.Leaving (omega arith) ∙ sound-judged e (rw (← d) (sym (counted-at t i e some h .0))) few
+        pub more-judged : (e : ℕ) → Counted t i e → rowOf t (i - 1) .0 ≡ rowOf t i .0 → e < 8
+            → judged-as.Leaving (e + 1) ≡ judged k n t i
+        more-judged e h d few =
+            ap judged-as.Leaving (omega arith) ∙ sound-judged e (rw (← d) (sym (counted-at t i e some h .0))) few
 
-        pub ninth-judged : (e : ℕ) → Counted t i e → rowOf t (i - 1) .0 ≡ rowOf t i .0 → 8 ≤ e → judged-as.Refused NinthRow ≡ judged k n t i
+        pub ninth-judged : (e : ℕ) → Counted t i e → rowOf t (i - 1) .0 ≡ rowOf t i .0 → 8 ≤ e
+            → judged-as.Refused NinthRow ≡ judged k n t i
         unfolding judged judgedBy checkRow firstOf aboveLast
-        ninth-judged e h d many = rw (fits, above-last t i some rises, ← d, ← counted-at t i e some h .0, le-leb 8 e many)
+        ninth-judged e h d many =
+            rw (fits, above-last t i some rises, ← d, ← counted-at t i e some h .0, le-leb 8 e many)
 
 -- what the code's tests on rows say of the table's rows
 module _ {x y : declared-row.Row} (r s : Row) (p : x ≡ rowStruct r) (q : y ≡ rowStruct s) where
@@ -131,7 +142,8 @@ module _ (t : List ℕ) (i : ℕ) where
   row-missing h = rw (le-ltb _ _ h)
 
 -- in rows of which none leaves a state above that of the last, none leaves one above that of a row that rises
-none-above : (t : List ℕ) (i e : ℕ) → Counted t i e → (p : ℕ) (r : Row) → r .0 < p → aboveLast (upTo t i) r ≡ true → leaving p (upTo t i) ≡ 0
+none-above : (t : List ℕ) (i e : ℕ) → Counted t i e → (p : ℕ) (r : Row) → r .0 < p → aboveLast (upTo t i) r ≡ true
+    → leaving p (upTo t i) ≡ 0
 unfolding upTo leaving aboveLast
 none-above t zero e c p r h a = refl
 none-above t (suc i) e c p r h a = c .1 p (omega (arith, below-from (rowOf t i) r a))
@@ -141,7 +153,10 @@ sound-above : (k n : ℕ) (before : List Row) (r : Row) → checkRow k n before 
 unfolding checkRow firstOf
 sound-above k n before r e = go (inRange k n r) (aboveLast before r) (leb 8 (leaving (r .0) before)) e
   where
-    go : (a b c : Bool) → thenOf (refusedIf (not a) OutOfRange) (thenOf (refusedIf (not b) RowNotAbove) (thenOf (refusedIf c NinthRow) check.Sound)) ≡ check.Sound → b ≡ true
+    go : (a b c : Bool)
+        → thenOf (refusedIf (not a) OutOfRange)
+        (thenOf (refusedIf (not b) RowNotAbove) (thenOf (refusedIf c NinthRow) check.Sound))
+        ≡ check.Sound → b ≡ true
     go true true c e = refl
     go true false c e = absurd (apart cc)
     go false b c e = absurd (apart cc)
@@ -175,23 +190,34 @@ module _ (k n : ℕ) (t : List ℕ) where
 
     module _ (h : i < length (rowsOf t)) where
       -- row i decides first
-      next-row : thenOf (checkRow k n (upTo t i) (rowOf t i)) (checkRows k n (upTo t (suc i)) (drop (suc i) (rowsOf t))) ≡ checkRows k n [] (rowsOf t)
+      next-row : thenOf (checkRow k n (upTo t i) (rowOf t i)) (checkRows k n (upTo t (suc i)) (drop (suc i) (rowsOf t)))
+          ≡ checkRows k n [] (rowsOf t)
       unfolding checkRows upTo
       next-row = rw (drop-cons (rowsOf t) i (0, 0, 0) h, rows-at t i h) at (g .decides)
 
-      pub going-stopped : (r : Refusal) → judged-as.Refused r ≡ judged k n t i → check.Refused r ≡ checkRows k n [] (rowsOf t)
+      pub going-stopped : (r : Refusal) → judged-as.Refused r ≡ judged k n t i
+          → check.Refused r ≡ checkRows k n [] (rowsOf t)
       unfolding judged
       going-stopped r j = rw (judged-refused (checkRow k n (upTo t i) (rowOf t i)) r _ j) at next-row
 
-      counted-next : (m : ℕ) → checkRow k n (upTo t i) (rowOf t i) ≡ check.Sound → m ≡ 1 + leaving (rowOf t i .0) (upTo t i) → Counted t (suc i) m
+      counted-next : (m : ℕ) → checkRow k n (upTo t i) (rowOf t i) ≡ check.Sound
+          → m ≡ 1 + leaving (rowOf t i .0) (upTo t i) → Counted t (suc i) m
       unfolding upTo leaving
-      counted-next m c q = (q ∙ rw (eq-eqb (rowOf t i .0) (rowOf t i .0) refl), λ p f. rw (ne-eqb (rowOf t i .0) p (λ z. omega (arith, f, z))) (omega (arith, none-above t i e (g .counted) p (rowOf t i) f (sound-above k n (upTo t i) (rowOf t i) c))))
+      counted-next m c q = (
+        q ∙ rw (eq-eqb (rowOf t i .0) (rowOf t i .0) refl),
+        λ p f. rw (ne-eqb (rowOf t i .0) p (λ z. omega (arith, f, z)))
+            (omega (arith, none-above t i e (g .counted) p (rowOf t i) f (sound-above k n (upTo t i) (rowOf t i) c))),
+      )
 
       pub going-on : (m : ℕ) → judged-as.Leaving m ≡ judged k n t i → Going k n t (i + 1) m
       unfolding judged
       going-on m j =
           let q = judged-sound (checkRow k n (upTo t i) (rowOf t i)) m _ j in
-          rw add-one (record { within = omega arith; counted = counted-next m (q .0) (q .1); decides = rw (q .0) at next-row })
+          rw add-one (record {
+            within = omega arith;
+            counted = counted-next m (q .0) (q .1);
+            decides = rw (q .0) at next-row;
+          })
 
 -- a table: which case of `checkTable` holds
 module _ (k : ℕ) (t : List ℕ) where
@@ -213,6 +239,14 @@ module _ (k : ℕ) (t : List ℕ) where
       unfolding checkTable firstOf fitTable fitStates
       many-states h = rw (eq-eqb _ _ fit, le-leb _ _ short, lt-leb (statesOf t) 64 h, and-false)
 
-      pub rows-decide : (statesOf t ≡ 0 → ⊥) → statesOf t ≤ 64 → (c : Check) → c ≡ checkRows k (statesOf t) [] (rowsOf t) → c ≡ checkTable k t
+      pub rows-decide : (statesOf t ≡ 0 → ⊥) → statesOf t ≤ 64 → (c : Check)
+          → c ≡ checkRows k (statesOf t) [] (rowsOf t) → c ≡ checkTable k t
       unfolding checkTable firstOf fitTable fitStates
-      rows-decide n h c e = rw (eq-eqb _ _ fit, le-leb _ _ short, le-leb 1 (statesOf t) (positive (statesOf t) n), le-leb (statesOf t) 64 h, then-sound) e
+      rows-decide n h c e =
+          rw (
+            eq-eqb _ _ fit,
+            le-leb _ _ short,
+            le-leb 1 (statesOf t) (positive (statesOf t) n),
+            le-leb (statesOf t) 64 h,
+            then-sound,
+          ) e

@@ -14,7 +14,8 @@ use Rattle.hml.specs.Lists.{same, _∈_, only, each}
 use Rattle.hml.proofs.Lists.{decided-any}
 use Rattle.hml.specs.System.{System}
 use Rattle.hml.specs.Machine.{Row, machine}
-use Rattle.tables.specs.Tables.{threes, rowsOf, among, hasMove, rowsFrom, bytesOf, rowBelow, leaving, Rising, none, one, more}
+use Rattle.tables.specs.Tables.{threes, rowsOf, rowOf, among, hasMove, rowsFrom, bytesOf, rowBelow, leaving}
+use Rattle.tables.specs.Tables.{Rising, none, one, more}
 use Rattle.tables.specs.Working.{below}
 use Rattle.tables.proofs.Chunks.{rowBytes, threes-chunks, chunks-length, chunks-whole, chunks-take, chunks-drop}
 
@@ -55,13 +56,16 @@ rising-tail one = none
 rising-tail (more e s) = s
 
 -- no row leaves a state below that of the first
-head-least : {r : Row} {rows : List Row} → Rising (r ∷ rows) → (i : ℕ) → i < length (r ∷ rows) → r .0 ≤ getD (r ∷ rows) i (0, 0, 0) .0
+head-least : {r : Row} {rows : List Row} → Rising (r ∷ rows) → (i : ℕ) → i < length (r ∷ rows)
+    → r .0 ≤ getD (r ∷ rows) i (0, 0, 0) .0
 head-least s zero h = omega arith
 head-least one (suc i) h = absurd (omega arith)
-head-least (more {r = r} {s = s} {rows = rows} e t) (suc i) h = omega (arith, below-from r s e, head-least t i (omega arith))
+head-least (more {r = r} {s = s} {rows = rows} e t) (suc i) h = omega
+    (arith, below-from r s e, head-least t i (omega arith))
 
 -- later rows leave no lower state
-pub froms-rise : {rows : List Row} → Rising rows → (i j : ℕ) → i ≤ j → j < length rows → getD rows i (0, 0, 0) .0 ≤ getD rows j (0, 0, 0) .0
+pub froms-rise : {rows : List Row} → Rising rows → (i j : ℕ) → i ≤ j → j < length rows
+    → getD rows i (0, 0, 0) .0 ≤ getD rows j (0, 0, 0) .0
 froms-rise {rows = []} s i j h k = absurd (omega arith)
 froms-rise {rows = r ∷ rows} s zero j h k = head-least s j k
 froms-rise {rows = r ∷ rows} s (suc i) zero h k = absurd (omega arith)
@@ -83,9 +87,17 @@ pub below-point : (p m : ℕ) (rows : List Row) → m ≤ length rows → ((i : 
 unfolding below
 below-point p m [] h lo hi = omega arith
 below-point p zero (r ∷ rows) h lo hi = rw (le-ltb (r .0) p (hi 0 (omega arith) (omega arith)))
-    (omega (arith, below-point p zero rows (omega arith) (λ i k. absurd (omega arith)) (λ i k l. hi (suc i) (omega arith) (omega arith))))
+    (omega (
+      arith,
+      below-point p zero rows (omega arith) (λ i k. absurd (omega arith))
+          (λ i k l. hi (suc i) (omega arith) (omega arith)),
+    ))
 below-point p (suc m) (r ∷ rows) h lo hi = rw (lt-ltb (r .0) p (lo 0 (omega arith)))
-    (omega (arith, below-point p m rows (omega arith) (λ i k. lo (suc i) (omega arith)) (λ i k l. hi (suc i) (omega arith) (omega arith))))
+    (omega (
+      arith,
+      below-point p m rows (omega arith) (λ i k. lo (suc i) (omega arith))
+          (λ i k l. hi (suc i) (omega arith) (omega arith)),
+    ))
 
 -- the rows below p + 1 are those below p and those that leave p
 pub span-size : (p : ℕ) (rows : List Row) → below (p + 1) rows ≡ below p rows + leaving p rows
@@ -101,7 +113,9 @@ span-size p (r ∷ rows) = go (placed (r .0) p) (span-size p rows)
 
 -- rows that rise from p on: none is below p
 none-below : (p : ℕ) {r : Row} {rows : List Row} → Rising (r ∷ rows) → p ≤ r .0 → below p rows ≡ 0
-none-below p {r} {rows} s h = sym (below-point p 0 rows (omega arith) (λ i k. absurd (omega arith)) (λ i k l. omega (arith, head-least s (suc i) (omega arith))))
+none-below p {r} {rows} s h =
+    sym (below-point p 0 rows (omega arith) (λ i k. absurd (omega arith))
+    (λ i k l. omega (arith, head-least s (suc i) (omega arith))))
 
 -- the rows before the count leave a state below p
 pub before-count : {rows : List Row} → Rising rows → (p i : ℕ) → i < below p rows → getD rows i (0, 0, 0) .0 < p
@@ -109,13 +123,29 @@ unfolding below
 before-count {rows = []} s p i h = absurd (omega arith)
 before-count {rows = r ∷ rows} s p i h = go (ltb (r .0) p) refl i h (before-count (rising-tail s) p)
   where
-    go : (a : Bool) → ltb (r .0) p ≡ a → (i : ℕ) → i < cond a 1 0 + below p rows → ((j : ℕ) → j < below p rows → getD rows j (0, 0, 0) .0 < p) → getD (r ∷ rows) i (0, 0, 0) .0 < p
+    go : (a : Bool) → ltb (r .0) p ≡ a → (i : ℕ) → i < cond a 1 0 + below p rows
+        → ((j : ℕ) → j < below p rows → getD rows j (0, 0, 0) .0 < p) → getD (r ∷ rows) i (0, 0, 0) .0 < p
     go false e i h later = absurd (omega (arith, none-below p s (ltb-false (r .0) p e)))
     go true e zero h later = ltb-true (r .0) p e
     go true e (suc i) h later = later i (omega arith)
 
+-- and those from the count on do not
+pub after-count : {rows : List Row} → Rising rows → (p i : ℕ) → below p rows ≤ i → i < length rows
+    → p ≤ getD rows i (0, 0, 0) .0
+unfolding below
+after-count {rows = []} s p i h k = absurd (omega arith)
+after-count {rows = r ∷ rows} s p i h k = go (ltb (r .0) p) refl i h k (after-count (rising-tail s) p)
+  where
+    go : (a : Bool) → ltb (r .0) p ≡ a → (i : ℕ) → cond a 1 0 + below p rows ≤ i → i < suc (length rows)
+        → ((j : ℕ) → below p rows ≤ j → j < length rows → p ≤ getD rows j (0, 0, 0) .0)
+        → p ≤ getD (r ∷ rows) i (0, 0, 0) .0
+    go false e i h k later = omega (arith, ltb-false (r .0) p e, head-least s i k)
+    go true e zero h k later = absurd (omega arith)
+    go true e (suc i) h k later = later i (omega arith) (omega arith)
+
 -- in rows that rise, those that leave p stand together, behind those that leave a lower state
-pub span-rows : {rows : List Row} → Rising rows → (p : ℕ) → rowsFrom p rows ≡ take (leaving p rows) (drop (below p rows) rows)
+pub span-rows : {rows : List Row} → Rising rows → (p : ℕ)
+    → rowsFrom p rows ≡ take (leaving p rows) (drop (below p rows) rows)
 unfolding rowsFrom below leaving only
 span-rows {rows = []} s p = refl
 span-rows {rows = r ∷ rows} s p = go (placed (r .0) p) (span-rows (rising-tail s) p)
@@ -125,7 +155,8 @@ span-rows {rows = r ∷ rows} s p = go (placed (r .0) p) (span-rows (rising-tail
     go (under h) e = rw (zero-add, one-add) e
     go (level h) e = let z = none-below p s (omega arith) in rw (one-add, z) (ap (r ∷_) (rw z at e))
     go (over h) e =
-        let y : leaving p rows ≡ 0 = omega (arith, span-size p rows, none-below p s (omega arith), none-below (p + 1) s (omega arith)) in
+        let y : leaving p rows ≡ 0 = omega
+        (arith, span-size p rows, none-below p s (omega arith), none-below (p + 1) s (omega arith)) in
         let w : 0 + leaving p rows ≡ 0 = omega (arith, y) in
         rw w (rw y at e)
 
@@ -141,7 +172,8 @@ moves-from p (r ∷ rows) = go (same (r .0) p) (moves-from p rows)
     go false e = e
 
 -- row i is the three bytes from 3 i on
-pub threes-at : (l : List ℕ) (i : ℕ) → i < length (threes l) → getD (threes l) i (0, 0, 0) ≡ (getD l (3 * i) 0, getD l (3 * i + 1) 0, getD l (3 * i + 2) 0)
+pub threes-at : (l : List ℕ) (i : ℕ) → i < length (threes l)
+    → getD (threes l) i (0, 0, 0) ≡ (getD l (3 * i) 0, getD l (3 * i + 1) 0, getD l (3 * i + 2) 0)
 unfolding threes
 threes-at [] i h = absurd (omega arith)
 threes-at (f ∷ []) i h = absurd (omega arith)
@@ -160,45 +192,41 @@ length-rows [] = refl
 length-rows (n ∷ l) = rw (chunks-length threes-chunks l) (omega arith)
 
 -- a table's row i is the three bytes from 3 i + 1 on
-pub rows-at : (t : List ℕ) (i : ℕ) → i < length (rowsOf t) → getD (rowsOf t) i (0, 0, 0) ≡ (getD t (3 * i + 1) 0, getD t (3 * i + 1 + 1) 0, getD t (3 * i + 1 + 2) 0)
+pub rows-at : (t : List ℕ) (i : ℕ) → i < length (rowsOf t)
+    → getD (rowsOf t) i (0, 0, 0) ≡ (getD t (3 * i + 1) 0, getD t (3 * i + 1 + 1) 0, getD t (3 * i + 1 + 2) 0)
 unfolding rowsOf
 rows-at [] i h = absurd (omega arith)
 rows-at (n ∷ l) i h =
     let y : 3 * i + 1 + 1 ≡ suc (3 * i + 1) = omega arith in
     let z : 3 * i + 1 + 2 ≡ suc (3 * i + 2) = omega arith in
-    rw (y, z, threes-at l i h) (ap (λ m. (getD (n ∷ l) m 0, getD l (3 * i + 1) 0, getD l (3 * i + 2) 0)) (sym (add-one (3 * i))))
+    rw (y, z, threes-at l i h)
+    (ap (λ m. (getD (n ∷ l) m 0, getD l (3 * i + 1) 0, getD l (3 * i + 2) 0)) (sym (add-one (3 * i))))
+
+-- the state that a row leaves, as the code reads it
+pub from-seen : (t : List ℕ) (i : ℕ) → i < length (rowsOf t) → getD (rowsOf t) i (0, 0, 0) .0 ≡ rowOf t i .0
+from-seen t i h = ap (λ r. r .0) (rows-at t i h)
 
 -- bytes of whole rows are those of the rows that are read from them
-pub bytes-part : (t : List ℕ) (s m : ℕ) → s + m ≤ length (rowsOf t) → take (3 * m) (drop (3 * s + 1) t) ≡ bytesOf (take m (drop s (rowsOf t)))
+pub bytes-part : (t : List ℕ) (s m : ℕ) → s + m ≤ length (rowsOf t)
+    → take (3 * m) (drop (3 * s + 1) t) ≡ bytesOf (take m (drop s (rowsOf t)))
 unfolding rowsOf bytesOf
 bytes-part [] s m h = let z : m ≡ 0 = omega arith in rw z
 bytes-part (n ∷ l) s m h =
     let part = take (3 * m) (drop (3 * s) l) in
     let room : 3 * m ≤ length (drop (3 * s) l) = omega (arith, chunks-length threes-chunks l, length-drop (3 * s) l) in
     let whole : length part % 3 ≡ 0 = omega (arith, length-take (3 * m) (drop (3 * s) l)) in
-    rw add-one (sym (chunks-whole threes-chunks part whole) ∙ ap (each rowBytes) (chunks-take threes-chunks (drop (3 * s) l) m ∙ ap (take m) (chunks-drop threes-chunks l s)))
+    rw add-one (sym (chunks-whole threes-chunks part whole)
+    ∙ ap (each rowBytes) (chunks-take threes-chunks (drop (3 * s) l) m ∙ ap (take m) (chunks-drop threes-chunks l s)))
 
--- the part of a table that is the span of p
-module _ (t : List ℕ) (p start end : ℕ) (low : Rising (rowsOf t) → start ≡ below p (rowsOf t)) (high : Rising (rowsOf t) → end ≡ below (p + 1) (rowsOf t)) where
-  pub empty-span : end ≤ start → Rising (rowsOf t) → [] ≡ bytesOf (rowsFrom p (rowsOf t))
-  unfolding bytesOf
-  empty-span h s =
-      let z : leaving p (rowsOf t) ≡ 0 = omega (arith, low s, high s, span-size p (rowsOf t)) in
-      ap (each rowBytes) (sym (rw z at (span-rows s p)))
-
-  pub whole-span : start < end → Rising (rowsOf t) → take (3 * end + 1 - (3 * start + 1)) (drop (3 * start + 1) t) ≡ bytesOf (rowsFrom p (rowsOf t))
-  whole-span h s =
-      let z : 3 * end + 1 - (3 * start + 1) ≡ 3 * leaving p (rowsOf t) = omega (arith, low s, high s, span-size p (rowsOf t)) in
-      rw (z, low s, span-rows s p) (bytes-part t (below p (rowsOf t)) (leaving p (rowsOf t)) (omega (arith, span-size p (rowsOf t), below-le (p + 1) (rowsOf t))))
-
--- a part from one row to another is whole rows
-pub part-whole : (t : List ℕ) (start end : ℕ) → end ≤ length (rowsOf t) → start < end → length (take (3 * end + 1 - (3 * start + 1)) (drop (3 * start + 1) t)) % 3 ≡ 0
-part-whole t start end h k = simp (length-take, length-drop) (omega (arith, length-rows t))
+-- the test passes exactly for the moves that are there
+pub among-decides : (moves : List (ℕ × ℕ)) (a q : ℕ) → Decides ((a, q) ∈ moves) (among moves a q)
+unfolding among
+among-decides moves a q = decided-iff
+    (λ t. ∈-cast (λ i. (sym (t .2 .0) i, sym (t .2 .1) i)) (t .1))
+    (λ i. ((a, q), i, (refl, refl)))
+    (decided-any (λ m. decided-and (decided-same (m .0) a) (decided-same (m .1) q)) moves)
 
 -- the test passes exactly for the system's moves
 pub hasMove-decides : (M : System ℕ) (p a q : ℕ) → Decides ((a, q) ∈ M p) (hasMove M p a q)
-unfolding hasMove among
-hasMove-decides M p a q = decided-iff
-    (λ t. ∈-cast (λ i. (sym (t .2 .0) i, sym (t .2 .1) i)) (t .1))
-    (λ i. ((a, q), i, (refl, refl)))
-    (decided-any (λ m. decided-and (decided-same (m .0) a) (decided-same (m .1) q)) (M p))
+unfolding hasMove
+hasMove-decides M p a q = among-decides (M p) a q

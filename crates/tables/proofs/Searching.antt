@@ -22,7 +22,8 @@ unfoldable pub Searching : List (ℕ × ℕ) → (ℕ × ℕ → Bool) → List 
 Searching moves F rows = any F moves ≡ any (onRow F) (threes rows)
 
 -- the first row, and those behind it as a slice has them
-first-row : (rows : List ℕ) → 3 ≤ length rows → threes rows ≡ (getD rows 0 0, getD rows 1 0, getD rows 2 0) ∷ threes (rest 3 rows)
+first-row : (rows : List ℕ) → 3 ≤ length rows
+    → threes rows ≡ (getD rows 0 0, getD rows 1 0, getD rows 2 0) ∷ threes (rest 3 rows)
 unfolding threes
 first-row [] h = absurd (omega arith)
 first-row (f ∷ []) h = absurd (omega arith)
@@ -33,16 +34,19 @@ no-row : (rows : List ℕ) → length rows < 3 → threes rows ≡ []
 no-row rows h = threes-chunks .none rows h
 
 -- the rows that leave p have its moves
-pub leaving-moves : (t : List ℕ) (p : ℕ) (rows : List ℕ) → rows ≡ bytesOf (rowsFrom p (rowsOf t)) → movesIn rows ≡ tableOf t p
+pub leaving-moves : (t : List ℕ) (p : ℕ) (rows : List ℕ) → rows ≡ bytesOf (rowsFrom p (rowsOf t))
+    → movesIn rows ≡ tableOf t p
 unfolding movesIn tableOf bytesOf
 leaving-moves t p rows e = rw (e, chunks-read threes-chunks) (sym (moves-from p (rowsOf t)))
 
-pub leading : (t : List ℕ) (p a q : ℕ) (rows : List ℕ) {x : Bool} → rows ≡ bytesOf (rowsFrom p (rowsOf t)) → x ≡ among (movesIn rows) a q → x ≡ hasMove (tableOf t) p a q
+pub leading : (t : List ℕ) (p a q : ℕ) (rows : List ℕ) {x : Bool} → rows ≡ bytesOf (rowsFrom p (rowsOf t))
+    → x ≡ among (movesIn rows) a q → x ≡ hasMove (tableOf t) p a q
 unfolding hasMove
 leading t p a q rows e h = rw (leaving-moves t p rows e) at h
 
 -- a row of them is what its three bytes are, and those behind it as a slice has them
-pub first-move : (rows : List ℕ) → 3 ≤ length rows → movesIn rows ≡ (getD rows 1 0, getD rows 2 0) ∷ movesIn (rest 3 rows)
+pub first-move : (rows : List ℕ) → 3 ≤ length rows
+    → movesIn rows ≡ (getD rows 1 0, getD rows 2 0) ∷ movesIn (rest 3 rows)
 unfolding movesIn
 first-move rows h = rw (first-row rows h)
 

@@ -1,11 +1,13 @@
--- Laws of sound tables: a table is accepted exactly if it is as document 01 says; its moves are in range, without repetition, at most 8 a state.
+-- Laws of sound tables: a table is accepted exactly if it is as document 01 says; its moves are in range, without
+-- repetition, at most 8 a state.
 use Prim.Native.Nat.{ℕ, _+_, _-_, _%_, _≤_, _<_}
 use native.Mathlib.Omega.{arith}
 use mathlib.Core.Path.{_≡_, refl, sym, _∙_, ap}
 use mathlib.Core.Logic.{_↔_, _⊎_, inl, inr}
 use mathlib.Core.Bool.{Bool, true, false, cond, _||_, _&&_}
 use mathlib.Core.List.{List, [], _∷_, _++_}
-use mathlib.Core.List.{List·Memᴰ·head as here, List·Memᴰ·tail as there, List·Memᴰ·not-nil as nowhere, List·Memᴰ·cases-cons as ∈-cons, Memᴰ·cast as ∈-cast}
+use mathlib.Core.List.{List·Memᴰ·head as here, List·Memᴰ·tail as there, List·Memᴰ·not-nil as nowhere}
+use mathlib.Core.List.{List·Memᴰ·cases-cons as ∈-cons, Memᴰ·cast as ∈-cast}
 use lib.ListN.{length}
 use lib.Dec.{eqb, ltb}
 use borrow.Author.Tests.{eqb-true}
@@ -20,7 +22,9 @@ use Rattle.hml.proofs.Distinct.{Distinct, distinct-only, distinct-each}
 use Rattle.labels.specs.Refusals.{firstOf}
 use Rattle.labels.specs.declared.refusal.Refusal.the-variants.{WrongLength, OutOfRange, RowNotAbove, NinthRow}
 use Rattle.labels.specs.declared.refusal.Check.the-variants.{Sound}
-use Rattle.tables.specs.Tables.{statesOf, rowsOf, tableOf, fitTable, fitStates, inRange, rowBelow, aboveLast, leaving, checkRow, checkRows, checkTable, Rising, none, one, more, SoundTable, Ready}
+use Rattle.tables.specs.Tables.{statesOf, rowsOf, tableOf, fitTable, fitStates, inRange, rowBelow, aboveLast}
+use Rattle.tables.specs.Tables.{leaving, checkRow, checkRows, checkTable, Rising, none, one, more, SoundTable}
+use Rattle.tables.specs.Tables.{Ready}
 
 -- a row in range
 abbrev pub Ranged : ℕ → ℕ → Row → Type 0
@@ -103,7 +107,8 @@ rows-distinct none = Distinct.none
 rows-distinct one = Distinct.some nowhere Distinct.none
 rows-distinct (more {r = r} e t) = Distinct.some (λ i. never-under r (head-under (more e t) i)) (rows-distinct t)
 
--- rows that fit after those before them, the newest first: in range, each above the one before, at most 8 from a state with those before
+-- rows that fit after those before them, the newest first: in range, each above the one before, at most 8 from a state
+-- with those before
 record Fit (k n : ℕ) (before rows : List Row) : Type 0 where
   ranged : (r : Row) → r ∈ rows → Ranged k n r
   rising : Follows before rows
@@ -121,7 +126,8 @@ judged-row k n before r = judged-iff (λ t. (t .0, t .1 .0, t .1 .1 .0)) (λ t. 
     (judged-then (judged-fault NinthRow (decided-le 8 (leaving (r .0) before))) (accepts (tt {0})))))
 
 -- a row more: it rises above those before, and the later ones above it
-follows-more : (before : List Row) (r : Row) (rows : List Row) → Follows before (r ∷ rows) ↔ ((aboveLast before r ≡ true) × Rising (r ∷ rows))
+follows-more : (before : List Row) (r : Row) (rows : List Row)
+    → Follows before (r ∷ rows) ↔ ((aboveLast before r ≡ true) × Rising (r ∷ rows))
 unfolding aboveLast
 follows-more [] r rows = (λ s. (refl, s), λ t. t .1)
 follows-more (b ∷ before) r rows = (split, λ t. more (t .0) (t .1))
@@ -133,24 +139,29 @@ follows-more (b ∷ before) r rows = (split, λ t. more (t .0) (t .1))
 eight-more : (before : List Row) (r : Row) (rows : List Row) → ((p : ℕ) → leaving p (r ∷ rows) ≤ 8 - leaving p before)
     ↔ ((¬ (8 ≤ leaving (r .0) before)) × ((p : ℕ) → leaving p rows ≤ 8 - leaving p (r ∷ before)))
 unfolding leaving
-eight-more before r rows = (λ h. (first h, λ p. rest (eqb (r .0) p) p (h p)), λ t p. both (eqb (r .0) p) p refl (t .0) (t .1 p))
+eight-more before r rows =
+    (λ h. (first h, λ p. rest (eqb (r .0) p) p (h p)), λ t p. both (eqb (r .0) p) p refl (t .0) (t .1 p))
   where
     first : ((p : ℕ) → leaving p (r ∷ rows) ≤ 8 - leaving p before) → ¬ (8 ≤ leaving (r .0) before)
     first h k = omega (arith, rw (same-refl (r .0)) at (h (r .0)))
 
-    rest : (b : Bool) (p : ℕ) → cond b 1 0 + leaving p rows ≤ 8 - leaving p before → leaving p rows ≤ 8 - (cond b 1 0 + leaving p before)
+    rest : (b : Bool) (p : ℕ) → cond b 1 0 + leaving p rows ≤ 8 - leaving p before
+        → leaving p rows ≤ 8 - (cond b 1 0 + leaving p before)
     rest true p h = omega arith
     rest false p h = omega arith
 
-    both : (b : Bool) (p : ℕ) → eqb (r .0) p ≡ b → ¬ (8 ≤ leaving (r .0) before) → leaving p rows ≤ 8 - (cond b 1 0 + leaving p before) → cond b 1 0 + leaving p rows ≤ 8 - leaving p before
+    both : (b : Bool) (p : ℕ) → eqb (r .0) p ≡ b → ¬ (8 ≤ leaving (r .0) before)
+        → leaving p rows ≤ 8 - (cond b 1 0 + leaving p before) → cond b 1 0 + leaving p rows ≤ 8 - leaving p before
     both true p e n h = omega (arith, rw (eqb-true (r .0) p e) at n)
     both false p e n h = omega arith
 
 -- row by row, the check judges whether the rows fit those before
 judged-rows : (k n : ℕ) (before rows : List Row) → Judges (Fit k n before rows) (checkRows k n before rows)
 unfolding checkRows leaving RowFit
-judged-rows k n before [] = accepts (record { ranged = λ r i. absurd (nowhere i); rising = follows-none before; eight = λ p. omega arith })
-judged-rows k n before (r ∷ rows) = judged-iff join part (judged-then (judged-row k n before r) (judged-rows k n (r ∷ before) rows))
+judged-rows k n before [] =
+    accepts (record { ranged = λ r i. absurd (nowhere i); rising = follows-none before; eight = λ p. omega arith })
+judged-rows k n before (r ∷ rows) =
+    judged-iff join part (judged-then (judged-row k n before r) (judged-rows k n (r ∷ before) rows))
   where
     join : RowFit k n before r × Fit k n (r ∷ before) rows → Fit k n before (r ∷ rows)
     join (h, f) = record {
@@ -162,15 +173,31 @@ judged-rows k n before (r ∷ rows) = judged-iff join part (judged-then (judged-
     part : Fit k n before (r ∷ rows) → RowFit k n before r × Fit k n (r ∷ before) rows
     part f =
         let (above, rest) = follows-more before r rows .0 (f .rising) in
-        let (fewer, few) = eight-more before r rows .0 (f .eight) in
-        ((f .ranged r (here refl), above, fewer), record { ranged = λ s i. f .ranged s (there i); rising = rest; eight = few })
+        let (fewer, few) = eight-more before r rows .0 (f .eight) in (
+          (f .ranged r (here refl), above, fewer),
+          record { ranged = λ s i. f .ranged s (there i); rising = rest; eight = few },
+        )
 
 -- the check of a table judges whether it is sound
 pub judged-table : (k : ℕ) (t : List ℕ) → Judges (SoundTable k t) (checkTable k t)
 unfolding checkTable firstOf fitTable fitStates leaving
 judged-table k t = judged-iff
-    (λ (a, b). let c = b .1 .0 in record { fits = a; some = b .0 .0; few-states = b .0 .1; ranged = c .ranged; rising = c .rising; eight = λ p. omega (arith, c .eight p) })
-    (λ s. (s .fits, ((s .some, s .few-states), (record { ranged = s .ranged; rising = s .rising; eight = λ p. omega (arith, s .eight p) }, tt))))
+    (λ (a, b). let c = b .1 .0 in
+    record {
+      fits = a;
+      some = b .0 .0;
+      few-states = b .0 .1;
+      ranged = c .ranged;
+      rising = c .rising;
+      eight = λ p. omega (arith, c .eight p);
+    })
+    (λ s. (
+      s .fits,
+      (
+        (s .some, s .few-states),
+        (record { ranged = s .ranged; rising = s .rising; eight = λ p. omega (arith, s .eight p) }, tt),
+      ),
+    ))
     (judged-then (judged-unless WrongLength (decided-and (decided-same (length t % 3) 1) (decided-le (length t) 1537)))
     (judged-then (judged-unless OutOfRange (decided-and (decided-le 1 (statesOf t)) (decided-le (statesOf t) 64)))
     (judged-then (judged-rows k (statesOf t) [] (rowsOf t)) (accepts (tt {0})))))
@@ -196,14 +223,17 @@ unfolding machine leaving only
 moves-length p [] = refl
 moves-length p (r ∷ rows) = go (eqb (r .0) p) (moves-length p rows)
   where
-    go : (b : Bool) → length (machine rows p) ≡ leaving p rows → length (only b (r .1, r .2) ++ machine rows p) ≡ cond b 1 0 + leaving p rows
+    go : (b : Bool) → length (machine rows p) ≡ leaving p rows
+        → length (only b (r .1, r .2) ++ machine rows p) ≡ cond b 1 0 + leaving p rows
     go true e = omega arith
     go false e = omega arith
 
 -- rows without repetition make moves without repetition
 pub machine-distinct : {rows : List Row} → Distinct rows → (p : ℕ) → Distinct (machine rows p)
 unfolding machine
-machine-distinct d p = distinct-each _ (λ r. distinct-only (same (r .0) p) (r .1, r .2)) (λ r s z i k. sym (only-row r p i) ∙ only-row s p k) d
+machine-distinct d p =
+    distinct-each _ (λ r. distinct-only (same (r .0) p) (r .1, r .2))
+    (λ r s z i k. sym (only-row r p i) ∙ only-row s p k) d
 
 module _ {k : ℕ} {t : List ℕ} (s : SoundTable k t) where
   -- a move's states and label are in range

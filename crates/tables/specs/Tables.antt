@@ -4,7 +4,7 @@ use Prim.Native.Nat.{ℕ, _+_, _*_, _%_, _≤_, _<_}
 use mathlib.Core.Path.{_≡_}
 use mathlib.Core.Bool.{Bool, true, cond, _&&_, _||_, not}
 use mathlib.Core.List.{List, [], _∷_, map}
-use lib.ListN.{length, getD}
+use lib.ListN.{length, getD, take, drop}
 use lib.Dec.{eqb, leb, ltb}
 use Rattle.hml.specs.Lists.{same, _∈_, any, each, only}
 use Rattle.hml.specs.System.{System}
@@ -65,7 +65,8 @@ rowStruct r = record { from = r .0; label = record { 0 = r .1 }; to = r .2 }
 unfoldable pub rowRead : List ℕ → ℕ → RowRead
 rowRead t i = cond (ltb i (length (rowsOf t))) (read.Row (rowStruct (getD (rowsOf t) i (0, 0, 0)))) read.NoRow
 
--- 3: "a multiple of 3, 3 to 1,539" counts a record's kind of two bytes, so a table has 1 to 1,537 bytes, one more than a multiple of 3
+-- 3: "a multiple of 3, 3 to 1,539" counts a record's kind of two bytes, so a table has 1 to 1,537 bytes, one more than
+-- a multiple of 3
 unfoldable pub fitTable : List ℕ → Bool
 fitTable t = eqb (length t % 3) 1 && leb (length t) 1537
 
@@ -79,7 +80,8 @@ inRange k n r = ltb (r .0) n && (leb (r .1) (count k) && ltb (r .2) n)
 
 -- rows are compared by from, then label, then to
 unfoldable pub rowBelow : Row → Row → Bool
-rowBelow r s = ltb (r .0) (s .0) || (eqb (r .0) (s .0) && (ltb (r .1) (s .1) || (eqb (r .1) (s .1) && ltb (r .2) (s .2))))
+rowBelow r s =
+    ltb (r .0) (s .0) || (eqb (r .0) (s .0) && (ltb (r .1) (s .1) || (eqb (r .1) (s .1) && ltb (r .2) (s .2))))
 
 -- 6: is the row above the one before? `before` are the rows before it, the newest first
 unfoldable pub aboveLast : List Row → Row → Bool
@@ -122,7 +124,18 @@ pub data Rising : List Row → Type 0 where
   one : {r : Row} → Rising (r ∷ [])
   more : {r s : Row} {rows : List Row} → rowBelow r s ≡ true → Rising (s ∷ rows) → Rising (r ∷ s ∷ rows)
 
--- a table as document 01 says: n, then rows of three bytes; 1 to 64 states; rows in range, each above the one before, at most 8 from a state
+-- Document 01 has no table whose rows do not rise, so it leaves open which rows of such bytes leave p. What holds
+-- there, too, of bytes that are given as these rows: they are rows of the table that stand together, and each of them
+-- leaves p.
+pub record Together (rows : List Row) (p : ℕ) (bytes : List ℕ) : Type 0 where
+  pub first : ℕ
+  pub many : ℕ
+  pub inside : first + many ≤ length rows
+  pub given : bytes ≡ bytesOf (take many (drop first rows))
+  pub leave : (r : Row) → r ∈ take many (drop first rows) → r .0 ≡ p
+
+-- a table as document 01 says: n, then rows of three bytes; 1 to 64 states; rows in range, each above the one before,
+-- at most 8 from a state
 pub record SoundTable (k : ℕ) (t : List ℕ) : Type 0 where
   pub fits : (length t % 3 ≡ 1) × (length t ≤ 1537)
   pub some : 1 ≤ statesOf t

@@ -1,8 +1,9 @@
 -- What functions inside the crate promise each other. No public promise cites this file.
-use Prim.Native.Nat.{ℕ, zero, suc, _+_, _<_}
+use Prim.Native.Nat.{ℕ, zero, suc, _+_, _≤_, _<_}
 use mathlib.Core.Path.{_≡_}
 use mathlib.Core.Bool.{cond}
 use mathlib.Core.List.{List, [], _∷_}
+use lib.ListN.{length, getD}
 use lib.Dec.{ltb}
 use Rattle.hml.specs.Machine.{Row}
 use Rattle.tables.specs.Tables.{rowOf, leaving, checkRow}
@@ -31,9 +32,16 @@ judged k n t i = judgedBy (checkRow k n (upTo t i) (rowOf t i)) (1 + leaving (ro
 -- e of the rows before row i leave the state that the last of them leaves, and none leaves a state above it
 abbrev pub Counted : List ℕ → ℕ → ℕ → Type 0
 Counted t zero e = Unit {0}
-Counted t (suc i) e = (e ≡ leaving (rowOf t i .0) (upTo t (suc i))) × ((p : ℕ) → rowOf t i .0 < p → leaving p (upTo t (suc i)) ≡ 0)
+Counted t (suc i) e =
+    (e ≡ leaving (rowOf t i .0) (upTo t (suc i))) × ((p : ℕ) → rowOf t i .0 < p → leaving p (upTo t (suc i)) ≡ 0)
 
 -- how many rows leave a state below p
 unfoldable pub below : ℕ → List Row → ℕ
 below p [] = 0
 below p (r ∷ rows) = cond (ltb (r .0) p) 1 0 + below p rows
+
+-- the rows from number `start` on, up to number `end`, are there, and each leaves p
+pub record Leave (rows : List Row) (p start end : ℕ) : Type 0 where
+  pub ordered : start ≤ end
+  pub within : end ≤ length rows
+  pub each-leaves : (i : ℕ) → start ≤ i → i < end → getD rows i (0, 0, 0) .0 ≡ p

@@ -3,18 +3,20 @@ use crate::row::from_at;
 use crate::row::row_count;
 use labels::label::Label;
 ghost use mathlib.Core.Path.{_≡_};
-ghost use mathlib.Core.Bool.{_&&_};
-ghost use Prim.Native.Nat.{_+_, _≤_, _%_};
+ghost use mathlib.Core.Bool.{true, _&&_};
+ghost use Prim.Native.Nat.{_+_, _≤_};
 ghost use lib.ListN.{length, getD};
 ghost use lib.Dec.{eqb};
 ghost use Rattle.tables.specs.Tables.{rowsOf, rowsFrom, bytesOf, tableOf, movesIn, among, hasMove, Rising};
-ghost use Rattle.tables.specs.Working.{below};
+ghost use Rattle.tables.specs.Tables.{Together};
+ghost use Rattle.tables.specs.Working.{below, Leave};
 
-// The rows that leave a state, as the part of the table that they are. In rows that do not rise the answer is left open:
-// it is some whole number of rows.
+// The rows that leave a state, as the part of the table that they are. In rows that do not rise it is left open which:
+// there, too, they are rows of the table that stand together, and each leaves the state.
 pub fn rows_leaving<'a>(table: &'a [u8], state: u8) -> &'a [u8]
-    ensures whole { λ r. ⌜ length (now r) % 3 ≡ 0 ⌝ }
-    ensures exact { λ r. ⌜ (Rising (rowsOf (now (table .entry))) → now r ≡ bytesOf (rowsFrom state (rowsOf (now (table .entry))))) ⌝ }
+    ensures together { λ r. ⌜ Together (rowsOf (now (table .entry))) state (now r) ⌝ }
+    ensures exact { λ r.
+        ⌜ (Rising (rowsOf (now (table .entry))) → now r ≡ bytesOf (rowsFrom state (rowsOf (now (table .entry))))) ⌝ }
 {
     let state = state as usize;
     let start = rows_below(table, state);
@@ -27,7 +29,8 @@ pub fn rows_leaving<'a>(table: &'a [u8], state: u8) -> &'a [u8]
     &table[from..to]
 }
 
-// How many rows leave a state below this one, by halving. In rows that do not rise the answer is left open: some number of rows.
+// How many rows leave a state below this one, by halving. In rows that do not rise the answer is left open: some number
+// of rows.
 fn rows_below(table: &[u8], state: usize) -> usize
     ensures within { λ r. ⌜ r ≤ length (rowsOf (now (table .entry))) ⌝ }
     ensures exact { λ r. ⌜ (Rising (rowsOf (now (table .entry))) → r ≡ below state (rowsOf (now (table .entry)))) ⌝ }
@@ -45,17 +48,19 @@ fn rows_below(table: &[u8], state: usize) -> usize
     low
 }
 
-// Where the rows end that leave a state, from the first of them on: at most eight rows on, where no check refuses the table. In rows
-// that do not rise the answer is left open: some number of rows.
+// Where the rows end that leave a state, from the first of them on: at most eight rows on, where no check refuses the
+// table. It stops at the first row that leaves another state.
 fn rows_end(table: &[u8], state: usize, start: usize) -> usize
-    requires { ⌜ (start ≤ length (rowsOf (now table))) × (Rising (rowsOf (now table)) → start ≡ below state (rowsOf (now table))) ⌝ }
-    ensures within { λ r. ⌜ r ≤ length (rowsOf (now (table .entry))) ⌝ }
-    ensures exact { λ r. ⌜ (Rising (rowsOf (now (table .entry))) → r ≡ below (state + 1) (rowsOf (now (table .entry)))) ⌝ }
+    requires { ⌜ (start ≤ length (rowsOf (now table)))
+        × (Rising (rowsOf (now table)) → start ≡ below state (rowsOf (now table))) ⌝ }
+    ensures leave { λ r. ⌜ Leave (rowsOf (now (table .entry))) state start r ⌝ }
+    ensures exact { λ r.
+        ⌜ (Rising (rowsOf (now (table .entry))) → r ≡ below (state + 1) (rowsOf (now (table .entry)))) ⌝ }
 {
     let rows = row_count(table);
     let mut end = start;
     while end < rows {
-        if state < from_at(table, end) {
+        if from_at(table, end) != state {
             return end;
         }
         end += 1;
@@ -63,9 +68,12 @@ fn rows_end(table: &[u8], state: usize, start: usize) -> usize
     end
 }
 
-// Is there a row from this state with this label and target? In rows that do not rise the answer is left open.
+// Is there a row from this state with this label and target? In rows that do not rise it is left open which rows are
+// found: there, too, a row that is found is in the table.
 pub fn has_row(table: &[u8], from: u8, label: Label, to: u8) -> bool
-    ensures exact { λ r. ⌜ (Rising (rowsOf (now (table .entry))) → r ≡ hasMove (tableOf (now (table .entry))) from (label .0) to) ⌝ }
+    ensures there { λ r. ⌜ (r ≡ true → hasMove (tableOf (now (table .entry))) from (label .0) to ≡ true) ⌝ }
+    ensures exact { λ r.
+        ⌜ (Rising (rowsOf (now (table .entry))) → r ≡ hasMove (tableOf (now (table .entry))) from (label .0) to) ⌝ }
 {
     let rows = rows_leaving(table, from);
     leads_to(rows, label, to)

@@ -39,7 +39,7 @@ has-row-requires : tie.Need-has-row-requires
 has-row-requires c κs = search needs
 
 returns-2 : tie.Need-returns-2
-returns-2 c = move-fits _ _ _ _ (sym (c .before .before .is-idle .ensures) ∙ c .before .if1 .left) (c .has-row .ensures (c .before .before .before .before .before .before .before .before .pre .0))
+returns-2 c = move-fits _ _ _ _ (sym (c .before .before .is-idle .ensures) ∙ c .before .if1 .left) (c .has-row .ensures .1 (c .before .before .before .before .before .before .before .before .pre .0))
 
 pub step-fits-spec : {M : Type 1} → statement M
 step-fits-spec =

@@ -11,7 +11,7 @@ has-row-requires : tie.Need-has-row-requires
 has-row-requires c κs = search needs
 
 returns-2 : tie.Need-returns-2
-returns-2 c = rw (eq-eqb _ _ (c .before .if1 .left)) (c .has-row .ensures (c .before .before .before .pre))
+returns-2 c = rw (eq-eqb _ _ (c .before .if1 .left)) (c .has-row .ensures .1 (c .before .before .before .pre))
 
 pub moves-alone-spec : {M : Type 1} → statement M
 moves-alone-spec = tie.close (tie.spec returns has-row-requires returns-2)

@@ -17,13 +17,18 @@ returns-3 : tie.Need-returns-3
 returns-3 c = no-states _ _ (c .before .before .before .if1 .left) (c .before .before .if2 .left) (c .if3 .taken)
 
 returns-4 : tie.Need-returns-4
-returns-4 c = many-states _ _ (c .before .before .before .before .if1 .left) (c .before .before .before .if2 .left) (c .if4 .taken)
+returns-4 c =
+    many-states _ _ (c .before .before .before .before .if1 .left) (c .before .before .before .if2 .left)
+    (c .if4 .taken)
 
 check-rows-requires : tie.Need-check-rows-requires
 check-rows-requires c κs = search needs
 
 returns-5 : tie.Need-returns-5
-returns-5 c = rows-decide _ _ (c .before .before .before .before .before .if1 .left) (c .before .before .before .before .if2 .left) (c .before .before .if3 .left) (c .before .if4 .left) _ (c .check-rows .ensures)
+returns-5 c =
+    rows-decide _ _ (c .before .before .before .before .before .if1 .left)
+    (c .before .before .before .before .if2 .left) (c .before .before .if3 .left) (c .before .if4 .left) _
+    (c .check-rows .ensures)
 
 pub check-table-spec : {M : Type 1} → statement M
 check-table-spec =

@@ -28,7 +28,9 @@ leads-requires c κs = omega arith
 
 returns : tie.Need-returns Inv-loop μ-loop
 unfolding among
-returns c = search-hit _ _ _ (c .before .before .before .loop .inv) (c .before .before .loop-test .taken) (sym (c .before .leads .ensures) ∙ c .if1 .taken)
+returns c =
+    search-hit _ _ _ (c .before .before .before .loop .inv) (c .before .before .loop-test .taken)
+    (sym (c .before .leads .ensures) ∙ c .if1 .taken)
 
 sub-rest : tie.Need-sub-rest Inv-loop μ-loop
 sub-rest c = omega arith
@@ -40,10 +42,14 @@ part-rest-end : tie.Need-part-rest-end Inv-loop μ-loop
 part-rest-end c = omega arith
 
 loop-less : tie.Need-loop-less Inv-loop μ-loop
-loop-less c = rest-fewer 3 (c .before .before .before .before .loop .rest .now) (omega arith) (c .before .before .before .loop-test .taken)
+loop-less c =
+    rest-fewer 3 (c .before .before .before .before .loop .rest .now) (omega arith)
+    (c .before .before .before .loop-test .taken)
 
 loop-again : tie.Need-loop-again Inv-loop μ-loop
-loop-again c = search-miss _ _ _ (c .before .before .before .before .loop .inv) (c .before .before .before .loop-test .taken) (sym (c .before .before .leads .ensures) ∙ c .before .if1 .left)
+loop-again c =
+    search-miss _ _ _ (c .before .before .before .before .loop .inv) (c .before .before .before .loop-test .taken)
+    (sym (c .before .before .leads .ensures) ∙ c .before .if1 .left)
 
 returns-2 : tie.Need-returns-2 Inv-loop μ-loop
 unfolding among

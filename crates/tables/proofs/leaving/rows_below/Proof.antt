@@ -34,16 +34,21 @@ loop-less : tie.Need-loop-less Inv-loop μ-loop
 loop-less c = omega arith
 
 loop-again : tie.Need-loop-again Inv-loop μ-loop
-loop-again c = halving-up _ _ _ _ (c .before .before .before .loop .inv) _ (omega arith) (omega arith) (omega (arith, c .before .from-at .ensures, c .if1 .taken))
+loop-again c =
+    halving-up _ _ _ _ (c .before .before .before .loop .inv) _ (omega arith) (omega arith)
+    (omega (arith, c .before .from-at .ensures, c .if1 .taken))
 
 loop-less-2 : tie.Need-loop-less-2 Inv-loop μ-loop
 loop-less-2 c = omega arith
 
 loop-again-2 : tie.Need-loop-again-2 Inv-loop μ-loop
-loop-again-2 c = halving-down _ _ _ _ (c .before .before .before .loop .inv) _ (omega arith) (omega arith) (omega (arith, c .before .from-at .ensures, c .if1 .left))
+loop-again-2 c =
+    halving-down _ _ _ _ (c .before .before .before .loop .inv) _ (omega arith) (omega arith)
+    (omega (arith, c .before .from-at .ensures, c .if1 .left))
 
 returns : tie.Need-returns Inv-loop μ-loop
-returns c = (omega (arith, c .before .loop .inv), λ s. halving-end _ _ _ _ (c .before .loop .inv) (c .loop-test .left) s)
+returns c =
+    (omega (arith, c .before .loop .inv), λ s. halving-end _ _ _ _ (c .before .loop .inv) (c .loop-test .left) s)
 
 pub rows-below-spec : {M : Type 1} → statement M
 rows-below-spec =

@@ -12,7 +12,8 @@ row-of-requires : tie.Need-row-of-requires
 row-of-requires c κs = search needs
 
 returns : tie.Need-returns
-returns c = row-found _ _ _ (omega (arith, c .before .before .row-count .ensures, c .before .if1 .taken)) (c .row-of .ensures)
+returns c =
+    row-found _ _ _ (omega (arith, c .before .before .row-count .ensures, c .before .if1 .taken)) (c .row-of .ensures)
 
 returns-2 : tie.Need-returns-2
 returns-2 c = row-missing _ _ (omega (arith, c .before .row-count .ensures, c .if1 .left))
