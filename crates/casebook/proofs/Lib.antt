@@ -2,5 +2,6 @@ pub mod Records
 pub mod RecordLaws
 pub mod Reading
 pub mod RoundTrip
+pub mod Registrar
 pub mod Enough
 pub mod Writing

@@ -20,7 +20,7 @@ use Rattle.machines.specs.Joints.{checkJoint}
 use Rattle.formulas.specs.Formulas.{questionLimit, checkFormula}
 use Rattle.casebook.specs.Records.{nextAt, bodyOf, recordBytes, fitLength}
 use Rattle.casebook.specs.Reading.{after, ifSound, readQuestion, readRun, readRight, readLeft, readOf}
-use Rattle.casebook.specs.Writing.{casebookBytes, checkParts, checkWrite, writeOf}
+use Rattle.casebook.specs.Writing.{casebookBytes, checkParts}
 use Rattle.casebook.specs.declared.record.Cursor.{Cursor}
 use Rattle.casebook.specs.declared.record.Record.{Record}
 use Rattle.casebook.specs.declared.record.Next.{Next}
@@ -28,7 +28,6 @@ use Rattle.casebook.specs.declared.record.Next.the-variants as next
 use Rattle.casebook.specs.declared.read.Parts.{Parts}
 use Rattle.casebook.specs.declared.read.Reading.{Reading}
 use Rattle.casebook.specs.declared.read.Reading.the-variants as reading
-use Rattle.casebook.specs.declared.write.Writing.the-variants as writing
 use Rattle.casebook.proofs.Reading.{found-within}
 use Rattle.casebook.proofs.RecordLaws.{Bytes, placed, behind, next-record, record-next, record-length, header-fits, first-byte, single, table-fits, joint-fits, question-fits}
 
@@ -147,10 +146,19 @@ module _ (s : List ℕ) (p : Parts) where
   pub read-sound : readOf s ≡ reading.Casebook p → checkParts (p .pairs) (bodyOf s (p .left)) (bodyOf s (p .right)) (bodyOf s (p .run)) (bodyOf s (p .question)) ≡ Sound
   read-sound e = parts-sound _ _ _ _ _ (read-chain e .sound)
 
+-- bytes that read to a casebook of these parts: its k, and the bodies of its four records, are theirs
+pub record ReadsTo (s : List ℕ) (k : ℕ) (l r j q : List ℕ) : Type 0 where
+  pub parts : Parts
+  pub read : readOf s ≡ reading.Casebook parts
+  pub pairs : parts .pairs ≡ k
+  pub left : bodyOf s (parts .left) ≡ l
+  pub right : bodyOf s (parts .right) ≡ r
+  pub run : bodyOf s (parts .run) ≡ j
+  pub question : bodyOf s (parts .question) ≡ q
+
 -- reading a casebook that was written gives its parts
 pub read-written : (k : ℕ) (l r j q : List ℕ) → checkParts k l r j q ≡ Sound
-    → (p : Parts) × (readOf (casebookBytes k l r j q) ≡ reading.Casebook p) × (p .pairs ≡ k) × (bodyOf (casebookBytes k l r j q) (p .left) ≡ l)
-    × (bodyOf (casebookBytes k l r j q) (p .right) ≡ r) × (bodyOf (casebookBytes k l r j q) (p .run) ≡ j) × (bodyOf (casebookBytes k l r j q) (p .question) ≡ q)
+    → ReadsTo (casebookBytes k l r j q) k l r j q
 unfolding casebookBytes fitLength
 read-written k l r j q e =
     let s = casebookBytes k l r j q in
@@ -164,9 +172,10 @@ read-written k l r j q e =
     let (n2, b2, d2) = next-record s (c1 .at) 2 l _ (table-fits k l (w .left) .0) d1 in
     let (n3, b3, d3) = next-record s (c2 .at) 3 r _ (table-fits k r (w .right) .1) d2 in
     let (n4, b4, d4) = next-record s (c3 .at) 4 j _ (joint-fits k l r j (w .run) .0) d3 in
-    let (n5, b5, d5) = next-record s (c4 .at) 5 q [] (question-fits k q (w .question) .0) (d4 ∙ sym (append-nil (recordBytes 5 q))) in (
-      p,
-      chain-read s p (record {
+    let (n5, b5, d5) = next-record s (c4 .at) 5 q [] (question-fits k q (w .question) .0) (d4 ∙ sym (append-nil (recordBytes 5 q))) in
+    record {
+      parts = p;
+      read = chain-read s p (record {
         header = placed 1 0 (k ∷ []);
         c1 = c1;
         c2 = c2;
@@ -181,13 +190,13 @@ read-written k l r j q e =
         byte = header-byte s (placed 1 0 (k ∷ [])) k b1;
         sound = rw (b2, b3, b4, b5) w;
         all = omega (arith, casebook-length k l r j q);
-      }),
-      refl,
-      b2,
-      b3,
-      b4,
-      b5,
-    )
+      });
+      pairs = refl;
+      left = b2;
+      right = b3;
+      run = b4;
+      question = b5;
+    }
 
 -- a casebook that was read, of bytes
 module _ (s : List ℕ) (bytes : Bytes s) (p : Parts) (e : readOf s ≡ reading.Casebook p) where
@@ -209,12 +218,6 @@ module _ (s : List ℕ) (bytes : Bytes s) (p : Parts) (e : readOf s ≡ reading.
         append-nil (recordBytes 5 (bodyOf s (p .question))),
       ))
 
-  -- written into as much room or more, they are answered with its length
-  pub written-back : (room : ℕ) → length s ≤ room
-      → writeOf (p .pairs) (bodyOf s (p .left)) (bodyOf s (p .right)) (bodyOf s (p .run)) (bodyOf s (p .question)) room ≡ writing.Written (length s)
-  unfolding writeOf checkWrite firstOf
-  written-back room h = rw (read-sound s p e, written-read, le-ltb room (length s) h)
-
 -- a casebook is accepted exactly if it is what writing makes of sound parts
 pub accepted-exactly : (s : List ℕ) → Bytes s
     → ((p : Parts) × (readOf s ≡ reading.Casebook p))
@@ -222,7 +225,7 @@ pub accepted-exactly : (s : List ℕ) → Bytes s
 accepted-exactly s b = (λ (p, e). (p .pairs, bodyOf s (p .left), bodyOf s (p .right), bodyOf s (p .run), bodyOf s (p .question), read-sound s p e, sym (written-read s b p e)), from)
   where
     from : (k : ℕ) × (l : List ℕ) × (r : List ℕ) × (j : List ℕ) × (q : List ℕ) × (checkParts k l r j q ≡ Sound) × (s ≡ casebookBytes k l r j q) → (p : Parts) × (readOf s ≡ reading.Casebook p)
-    from (k, l, r, j, q, e, z) = let t = read-written k l r j q e in (t .0, rw z (t .1))
+    from (k, l, r, j, q, e, z) = let t = read-written k l r j q e in (t .parts, rw z (t .read))
 
 -- a casebook that was read is short, and its records lie in it
 pub record Placing (s : List ℕ) (p : Parts) : Type 0 where

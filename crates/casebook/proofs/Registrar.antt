@@ -1,0 +1,64 @@
+-- The round trip over the calls: the marker and the registrar rely on the lent output, and on its bytes read again.
+use Prim.Native.Nat.{ℕ, _≤_, _<_}
+use mathlib.Core.Path.{_≡_, refl}
+use mathlib.Core.List.{List, _++_}
+use lib.ListN.{length, take, drop}
+use lib.Seq.{take-append-seam}
+use borrow.Author.Tests.{lt-ltb, le-ltb}
+use Rattle.hml.proofs.Tests.{apart}
+use Rattle.labels.specs.Refusals.{firstOf, inFront}
+use Rattle.labels.specs.declared.refusal.Check.{Check}
+use Rattle.labels.specs.declared.refusal.Check.the-variants as check
+use Rattle.labels.specs.declared.refusal.Refusal.the-variants.{OutputTooShort}
+use Rattle.labels.proofs.Refusals.{both-sound}
+use Rattle.casebook.specs.Records.{bodyOf}
+use Rattle.casebook.specs.Reading.{readOf}
+use Rattle.casebook.specs.Writing.{casebookBytes, checkParts, checkWrite, answered, writeOf, writtenOf}
+use Rattle.casebook.specs.declared.read.Parts.{Parts}
+use Rattle.casebook.specs.declared.read.Reading.the-variants as reading
+use Rattle.casebook.specs.declared.write.Writing.{Writing}
+use Rattle.casebook.specs.declared.write.Writing.the-variants as writing
+use Rattle.casebook.proofs.RecordLaws.{Bytes}
+use Rattle.casebook.proofs.RoundTrip.{ReadsTo, read-sound, read-written, written-read}
+
+-- what writing the parts of a casebook s answers, and the output afterwards: k, and the bodies that its records have in s
+module _ (s : List ℕ) (p : Parts) (out : List ℕ) where
+  abbrev pub answerFor : Writing
+  answerFor =
+      writeOf (p .pairs) (bodyOf s (p .left)) (bodyOf s (p .right)) (bodyOf s (p .run)) (bodyOf s (p .question)) (length out)
+
+  abbrev pub outputFor : List ℕ
+  outputFor =
+      writtenOf (p .pairs) (bodyOf s (p .left)) (bodyOf s (p .right)) (bodyOf s (p .run)) (bodyOf s (p .question)) out
+
+-- A casebook that was read, written again from its parts. Into an output of its length or more go its own bytes, and "lent
+-- bytes past it keep theirs". A shorter output is refused, 18, and "every lent byte keeps its value".
+pub filed-and-returned : (s : List ℕ) → Bytes s → (p : Parts) → readOf s ≡ reading.Casebook p → (out : List ℕ)
+    → (length s ≤ length out
+    → (answerFor s p out ≡ writing.Written (length s)) × (outputFor s p out ≡ s ++ drop (length s) out))
+    × (length out < length s
+    → (answerFor s p out ≡ writing.Refused OutputTooShort) × (outputFor s p out ≡ out))
+unfolding writeOf writtenOf checkWrite firstOf inFront
+filed-and-returned s bytes p e out =
+    let sound = read-sound s p e in
+    let same = written-read s bytes p e in (
+      λ h. rw (sound, same, le-ltb (length out) (length s) h) (refl, refl),
+      λ h. rw (sound, same, lt-ltb (length out) (length s) h) (refl, refl),
+    )
+
+-- where the answer is a length, nothing was refused, and it is the length of what was to be written
+answered-whole : (c : Check) (m n : ℕ) → answered c m ≡ writing.Written n → (c ≡ check.Sound) × (m ≡ n)
+answered-whole check.Sound m n e = (refl, cc)
+answered-whole (check.Refused x) m n e = absurd (apart cc)
+
+-- Parts that were written, any k and bytes whatever. The output's first bytes, as many as the answer says, read to a casebook
+-- with that k, and the bodies of its four records are those parts.
+pub returned-as-filed : (k : ℕ) (l r j q out : List ℕ) (n : ℕ) → writeOf k l r j q (length out) ≡ writing.Written n
+    → ReadsTo (take n (writtenOf k l r j q out)) k l r j q
+unfolding writeOf writtenOf checkWrite firstOf inFront
+returned-as-filed k l r j q out n e =
+    let bytes = casebookBytes k l r j q in
+    let (sound, m) = answered-whole (checkWrite k l r j q (length out)) (length bytes) n e in
+    let seam = take-append-seam bytes (drop (length bytes) out) in
+    let front : take n (writtenOf k l r j q out) ≡ bytes = rw (sound, ← m) seam in
+    rw front (read-written k l r j q (both-sound (checkParts k l r j q) _ sound .0))
