@@ -1,6 +1,6 @@
 -- The cases of judging a joint run, each from what the code knows at its return.
 use Prim.Native.Nat.{ℕ, suc, _+_, _*_, _/_, _%_, _≤_, _<_}
-use mathlib.Core.Path.{_≡_, refl, _∙_, ap₂}
+use mathlib.Core.Path.{_≡_, refl, sym, _∙_, ap₂}
 use mathlib.Core.Bool.{Bool, true, false, cond, _&&_}
 use mathlib.Core.List.{List, [], _∷_}
 use mathlib.Core.Option.{Option, none, some}
@@ -16,7 +16,26 @@ use Rattle.labels.specs.Refusals.{firstOf, thenOf}
 use Rattle.labels.specs.Labels.{partnerFound}
 use Rattle.tables.specs.Tables.{statesOf, tableOf, threes, among, hasMove, checkTable, Ready}
 use Rattle.halves.specs.Runs.{goOn}
-use Rattle.machines.specs.Joints.{jointSteps, kept, shakesTo, answerTo, isLeftAlone, isRightAlone, isHandshake, isJointIdle, isReal, isRealStep, fitJoint, isJointRun, checkJoint, checkTablesAndJoint}
+use Rattle.machines.specs.Joints.{
+  jointSteps,
+  kept,
+  shakesTo,
+  answerTo,
+  isLeftAlone,
+  isRightAlone,
+  isHandshake,
+  isJointIdle,
+  isReal,
+  isRealStep,
+  fitJoint,
+  isJointRun,
+  checkJoint,
+  checkTablesAndJoint,
+}
+use Rattle.machines.specs.Steps.{jointStepAt, jointRead}
+use Rattle.machines.specs.declared.step.JointStep.{JointStep}
+use Rattle.machines.specs.declared.step.JointRead.the-variants as read
+use Rattle.machines.proofs.Steps.{Found, step-found, none-found}
 use Rattle.labels.specs.declared.label.Label.{Label}
 use Rattle.labels.specs.declared.label.Partner.the-variants as partner
 use Rattle.labels.proofs.Labels.{found-some, found-none}
@@ -157,25 +176,36 @@ module _ (k : ℕ) (l r s : List ℕ) where
       unfolding isJointRun
       steps-decide e = rw (lt-ltb (getD s 0 0) (statesOf l) left, lt-ltb (getD s 1 0) (statesOf r) right) e
 
-      module _ (fit : length s % 3 ≡ 2) (i : ℕ) (w : Walked i) where
-        pub walked-end : length s / 3 ≤ i → true ≡ isJointRun k l r s
+      module _ (i : ℕ) (w : Walked i) where
+        pub walked-end : length s % 3 ≡ 2 → read.NoSuchStep ≡ jointRead s i → true ≡ isJointRun k l r s
         unfolding Walked
-        walked-end h = steps-decide (ended fitsHere _ (no-three s i (omega (arith, fit, h))) w)
+        walked-end fit e = steps-decide (ended fitsHere _ (no-three s i (omega (arith, fit, none-found s i fit e))) w)
 
-        module _ (h : i < length s / 3) where
-          abbrev realHere : Bool
-          realHere = isReal (pairs k) (tableOf l) (tableOf r) (getD s (3 * i) 0) (getD s (3 * i + 1) 0) (getD s (3 * i + 2) 0) (getD s (3 * i + 3) 0) (getD s (3 * i + 4) 0)
+        -- the reading finds step x at i, and the test of it says b
+        module _ (x : JointStep) (e : read.Step x ≡ jointRead s i) (b : Bool)
+            (f : b ≡ fitsHere (x .before .left, x .before .right) (x .label .0) (x .after .left, x .after .right)) where
+          found : Found s i x
+          found = step-found s i x e
 
-          pub walked-stop : realHere ≡ false → false ≡ isJointRun k l r s
+          there : 3 * i + 4 < length s
+          there = omega (arith, found .fit, found .within)
+
+          realHere : isRealStep (pairs k) (tableOf l) (tableOf r)
+              (getD s (3 * i) 0, getD s (3 * i + 1) 0) (getD s (3 * i + 2) 0) (getD s (3 * i + 3) 0, getD s (3 * i + 4) 0) ≡ b
+          unfolding jointStepAt
+          realHere = sym (f ∙ rw (found .here))
+
+          pub walked-stop : b ≡ false → false ≡ isJointRun k l r s
           unfolding Walked
-          walked-stop f = steps-decide (stopped fitsHere _ (next-three s i (omega (arith, fit))) w f)
+          walked-stop n = steps-decide (stopped fitsHere _ (next-three s i there) w (realHere ∙ n))
 
-          pub walked-on : realHere ≡ true → Walked (i + 1)
+          pub walked-on : b ≡ true → Walked (i + 1)
           unfolding Walked
-          walked-on f =
+          walked-on n =
               let e : 3 * (i + 1) ≡ 3 * i + 3 = omega arith in
               let d : 3 * (i + 1) + 1 ≡ 3 * i + 4 = omega arith in
-              ap₂ (λ m n. goOn fitsHere (getD s m 0, getD s n 0) (jointSteps (drop (3 * (i + 1) + 2) s))) e d ∙ passed fitsHere _ (next-three s i (omega (arith, fit))) w f
+              ap₂ (λ m n. goOn fitsHere (getD s m 0, getD s n 0) (jointSteps (drop (3 * (i + 1) + 2) s))) e d
+              ∙ passed fitsHere _ (next-three s i there) w (realHere ∙ n)
 
 -- the two tables' checks as the code has them
 module _ (k : ℕ) (l r : List ℕ) where

@@ -33,8 +33,8 @@ rows-leaving-requires-2 c κs = search needs
 loop-holds : tie.Need-loop-holds Inv-loop μ-loop
 loop-holds c = search-rows _ _
 
-shared-slice-read-t15 : tie.Need-shared-slice-read-t15 Inv-loop μ-loop
-shared-slice-read-t15 c = omega arith
+shared-slice-read-t16 : tie.Need-shared-slice-read-t16 Inv-loop μ-loop
+shared-slice-read-t16 c = omega arith
 
 shared-slice-read-answer-to : tie.Need-shared-slice-read-answer-to Inv-loop μ-loop
 shared-slice-read-answer-to c = omega arith
@@ -48,7 +48,7 @@ enum-told c = search needs
 returns-2 : tie.Need-returns-2 Inv-loop μ-loop
 returns-2 c =
     search-decides _ _ _ _ _ _ _ _ (sym (c .before .before .before .before .before .before .before .before .before .before .is-silent .ensures) ∙ not-false _ (c .before .before .before .before .before .before .before .before .before .if1 .left)) _ _
-    (leaving-moves _ _ _ (c .before .before .before .before .before .before .before .rows-leaving2 .ensures .1 (c .before .before .before .before .before .before .before .before .before .before .before .before .before .pre .0 .rising))) (leaving-moves _ _ _ (c .before .before .before .before .before .before .before .before .rows-leaving .ensures .1 (c .before .before .before .before .before .before .before .before .before .before .before .before .before .pre .1 .rising)))
+    (leaving-moves _ _ _ (c .before .before .before .before .before .before .before .rows-leaving2 .ensures .1 (c .before .before .before .before .before .before .before .before .before .before .before .before .before .before .before .before .pre .0 .rising))) (leaving-moves _ _ _ (c .before .before .before .before .before .before .before .before .rows-leaving .ensures .1 (c .before .before .before .before .before .before .before .before .before .before .before .before .before .before .before .before .pre .1 .rising)))
     (search-hit _ _ _ (c .before .before .before .before .before .before .loop .inv) (c .before .before .before .before .before .loop-test .taken) (answered _ _ _ _ _ _ (sym (c .enum-told .given .1) ∙ c .before .before .answer-to .ensures)))
 
 enum-told-2 : tie.Need-enum-told-2 Inv-loop μ-loop
@@ -72,7 +72,7 @@ loop-again c = search-miss _ _ _ (c .before .before .before .before .before .bef
 returns-3 : tie.Need-returns-3 Inv-loop μ-loop
 returns-3 c =
     search-decides _ _ _ _ _ _ _ _ (sym (c .before .before .before .before .before .is-silent .ensures) ∙ not-false _ (c .before .before .before .before .if1 .left)) _ _
-    (leaving-moves _ _ _ (c .before .before .rows-leaving2 .ensures .1 (c .before .before .before .before .before .before .before .before .pre .0 .rising))) (leaving-moves _ _ _ (c .before .before .before .rows-leaving .ensures .1 (c .before .before .before .before .before .before .before .before .pre .1 .rising)))
+    (leaving-moves _ _ _ (c .before .before .rows-leaving2 .ensures .1 (c .before .before .before .before .before .before .before .before .before .before .before .pre .0 .rising))) (leaving-moves _ _ _ (c .before .before .before .rows-leaving .ensures .1 (c .before .before .before .before .before .before .before .before .before .before .before .pre .1 .rising)))
     (search-end _ _ _ (c .before .loop .inv) (c .loop-test .left))
 
 pub is-handshake-spec : {M : Type 1} → statement M
@@ -86,7 +86,7 @@ is-handshake-spec =
     rows-leaving-requires
     rows-leaving-requires-2
     loop-holds
-    shared-slice-read-t15
+    shared-slice-read-t16
     shared-slice-read-answer-to
     answer-to-requires
     enum-told
