@@ -41,13 +41,18 @@ module _ (s : List ℕ) (i : ℕ) where
       go false f e = absurd (apart cc)
       go true f e =
           let (fit, within) = both-true f in
-          record { here = cc; fit = eqb-true (length s % 3) 2 fit; within = omega (arith, ltb-true (3 * i + 4) (length s) within) }
+          record {
+            here = cc;
+            fit = eqb-true (length s % 3) 2 fit;
+            within = omega (arith, ltb-true (3 * i + 4) (length s) within);
+          }
 
   pub none-found : length s % 3 ≡ 2 → read.NoSuchStep ≡ jointRead s i → length s / 3 ≤ i
   unfolding jointRead
   none-found fit e = go (ltb (3 * i + 4) (length s)) refl (e ∙ rw (eq-eqb _ _ fit))
     where
-      go : (b : Bool) → ltb (3 * i + 4) (length s) ≡ b → read.NoSuchStep ≡ cond b (read.Step (jointStepAt s i)) read.NoSuchStep
+      go : (b : Bool) → ltb (3 * i + 4) (length s) ≡ b
+          → read.NoSuchStep ≡ cond b (read.Step (jointStepAt s i)) read.NoSuchStep
           → length s / 3 ≤ i
       go false f e = omega (arith, ltb-false (3 * i + 4) (length s) f)
       go true f e = absurd (apart cc)

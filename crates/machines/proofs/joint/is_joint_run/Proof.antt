@@ -45,36 +45,53 @@ enum-known-step : tie.Need-enum-known-step Inv-loop μ-loop
 enum-known-step c = search needs
 
 is-real-requires : tie.Need-is-real-requires Inv-loop μ-loop
-is-real-requires c κs = c .before .before .before .before .before .before .before .before .before .before .before .before .before .before .pre .0
+is-real-requires c κs =
+    let at-loop = c .before .before .before .before in
+    at-loop .before .before .before .before .before .before .before .before .before .before .pre .0
 
 returns-3 : tie.Need-returns-3 Inv-loop μ-loop
 unfolding pairing
 returns-3 c =
-    let at-loop = c .before .before .before .before .before .before in
-    walked-stop _ _ _ _ (at-loop .before .before .before .before .if1 .left) (at-loop .before .if2 .left) _ (at-loop .loop .inv)
-    _ (sym (c .before .before .before .step .given .1) ∙ c .before .before .before .before .before .joint-step .ensures) _ (c .before .is-real .ensures) (not-true _ (c .if3 .taken))
+    let c3 = c .before .before .before in
+    let c5 = c3 .before .before in
+    let at-loop = c5 .before in
+    walked-stop _ _ _ _ (at-loop .before .before .before .before .if1 .left) (at-loop .before .if2 .left) _
+    (at-loop .loop .inv) _ (sym (c3 .step .given .1) ∙ c5 .joint-step .ensures) _ (c .before .is-real .ensures)
+    (not-true _ (c .if3 .taken))
 
 enum-told : tie.Need-enum-told Inv-loop μ-loop
 enum-told c = search needs
 
 returns-4 : tie.Need-returns-4 Inv-loop μ-loop
 returns-4 c =
+    let c2 = c .before .before in
+    let c13 = c2 .before .before .before .before .before .before .before .before .before .before .before in
     let at-loop = c .before .before .before in
-    walked-end _ _ _ _ (at-loop .before .before .before .before .if1 .left) (at-loop .before .if2 .left) _ (at-loop .loop .inv)
-    (c .before .before .before .before .before .before .before .before .before .before .before .before .before .pre .1) (sym (c .enum-told .given .1) ∙ c .before .before .joint-step .ensures)
+    walked-end _ _ _ _ (at-loop .before .before .before .before .if1 .left) (at-loop .before .if2 .left) _
+    (at-loop .loop .inv) (c13 .pre .1) (sym (c .enum-told .given .1) ∙ c2 .joint-step .ensures)
 
 add-i : tie.Need-add-i Inv-loop μ-loop
-add-i c = omega (arith, step-found _ _ _ (sym (c .before .before .before .step .given .1) ∙ c .before .before .before .before .before .joint-step .ensures) .within)
+add-i c =
+    let c3 = c .before .before .before in
+    let c5 = c3 .before .before in
+    let c16 = c5 .before .before .before .before .before .before .before .before .before .before .before in
+    omega (arith, step-found _ _ _ (sym (c3 .step .given .1) ∙ c5 .joint-step .ensures) .within, c16 .good)
 
 loop-less : tie.Need-loop-less Inv-loop μ-loop
-loop-less c = omega (arith, step-found _ _ _ (sym (c .before .before .before .step .given .1) ∙ c .before .before .before .before .before .joint-step .ensures) .within)
+loop-less c =
+    let c3 = c .before .before .before in
+    let c5 = c3 .before .before in
+    omega (arith, step-found _ _ _ (sym (c3 .step .given .1) ∙ c5 .joint-step .ensures) .within)
 
 loop-again : tie.Need-loop-again Inv-loop μ-loop
 unfolding pairing
 loop-again c =
-    let at-loop = c .before .before .before .before .before .before in
-    walked-on _ _ _ _ (at-loop .before .before .before .before .if1 .left) (at-loop .before .if2 .left) _ (at-loop .loop .inv)
-    _ (sym (c .before .before .before .step .given .1) ∙ c .before .before .before .before .before .joint-step .ensures) _ (c .before .is-real .ensures) (not-false _ (c .if3 .left))
+    let c3 = c .before .before .before in
+    let c5 = c3 .before .before in
+    let at-loop = c5 .before in
+    walked-on _ _ _ _ (at-loop .before .before .before .before .if1 .left) (at-loop .before .if2 .left) _
+    (at-loop .loop .inv) _ (sym (c3 .step .given .1) ∙ c5 .joint-step .ensures) _ (c .before .is-real .ensures)
+    (not-false _ (c .if3 .left))
 
 pub is-joint-run-spec : {M : Type 1} → statement M
 is-joint-run-spec =

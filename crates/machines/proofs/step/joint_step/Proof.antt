@@ -43,7 +43,10 @@ shared-slice-read-t11-3 c = search needs
 
 returns-3 : tie.Need-returns-3
 unfolding jointStepAt
-returns-3 c = step-there _ _ (c .before .before .before .before .before .before .if1 .left) (c .before .before .before .before .before .if2 .left)
+returns-3 c =
+    let c5 = c .before .before .before .before .before in
+    let c6 = c5 .before in
+    step-there _ _ (c6 .if1 .left) (c5 .if2 .left)
 
 pub joint-step-spec : {M : Type 1} → statement M
 joint-step-spec =
