@@ -4,8 +4,8 @@
 # make command builds the command for people as target/bin/yenuslap
 # make prove   the quick form: proves what has changed since the last time
 # make bench   times the engine beside the plain implementation of rust/reference and prints the ratios
-# make outputs renews what the plain implementation writes: the files that the programs cases and ground_cases are run
-#              with, and the casebooks and sheets of cases/
+# make outputs renews what the plain implementation writes: the files that the programs cases, ground_cases and sheet
+#              are run with, and the casebooks and sheets of cases/
 # make figures writes docs/FIGURES.md: lines counted now; times and ratios of the last `make test` and `make bench`
 
 .PHONY: sheet test command prove bench outputs figures

@@ -1,6 +1,6 @@
-//! What the programs `crates/cases` and `crates/ground_cases` are given and must print, by this implementation: the
-//! files that `rt check` runs them with. Of the programs' sources only the list of cases and the form of trials and
-//! lines is shared.
+//! What the programs `crates/cases`, `crates/ground_cases` and `crates/sheet` are given and must print, by this
+//! implementation: the files that `rt check` runs them with. Of the programs' sources only the list of cases and the
+//! form of trials and lines is shared.
 
 mod cases;
 mod edges;
@@ -9,7 +9,10 @@ mod show;
 mod trial;
 mod trials;
 
-/// The stored files of both programs: their paths from the root of the repository, and what they hold.
+use crate::sheet::sheet;
+
+/// The stored files of the three programs: their paths from the root of the repository, and what they hold. The sheet
+/// program is given case A.
 pub fn files() -> Vec<(&'static str, Vec<u8>)> {
     let trials = trials::all();
     let stdin: Vec<u8> = trials.iter().flat_map(|trial| trial.to_bytes()).collect();
@@ -18,6 +21,8 @@ pub fn files() -> Vec<(&'static str, Vec<u8>)> {
         ("crates/cases/stdout", cases_stdout().into_bytes()),
         ("crates/ground_cases/stdin", stdin),
         ("crates/ground_cases/stdout", stdout.into_bytes()),
+        ("crates/sheet/stdin", cases::case_a()),
+        ("crates/sheet/stdout", sheet(&cases::case_a())),
     ]
 }
 

@@ -1,5 +1,5 @@
-//! The stored inputs and outputs of the programs `crates/cases` and `crates/ground_cases` are those that the plain
-//! implementation makes. `make outputs` renews them.
+//! The stored inputs and outputs of the programs `crates/cases`, `crates/ground_cases` and `crates/sheet` are those
+//! that the plain implementation makes. `make outputs` renews them.
 
 use std::fs;
 use std::path::Path;
