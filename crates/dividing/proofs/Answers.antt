@@ -10,9 +10,10 @@ use lib.ListN.{length, take, drop}
 use lib.Seq.{take-at, drop-at}
 use lib.Dec.{ltb}
 use borrow.Author.Tests.{lt-ltb, le-ltb, ltb-true, ltb-false}
-use Rattle.hml.specs.Tests.{apart}
+use Rattle.hml.proofs.Tests.{apart}
 use Rattle.hml.specs.Formula.{Formula, size}
-use Rattle.hml.specs.Spell.{spell, length-spell}
+use Rattle.hml.specs.Spell.{spell}
+use Rattle.hml.proofs.Spelling.{length-spell}
 use Rattle.labels.specs.Refusals.{firstOf, inFront, outputOf}
 use Rattle.labels.specs.declared.refusal.Refusal.{Refusal}
 use Rattle.labels.specs.declared.refusal.Refusal.the-variants.{QuotientTooLarge, OutputTooShort}

@@ -9,9 +9,10 @@ use lib.ListN.{length, take}
 use lib.Seq.{take-length}
 use lib.Dec.{leb, eqb}
 use borrow.Author.Tests.{le-leb, lt-leb, leb-true, eqb-true}
-use Rattle.hml.specs.Tests.{both-true}
+use Rattle.hml.proofs.Tests.{both-true}
 use Rattle.hml.specs.Formula.{Formula, size, nesting}
-use Rattle.hml.specs.Spell.{spell, length-spell}
+use Rattle.hml.specs.Spell.{spell}
+use Rattle.hml.proofs.Spelling.{length-spell}
 use Rattle.hml.specs.Quotient.{quotient}
 use Rattle.hml.specs.Labels.{pairs}
 use Rattle.labels.specs.Refusals.{thenOf, firstOf, inFront}

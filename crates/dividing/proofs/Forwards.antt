@@ -9,11 +9,11 @@ use native.Mathlib.Omega.{arith}
 use lib.ListN.{length, getD}
 use lib.Dec.{eqb}
 use borrow.Author.Tests.{ne-eqb}
-use Rattle.hml.specs.Tests.{same}
-use Rattle.hml.specs.Lists.{_∈_, each, only, given}
+use Rattle.hml.specs.Lists.{same, _∈_, each, only, given}
 use Rattle.hml.specs.System.{Run, start, _▸_, move, idle, last}
 use Rattle.hml.specs.Formula.{Formula, or, fwd, fwdIdle}
-use Rattle.hml.specs.Spell.{spell, spell-append}
+use Rattle.hml.specs.Spell.{spell}
+use Rattle.hml.proofs.Spelling.{spell-append}
 use Rattle.hml.specs.Quotient.{ors, ofPartner, quotient}
 use Rattle.labels.specs.Labels.{pairing}
 use Rattle.labels.specs.declared.label.Labels.{Labels}

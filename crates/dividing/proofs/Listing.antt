@@ -8,8 +8,7 @@ use native.Mathlib.Omega.{arith}
 use lib.ListN.{length, getD, length-append}
 use lib.Dec.{eqb}
 use borrow.Author.Tests.{eq-eqb, ne-eqb}
-use Rattle.hml.specs.Tests.{same}
-use Rattle.hml.specs.Lists.{each, given}
+use Rattle.hml.specs.Lists.{same, each, given}
 use Rattle.hml.specs.System.{Pairing}
 use Rattle.labels.specs.Labels.{pairing, partnerFound}
 use Rattle.labels.specs.declared.label.Label.{Label}

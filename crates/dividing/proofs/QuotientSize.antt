@@ -4,7 +4,7 @@ use mathlib.Core.Path.{_≡_}
 use mathlib.Core.Bool.{Bool, true, false}
 use mathlib.Core.Option.{Option, none, some}
 use native.Mathlib.Omega.{arith}
-use Rattle.hml.specs.Tests.{same}
+use Rattle.hml.specs.Lists.{same}
 use Rattle.hml.specs.System.{System, move, idle, Run, start, _▸_, Pairing}
 use Rattle.hml.specs.Formula.{Formula, top, bottom, not, and, or, fwd, back, fwdIdle, backIdle, size, nesting}
 use Rattle.hml.specs.Quotient.{backBy, quotient}

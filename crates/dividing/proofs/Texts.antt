@@ -9,10 +9,11 @@ use native.Mathlib.Omega.{arith}
 use lib.ListN.{length, getD, take, length-append}
 use lib.Dec.{eqb}
 use borrow.Author.Tests.{eq-eqb, ne-eqb, eqb-true, eqb-false}
-use Rattle.hml.specs.Tests.{same}
+use Rattle.hml.specs.Lists.{same}
 use Rattle.hml.specs.System.{Run, _▸_, move, idle, last}
 use Rattle.hml.specs.Formula.{Formula, not, and, or, back, backIdle, size}
-use Rattle.hml.specs.Spell.{spell, length-spell, spell-append}
+use Rattle.hml.specs.Spell.{spell}
+use Rattle.hml.proofs.Spelling.{length-spell, spell-append}
 use Rattle.hml.specs.Quotient.{backBy, quotient}
 use Rattle.labels.specs.Labels.{pairing}
 use Rattle.labels.specs.declared.label.Labels.{Labels}

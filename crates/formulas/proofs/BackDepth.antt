@@ -6,7 +6,7 @@ use mathlib.Core.Option.{none}
 use native.Mathlib.Omega.{arith}
 use lib.ListN.{length}
 use Rattle.hml.specs.Formula.{Formula}
-use Rattle.hml.specs.Window.{backs}
+use Rattle.hml.specs.Working.{backs}
 use Rattle.hml.specs.Spell.{spell}
 use Rattle.formulas.specs.Formulas.{formulaOf}
 use Rattle.formulas.specs.Backs.{backsIn, backsOf}

@@ -3,7 +3,7 @@ use Prim.Native.Nat.{ℕ}
 use mathlib.Core.List.{List}
 use mathlib.Core.Option.{Option, none, some}
 use Rattle.hml.specs.Formula.{Formula}
-use Rattle.hml.specs.Window.{backs}
+use Rattle.hml.specs.Working.{backs}
 use Rattle.formulas.specs.Formulas.{formulaOf}
 
 unfoldable pub backsIn : Option Formula → ℕ

@@ -8,7 +8,7 @@ use lib.Dec.{eqb, ltb}
 use mathlib.Core.List.{List, []}
 use lib.ListN.{length, take, length-take}
 use borrow.Author.Tests.{eq-eqb, ne-eqb, lt-ltb, le-ltb, eqb-false, ltb-false}
-use Rattle.hml.specs.Tests.{apart}
+use Rattle.hml.proofs.Tests.{apart}
 use Rattle.hml.specs.System.{steps, stop}
 use Rattle.halves.specs.Halves.{halfOf, isHalfRun}
 use Rattle.halves.proofs.HalfRuns.{accepted-half, half-stop, half-stopped}

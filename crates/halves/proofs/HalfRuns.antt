@@ -10,8 +10,10 @@ use lib.ListN.{length, getD, take, length-take}
 use lib.Seq.{take-nil}
 use lib.Dec.{eqb}
 use borrow.Author.Tests.{eqb-true, eqb-false}
-use Rattle.hml.specs.Tests.{same, Decides, decides, decided-by, decided-le, decided-lt, decided-true, decided-iff, decided-and, decided-same}
-use Rattle.hml.specs.Lists.{each, length-each}
+use Rattle.hml.specs.Lists.{same, each}
+use Rattle.hml.proofs.Tests.{Decides, decides, decided-by, decided-le, decided-lt, decided-true, decided-iff}
+use Rattle.hml.proofs.Tests.{decided-and, decided-same}
+use Rattle.hml.proofs.Lists.{length-each}
 use Rattle.hml.specs.System.{System, Run, start, _▸_, first, last, steps, stop, RunOf}
 use Rattle.tables.specs.Tables.{statesOf, tableOf, hasMove, SoundTable}
 use Rattle.halves.specs.Runs.{written, stepOf, goOn}

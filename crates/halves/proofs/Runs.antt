@@ -11,9 +11,11 @@ use lib.ListN.{length, take, drop, length-append, length-drop, take-append-drop,
 use lib.Seq.{drop-append-add, append-snoc, getD-drop}
 use lib.Dec.{eqb}
 use borrow.Author.Tests.{eq-eqb, ne-eqb, eqb-true}
-use Rattle.hml.specs.Tests.{Decides, decides, both-true}
-use Rattle.hml.specs.Lists.{_∈_, each, length-each}
-use Rattle.hml.specs.System.{System, move, idle, Run, start, _▸_, first, last, steps, undo, stop, Allowed, moves, idles, RunOf, begins, goes}
+use Rattle.hml.proofs.Tests.{Decides, decides, both-true}
+use Rattle.hml.specs.Lists.{_∈_, each}
+use Rattle.hml.proofs.Lists.{length-each}
+use Rattle.hml.specs.System.{System, move, idle, Run, start, _▸_, first, last, steps, undo, stop, Allowed, moves, idles}
+use Rattle.hml.specs.System.{RunOf, begins, goes}
 use Rattle.tables.proofs.Chunks.{Chunks, chunks-whole, chunks-length}
 use Rattle.halves.specs.Runs.{written, stepOf, lengthened, goOn}
 

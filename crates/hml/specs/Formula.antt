@@ -1,13 +1,11 @@
--- Stuttering Hennessy-Milner logic with past: formulas, their meaning (definitions 3 and 4 of source document 000), and the test
--- that decides it.
-use mathlib.Core.Path.{_≡_, refl, sym, ap, subst}
+-- Stuttering Hennessy-Milner logic with past: formulas, their meaning (definitions 3 and 4 of source document 000), and the same as
+-- a test. That the test decides the meaning is `decided`, proofs/Agreement.
+use mathlib.Core.Path.{_≡_}
 use mathlib.Core.Logic.{_⊎_}
 use mathlib.Core.Bool.{Bool, true, false, _&&_, _||_, not as negate}
-use mathlib.Core.List.{Memᴰ·cast as ∈-cast}
 use Prim.Native.Nat.{ℕ, _+_, max}
 use lib.Dec.{leb}
-use Rattle.hml.specs.Tests.{apart, same, Decides, proves, refutes, decided-not, decided-and, decided-or, decided-iff, decided-same}
-use Rattle.hml.specs.Lists.{_∈_, any, decided-any}
+use Rattle.hml.specs.Lists.{same, _∈_, any}
 use Rattle.hml.specs.System.{System, move, idle, Run, start, _▸_, last}
 
 pub data Formula : Type 0 where
@@ -82,23 +80,3 @@ module _ {S : Type 0} (M : System S) where
   holds (backIdle φ) (start p) = false
   holds (backIdle φ) (r ▸ move b p) = false
   holds (backIdle φ) (r ▸ idle) = holds φ r
-
-  -- the test decides the meaning
-  pub decided : (φ : Formula) (r : Run S) → Decides (Sat φ r) (holds φ r)
-  unfolding Sat holds
-  decided top r = proves tt
-  decided bottom r = refutes (λ x. x)
-  decided (not φ) r = decided-not (decided φ r)
-  decided (and φ ψ) r = decided-and (decided φ r) (decided ψ r)
-  decided (or φ ψ) r = decided-or (decided φ r) (decided ψ r)
-  decided (fwd a φ) r = decided-iff
-      (λ t. (t .0 .1, ∈-cast (ap {B = ℕ × S} (λ b. (b, t .0 .1)) (sym (t .2 .0))) (t .1), subst (λ b. Sat φ (r ▸ move b (t .0 .1))) (t .2 .0) (t .2 .1)))
-      (λ t. ((a, t .0), t .1, (refl, t .2)))
-      (decided-any (λ m. decided-and (decided-same (m .0) a) (decided φ (r ▸ move (m .0) (m .1)))) (M (last r)))
-  decided (back a φ) (start p) = refutes (λ t. let e = t .2 in apart cc)
-  decided (back a φ) (r ▸ move b p) = decided-iff (λ t. (r, p, ap (λ c. r ▸ move c p) (t .0), t .1)) (λ t. let e = t .2 in let h : r ≡ t .0 = cc in (cc, rw h (t .3))) (decided-and (decided-same b a) (decided φ r))
-  decided (back a φ) (r ▸ idle) = refutes (λ t. let e = t .2 in apart cc)
-  decided (fwdIdle φ) r = decided φ (r ▸ idle)
-  decided (backIdle φ) (start p) = refutes (λ t. let e = t .1 in apart cc)
-  decided (backIdle φ) (r ▸ move b p) = refutes (λ t. let e = t .1 in apart cc)
-  decided (backIdle φ) (r ▸ idle) = decided-iff (λ s. (r, refl, s)) (λ t. let e = t .1 in let h : r ≡ t .0 = cc in rw h (t .2)) (decided φ r)

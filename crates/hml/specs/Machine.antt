@@ -1,8 +1,7 @@
 -- A machine of document 01: a table of rows is a system, and the moves that leave a state stand in the table's order.
 use mathlib.Core.List.{List}
 use Prim.Native.Nat.{ℕ}
-use Rattle.hml.specs.Tests.{same}
-use Rattle.hml.specs.Lists.{only, each}
+use Rattle.hml.specs.Lists.{same, only, each}
 use Rattle.hml.specs.System.{System}
 
 -- a row: from, label, to

@@ -6,7 +6,7 @@ use mathlib.Core.List.{List}
 use native.Mathlib.Omega.{arith}
 use lib.ListN.{length}
 use borrow.Author.Tests.{lt-ltb, le-ltb}
-use Rattle.hml.specs.Tests.{apart}
+use Rattle.hml.proofs.Tests.{apart}
 use Rattle.hml.specs.System.{last}
 use Rattle.labels.specs.Refusals.{thenOf, firstOf, refusedIf, inFront}
 use Rattle.labels.specs.Labels.{checkPairs}

@@ -2,7 +2,7 @@
 use mathlib.Core.Path.{_≡_, refl}
 use mathlib.Core.Logic.{_↔_}
 use mathlib.Core.Bool.{Bool, true, false, not}
-use Rattle.hml.specs.Tests.{apart, Decides, proves, refutes}
+use Rattle.hml.proofs.Tests.{apart, Decides, proves, refutes}
 use Rattle.labels.specs.Refusals.{thenOf, refusedIf}
 use Rattle.labels.specs.declared.refusal.Refusal.{Refusal}
 use Rattle.labels.specs.declared.refusal.Check.{Check}

@@ -6,10 +6,11 @@ use mathlib.Core.List.{List, [], _∷_, _++_}
 use native.Mathlib.Omega.{arith}
 use lib.ListN.{length, take, drop}
 use lib.Seq.{drop-append-le}
-use Rattle.hml.specs.Tests.{decides, both-true}
-use Rattle.hml.specs.Lists.{each, each-append, length-each}
+use Rattle.hml.proofs.Tests.{decides, both-true}
+use Rattle.hml.specs.Lists.{each}
+use Rattle.hml.proofs.Lists.{each-append, length-each}
 use Rattle.hml.specs.System.{Run, start, _▸_, move, idle, first, last, steps, stop, RunOf}
-use Rattle.hml.specs.NewestSteps.{behind, last-behind, first-behind, steps-from, run-behind}
+use Rattle.hml.proofs.NewestSteps.{behind, last-behind, first-behind, steps-from, run-behind}
 use Rattle.labels.specs.Refusals.{firstOf}
 use Rattle.labels.specs.declared.refusal.Check.the-variants.{Sound}
 use Rattle.labels.proofs.Refusals.{judges}

@@ -8,11 +8,13 @@ use mathlib.Core.Option.{some}
 use native.Mathlib.Omega.{arith}
 use lib.ListN.{length, getD, take, length-take}
 use lib.Seq.{take-nil}
-use Rattle.hml.specs.Tests.{Decides, decides, decided-by, decided-le, decided-lt, decided-true, both-true, decided-iff, decided-and, decided-or, decided-same, tested-ℕ, tested-pair}
-use Rattle.hml.specs.Lists.{_∈_, decided-any, decided-present, each, length-each}
+use Rattle.hml.proofs.Tests.{Decides, decides, decided-by, decided-le, decided-lt, decided-true, both-true, decided-iff}
+use Rattle.hml.proofs.Tests.{decided-and, decided-or, decided-same, tested-ℕ, tested-pair}
+use Rattle.hml.specs.Lists.{_∈_, each}
+use Rattle.hml.proofs.Lists.{decided-any, decided-present, length-each}
 use Rattle.hml.specs.System.{System, Run, start, _▸_, first, last, steps, stop, RunOf, Pairing}
 use Rattle.hml.specs.Compose.{beside, left, right, both}
-use Rattle.hml.specs.Real.{Real, real-rows}
+use Rattle.hml.proofs.Real.{Real, real-rows}
 use Rattle.hml.specs.Labels.{pairs}
 use Rattle.tables.specs.Tables.{statesOf, threes, tableOf, SoundTable}
 use Rattle.halves.specs.Runs.{written, stepOf, lengthened, goOn}

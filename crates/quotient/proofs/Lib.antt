@@ -6,4 +6,3 @@ pub mod Windows
 pub mod Judging
 pub mod QuotientCalls
 pub mod LineOffice
-pub mod Published

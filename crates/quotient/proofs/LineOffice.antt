@@ -8,12 +8,13 @@ use native.Mathlib.Omega.{arith}
 use lib.ListN.{length, take}
 use lib.Dec.{ltb}
 use borrow.Author.Tests.{le-ltb, ltb-false}
-use Rattle.hml.specs.Tests.{apart}
+use Rattle.hml.proofs.Tests.{apart}
 use Rattle.hml.specs.System.{steps}
 use Rattle.hml.specs.Formula.{Formula, size}
-use Rattle.hml.specs.Compose.{paired, Join}
+use Rattle.hml.specs.Compose.{paired}
+use Rattle.hml.proofs.Composition.{Join}
 use Rattle.hml.specs.Spell.{spell}
-use Rattle.hml.specs.Joining.{join-steps}
+use Rattle.hml.proofs.Joins.{join-steps}
 use Rattle.hml.specs.Labels.{pairs}
 use Rattle.labels.specs.Refusals.{thenOf, firstOf, refusedIf}
 use Rattle.labels.specs.declared.refusal.Refusal.{Refusal}

@@ -6,12 +6,14 @@ use mathlib.Core.Option.{some}
 use native.Mathlib.Omega.{arith}
 use Rattle.hml.specs.System.{Run, stop}
 use Rattle.hml.specs.Formula.{Formula, size, holds}
-use Rattle.hml.specs.Compose.{beside, paired, Join}
-use Rattle.hml.specs.Labels.{count, pairs, partner-ranged}
+use Rattle.hml.specs.Compose.{beside, paired}
+use Rattle.hml.proofs.Composition.{Join}
+use Rattle.hml.specs.Labels.{count, pairs}
+use Rattle.hml.proofs.Labels.{partner-ranged}
 use Rattle.hml.specs.Spell.{spell}
 use Rattle.hml.specs.Quotient.{quotient}
-use Rattle.hml.specs.Bounds.{quotient-labelled, quotient-nested}
-use Rattle.hml.specs.Theorem.{join-stop, by-right, by-left}
+use Rattle.hml.proofs.Bounds.{quotient-labelled, quotient-nested}
+use Rattle.hml.proofs.Theorem.{join-stop, by-right, by-left}
 use Rattle.labels.specs.declared.refusal.Check.the-variants.{Sound}
 use Rattle.labels.proofs.Refusals.{judges}
 use Rattle.tables.specs.Tables.{tableOf}

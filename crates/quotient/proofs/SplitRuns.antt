@@ -7,8 +7,9 @@ use native.Mathlib.Omega.{arith}
 use lib.ListN.{length}
 use borrow.Author.Tests.{le-ltb, lt-leb}
 use Rattle.hml.specs.System.{steps}
-use Rattle.hml.specs.Compose.{paired, Join}
-use Rattle.hml.specs.Joining.{join-steps}
+use Rattle.hml.specs.Compose.{paired}
+use Rattle.hml.proofs.Composition.{Join}
+use Rattle.hml.proofs.Joins.{join-steps}
 use Rattle.hml.specs.Labels.{pairs}
 use Rattle.labels.specs.Refusals.{firstOf, refusedIf}
 use Rattle.labels.specs.Labels.{checkPairs}

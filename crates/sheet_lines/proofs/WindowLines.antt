@@ -12,7 +12,7 @@ use borrow.Author.Tests.{ltb-true, ltb-false}
 use Rattle.hml.specs.System.{steps}
 use Rattle.hml.specs.Formula.{size}
 use Rattle.hml.specs.Spell.{spell}
-use Rattle.hml.specs.Window.{backs}
+use Rattle.hml.specs.Working.{backs}
 use Rattle.labels.specs.declared.refusal.Check.the-variants.{Sound}
 use Rattle.halves.specs.declared.side.Side.the-variants as side
 use Rattle.machines.specs.Joints.{jointOf}

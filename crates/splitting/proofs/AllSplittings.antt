@@ -6,14 +6,15 @@ use mathlib.Core.List.{List}
 use mathlib.Core.Option.{some}
 use native.Mathlib.Omega.{arith}
 use lib.ListN.{length}
-use Rattle.hml.specs.Tests.{tested-ℕ}
+use Rattle.hml.proofs.Tests.{tested-ℕ}
 use Rattle.hml.specs.System.{Run, start, _▸_, steps}
 use Rattle.hml.specs.Compose.{paired}
-use Rattle.hml.specs.Real.{JoinOf}
-use Rattle.hml.specs.Joining.{join-first, join-steps}
+use Rattle.hml.proofs.Real.{JoinOf}
+use Rattle.hml.proofs.Joins.{join-first, join-steps}
 use Rattle.hml.specs.Split.{splits}
-use Rattle.hml.specs.NewestSteps.{splits-some}
+use Rattle.hml.proofs.NewestSteps.{splits-some}
 use Rattle.hml.specs.Labels.{pairs}
+use Rattle.hml.specs.Lists.{same}
 use Rattle.labels.specs.declared.refusal.Check.the-variants.{Sound}
 use Rattle.tables.specs.Tables.{tableOf}
 use Rattle.halves.specs.Halves.{halfBytes, halfOf}
@@ -85,7 +86,7 @@ pub count-one : (k : ℕ) (l r s : List ℕ) → steps (jointOf s) ≡ 0 → len
 unfolding splittingsOf splits
 count-one k l r s = go (jointOf s)
   where
-    go : (j : Run (ℕ × ℕ)) → steps j ≡ 0 → length (splits (pairs k) tested-ℕ tested-ℕ (tableOf l) (tableOf r) j) ≡ 1
+    go : (j : Run (ℕ × ℕ)) → steps j ≡ 0 → length (splits (pairs k) same same (tableOf l) (tableOf r) j) ≡ 1
     go (start u) e = refl
     go (j ▸ t) e = absurd (omega (arith, e))
 

@@ -4,4 +4,3 @@ pub mod Outcomes
 pub mod SplitCalls
 pub mod Unrolling
 pub mod AllSplittings
-pub mod Published

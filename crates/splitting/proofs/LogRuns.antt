@@ -6,15 +6,16 @@ use mathlib.Core.List.{List}
 use mathlib.Core.Option.{some}
 use native.Mathlib.Omega.{arith}
 use lib.ListN.{length, getD}
-use Rattle.hml.specs.Tests.{decides, decided-true, tested-ℕ}
-use Rattle.hml.specs.Lists.{length-each, present, decided-present}
+use Rattle.hml.proofs.Tests.{decides, decided-true, tested-ℕ}
+use Rattle.hml.proofs.Lists.{length-each, decided-present}
+use Rattle.hml.specs.Lists.{present}
 use Rattle.hml.specs.System.{Run, start, first, steps, RunOf}
 use Rattle.hml.specs.Compose.{paired}
-use Rattle.hml.specs.Real.{JoinOf, join-run}
-use Rattle.hml.specs.Joining.{join-found, join-sound, join-first, join-steps}
-use Rattle.hml.specs.Split.{splits-sound, splits-complete}
-use Rattle.hml.specs.Distinct.{splits-distinct}
-use Rattle.hml.specs.Indexed.{element, number-of, number-once}
+use Rattle.hml.proofs.Real.{JoinOf, join-run}
+use Rattle.hml.proofs.Joins.{join-found, join-sound, join-first, join-steps}
+use Rattle.hml.proofs.Splits.{splits-sound, splits-complete}
+use Rattle.hml.proofs.Distinct.{splits-distinct}
+use Rattle.hml.proofs.Indexed.{element, number-of, number-once}
 use Rattle.hml.specs.Labels.{pairs}
 use Rattle.labels.specs.Refusals.{firstOf, refusedIf}
 use Rattle.labels.specs.Labels.{checkPairs}

@@ -2,11 +2,11 @@
 use Prim.Native.Nat.{ℕ, _+_, _*_, _%_}
 use mathlib.Core.List.{List}
 use lib.ListN.{length, getD, set}
-use Rattle.hml.specs.Tests.{tested-ℕ}
-use Rattle.hml.specs.System as theory
 use Rattle.hml.specs.System.{move, idle}
 use Rattle.hml.specs.Split.{options}
 use Rattle.hml.specs.Labels.{pairs}
+use Rattle.hml.specs.Lists.{same}
+use Rattle.hml.specs.System as theory
 use Rattle.tables.specs.Tables.{tableOf}
 use Rattle.halves.specs.Runs.{stepOf}
 use Rattle.halves.specs.declared.step.Step.{Step}
@@ -32,7 +32,7 @@ stepHere s i = record {
 
 -- the splittings of step i of a joint run's bytes, from the states before it
 unfoldable pub optionsAt : ℕ → List ℕ → List ℕ → List ℕ → ℕ → List Steps
-optionsAt k l r s i = options (pairs k) tested-ℕ tested-ℕ (tableOf l) (tableOf r) (getD s (3 * i) 0, getD s (3 * i + 1) 0)
+optionsAt k l r s i = options (pairs k) same same (tableOf l) (tableOf r) (getD s (3 * i) 0, getD s (3 * i + 1) 0)
     (stepOf (getD s (3 * i + 2) 0) (getD s (3 * i + 3) 0, getD s (3 * i + 4) 0))
 
 -- the way of step i in splitting n of the steps up to it

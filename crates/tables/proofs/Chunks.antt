@@ -6,7 +6,8 @@ use native.Mathlib.Nat.{mul-zero, mul-suc, add-comm, mul-add-mod-self-right, mod
 use native.Mathlib.Omega.{arith}
 use lib.ListN.{length, take, drop, length-append, length-take, length-drop}
 use lib.Seq.{take-nil, drop-nil, take-append-add, drop-append-add}
-use Rattle.hml.specs.Lists.{each, length-each}
+use Rattle.hml.specs.Lists.{each}
+use Rattle.hml.proofs.Lists.{length-each}
 use Rattle.hml.specs.Machine.{Row}
 use Rattle.tables.specs.Tables.{threes}
 

@@ -14,7 +14,7 @@ use Rattle.hml.specs.Formula.{Formula, size, holds}
 use Rattle.hml.specs.Machine.{machine}
 use Rattle.hml.specs.Labels.{pairs}
 use Rattle.hml.specs.Compose.{beside}
-use Rattle.hml.specs.Alone.{holds-alone}
+use Rattle.hml.proofs.Alone.{holds-alone}
 use Rattle.labels.specs.Refusals.{thenOf, firstOf, refusedIf}
 use Rattle.labels.specs.Labels.{checkPairs, pairing}
 use Rattle.labels.specs.declared.label.Labels.{Labels}

@@ -10,7 +10,7 @@ use lib.ListN.{length, getD, take, drop, set, replicate, length-append, length-s
 use lib.Seq.{getD-drop, getD-set-same, getD-set-other, take-suc, take-all}
 use lib.Dec.{eqb}
 use borrow.Author.Tests.{eqb-true, eqb-false}
-use Rattle.hml.specs.Tests.{same-refl}
+use Rattle.hml.proofs.Tests.{same-refl}
 use Rattle.hml.specs.Lists.{_∈_, only}
 use Rattle.hml.specs.Machine.{Row, machine}
 use Rattle.tables.specs.Tables.{rowsOf, rowOf, tableOf, SoundTable}

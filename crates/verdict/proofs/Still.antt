@@ -8,7 +8,7 @@ use lib.ListN.{length, getD, take, length-take}
 use lib.Seq.{take-nil, getD-take}
 use lib.Dec.{eqb}
 use Rattle.hml.specs.System.{move, idle, Run, start, _▸_, last}
-use Rattle.hml.specs.Alone.{alone, last-alone}
+use Rattle.hml.proofs.Alone.{alone, last-alone}
 use Rattle.tables.specs.Tables.{threes}
 use Rattle.halves.specs.Runs.{stepOf, lengthened}
 use Rattle.halves.specs.Halves.{twos, halfOf, isHalfRun}

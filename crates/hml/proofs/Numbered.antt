@@ -3,7 +3,7 @@
 use mathlib.Core.Path.{_≡_, refl, _∙_, ap}
 use mathlib.Core.Bool.{Bool, true, false}
 use mathlib.Core.List.{List, [], _∷_, _++_, map}
-use Prim.Native.Nat.{ℕ, zero, suc, _+_, _-_, _*_, _/_, _%_, _≤_, _<_}
+use Prim.Native.Nat.{ℕ, zero, suc, _-_, _*_, _/_, _%_, _≤_, _<_}
 use native.Mathlib.Omega.{arith}
 use native.Mathlib.Nat.{zero-mul, suc-mul, div-eq-of-lt, div-eq-sub-div, mod-eq-of-lt, mod-eq-sub-mod, mod-lt}
 use native.Mathlib.Numerals.{add-one}
@@ -11,9 +11,10 @@ use lib.ListN.{length, getD, length-map, List·getD-append}
 use lib.Dec.{ltb}
 use borrow.Author.Tests.{ltb-true, ltb-false}
 use Rattle.hml.specs.Lists.{each}
-use Rattle.hml.specs.Tests.{Tested}
+use Rattle.hml.proofs.Tests.{Tested}
 use Rattle.hml.specs.System.{System, Step, Run, _▸_, last, Pairing}
-use Rattle.hml.specs.Split.{grown, options, splits, splits-count}
+use Rattle.hml.specs.Split.{grown, options, splits}
+use Rattle.hml.proofs.Splits.{splits-count}
 
 module _ {A : Type 0} where
   -- an element of the second of two lists, one behind the other
@@ -46,10 +47,10 @@ module _ {A B : Type 0} (g : A → List B) (k : ℕ) (some : 0 < k) (equal : (x 
 
 module _ (P : Pairing) {S T : Type 0} (A : Tested S) (B : Tested T) (L : System S) (R : System T) where
   -- the splitting of a number, by the last step
-  pub splits-at : (j : Run (S × T)) (s : Step (S × T)) (i : ℕ) (d e : Run S × Run T) (o : Step S × Step T) → 0 < length (options P A B L R (last j) s) → i < length (splits P A B L R (j ▸ s))
-      → getD (splits P A B L R (j ▸ s)) i d ≡ grown (getD (splits P A B L R j) (i / length (options P A B L R (last j) s)) e) (getD (options P A B L R (last j) s) (i % length (options P A B L R (last j) s)) o)
+  pub splits-at : (j : Run (S × T)) (s : Step (S × T)) (i : ℕ) (d e : Run S × Run T) (o : Step S × Step T) → 0 < length (options P (A .equal) (B .equal) L R (last j) s) → i < length (splits P (A .equal) (B .equal) L R (j ▸ s))
+      → getD (splits P (A .equal) (B .equal) L R (j ▸ s)) i d ≡ grown (getD (splits P (A .equal) (B .equal) L R j) (i / length (options P (A .equal) (B .equal) L R (last j) s)) e) (getD (options P (A .equal) (B .equal) L R (last j) s) (i % length (options P (A .equal) (B .equal) L R (last j) s)) o)
   unfolding splits
   splits-at j s i d e o some h =
-      let opts = options P A B L R (last j) s in
-      at-each (λ h. map (grown h) opts) (length opts) some (λ h. length-map opts (grown h)) e d (splits P A B L R j) i (rw (splits-count P A B L R j s) at h)
-      ∙ at-map (grown (getD (splits P A B L R j) (i / length opts) e)) opts (i % length opts) o d (mod-lt i some)
+      let opts = options P (A .equal) (B .equal) L R (last j) s in
+      at-each (λ h. map (grown h) opts) (length opts) some (λ h. length-map opts (grown h)) e d (splits P (A .equal) (B .equal) L R j) i (rw (splits-count P A B L R j s) at h)
+      ∙ at-map (grown (getD (splits P (A .equal) (B .equal) L R j) (i / length opts) e)) opts (i % length opts) o d (mod-lt i some)

@@ -4,23 +4,11 @@ use mathlib.Core.Path.{_≡_, refl, ap, ap₂, fun-ext}
 use Prim.Native.Nat.{ℕ, zero, suc, _+_, _≤_, max}
 use native.Mathlib.Omega.{arith}
 use mathlib.Core.List.{_++_}
-use Rattle.hml.specs.Tests.{same}
-use Rattle.hml.specs.Lists.{each, only, given}
+use Rattle.hml.specs.Lists.{same, each, only, given}
 use Rattle.hml.specs.System.{System, Step, move, idle, Run, start, _▸_, last, Pairing}
 use Rattle.hml.specs.Formula.{Formula, top, bottom, not, and, or, fwd, back, fwdIdle, backIdle}
+use Rattle.hml.specs.Working.{backs}
 use Rattle.hml.specs.Quotient.{ors, ofPartner, backBy, quotient}
-
--- how deep back modalities nest, by a label or by idle, along one branch
-unfoldable pub backs : Formula → ℕ
-backs top = 0
-backs bottom = 0
-backs (not φ) = backs φ
-backs (and φ ψ) = max (backs φ) (backs ψ)
-backs (or φ ψ) = max (backs φ) (backs ψ)
-backs (fwd a φ) = backs φ
-backs (back a φ) = 1 + backs φ
-backs (fwdIdle φ) = backs φ
-backs (backIdle φ) = 1 + backs φ
 
 -- two runs that end in the same state, with the same last n steps, or that are the same where they have no more
 module _ {S : Type 0} where

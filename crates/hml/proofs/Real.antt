@@ -2,19 +2,19 @@
 -- the moves of the joint system are the real steps.
 use mathlib.Core.Path.{_≡_, refl, sym}
 use mathlib.Core.Logic.{_↔_, _⊎_, inl, inr}
-use mathlib.Core.List.{_++_, List·Memᴰ·append-cases as ∈-append, Memᴰ·append-left as ∈-left, Memᴰ·append-right as ∈-right, Memᴰ·map as ∈-map, Memᴰ·of-map as map-∈, Memᴰ·cast as ∈-cast}
+use mathlib.Core.List.{_++_, List·Memᴰ·append-cases as ∈-append, Memᴰ·append-left as ∈-left}
+use mathlib.Core.List.{Memᴰ·append-right as ∈-right, Memᴰ·map as ∈-map, Memᴰ·of-map as map-∈, Memᴰ·cast as ∈-cast}
 use mathlib.Core.Option.{some}
 use Prim.Native.Nat.{ℕ}
-use Rattle.hml.specs.Tests.{decides}
-use Rattle.hml.specs.Lists.{_∈_, ∈-only, ∈-each, each-∈}
-use Rattle.hml.specs.System.{System, Step, move, idle, Run, start, _▸_, last, Pairing, RunOf, begins, goes, Allowed, moves, idles}
-use Rattle.hml.specs.Compose.{paired, Match, Join, starts, _▹_, leftAlone, rightAlone, handshake, bothIdle, last-join, Way, left, right, both, joint, ways, lefts, rights, handshakes, beside, shakes, decided-shakes}
-
--- the steps of the halves that a way names
-abbrev pub halves : {S T : Type 0} → Way S T → Step S × Step T
-halves (left a p) = (move a p, idle)
-halves (right b q) = (idle, move b q)
-halves (both a p b q) = (move a p, move b q)
+use Rattle.hml.proofs.Tests.{decides}
+use Rattle.hml.specs.Lists.{_∈_}
+use Rattle.hml.proofs.Lists.{∈-only, ∈-each, each-∈}
+use Rattle.hml.specs.System.{System, Step, move, idle, Run, start, _▸_, last, Pairing, RunOf, begins, goes}
+use Rattle.hml.specs.System.{Allowed, moves, idles}
+use Rattle.hml.specs.Compose.{paired, Way, left, right, both, joint, ways, lefts, rights, handshakes, beside}
+use Rattle.hml.specs.Compose.{shakes, halves}
+use Rattle.hml.proofs.Composition.{Match, Join, starts, _▹_, leftAlone, rightAlone, handshake, bothIdle}
+use Rattle.hml.proofs.Composition.{last-join, decided-shakes}
 
 module _ (P : Pairing) {S T : Type 0} (L : System S) (R : System T) where
   -- which ways the two systems offer from (p, q)

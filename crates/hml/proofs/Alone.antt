@@ -3,11 +3,12 @@ use mathlib.Core.Path.{_≡_, refl, _∙_, ap}
 use mathlib.Core.Bool.{Bool, _&&_, not as negate, or-false}
 use mathlib.Core.List.{[]}
 use Prim.Native.Nat.{ℕ}
-use Rattle.hml.specs.Tests.{same}
-use Rattle.hml.specs.Lists.{any, any-cong, any-false}
+use Rattle.hml.specs.Lists.{same, any}
+use Rattle.hml.proofs.Lists.{any-cong, any-false}
 use Rattle.hml.specs.System.{System, move, idle, Run, start, _▸_, last, Pairing}
 use Rattle.hml.specs.Formula.{Formula, top, bottom, not, and, or, fwd, back, fwdIdle, backIdle, holds}
-use Rattle.hml.specs.Compose.{beside, Composed, beside-composed}
+use Rattle.hml.specs.Compose.{beside}
+use Rattle.hml.proofs.Composition.{Composed, beside-composed}
 
 -- a run beside the state q, which is kept
 unfoldable pub alone : {S T : Type 0} → T → Run S → Run (S × T)

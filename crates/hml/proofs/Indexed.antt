@@ -6,7 +6,7 @@ use Prim.Native.Nat.{ℕ, zero, suc, _<_}
 use native.Mathlib.Omega.{arith}
 use lib.ListN.{length, getD}
 use Rattle.hml.specs.Lists.{_∈_}
-use Rattle.hml.specs.Distinct.{Distinct, none, some}
+use Rattle.hml.proofs.Distinct.{Distinct, none, some}
 
 module _ {A : Type 0} (d : A) where
   -- the element of a number is in the list

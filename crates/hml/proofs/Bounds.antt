@@ -3,14 +3,17 @@
 use mathlib.Core.Path.{_≡_, refl}
 use mathlib.Core.Logic.{_⊎_, inl, inr}
 use mathlib.Core.Bool.{Bool, true, false, _&&_}
-use mathlib.Core.List.{List, [], _∷_, _++_, List·Memᴰ·head as here, List·Memᴰ·tail as there, List·Memᴰ·not-nil as nowhere, List·Memᴰ·eq-of-singleton as ∈-single, List·Memᴰ·append-cases as ∈-append}
+use mathlib.Core.List.{List, [], _∷_, _++_, List·Memᴰ·head as here, List·Memᴰ·tail as there}
+use mathlib.Core.List.{List·Memᴰ·not-nil as nowhere, List·Memᴰ·eq-of-singleton as ∈-single}
+use mathlib.Core.List.{List·Memᴰ·append-cases as ∈-append}
 use mathlib.Core.Option.{Option, none, some}
 use Prim.Native.Nat.{ℕ, _+_, _≤_}
 use native.Mathlib.Omega.{arith}
 use lib.Dec.{leb}
 use borrow.Author.Tests.{le-leb}
-use Rattle.hml.specs.Tests.{same, both-true}
-use Rattle.hml.specs.Lists.{_∈_, only, given, each, ∈-only, each-∈}
+use Rattle.hml.specs.Lists.{same, _∈_, only, given, each}
+use Rattle.hml.proofs.Tests.{both-true}
+use Rattle.hml.proofs.Lists.{∈-only, each-∈}
 use Rattle.hml.specs.System.{System, move, idle, Run, start, _▸_, last, Pairing}
 use Rattle.hml.specs.Formula.{Formula, top, bottom, not, and, or, fwd, back, fwdIdle, backIdle, labelled, nesting}
 use Rattle.hml.specs.Quotient.{ors, ofPartner, backBy, quotient}

@@ -3,8 +3,10 @@ use mathlib.Core.Path.{_≡_, _∙_, ap}
 use mathlib.Core.List.{List, [], _∷_}
 use Rattle.hml.specs.System.{System, Run, Pairing}
 use Rattle.hml.specs.Formula.{Formula, holds}
-use Rattle.hml.specs.Compose.{paired, beside, beside-composed, Join}
-use Rattle.hml.specs.Quotient.{quotient, quotient-sound}
+use Rattle.hml.specs.Compose.{paired, beside}
+use Rattle.hml.proofs.Composition.{beside-composed, Join}
+use Rattle.hml.specs.Quotient.{quotient}
+use Rattle.hml.proofs.Quotients.{quotient-sound}
 
 module _ (P : Pairing) {S : Type 0} (L : System S) where
   -- a further machine and its part of the run

@@ -2,15 +2,18 @@
 use mathlib.Core.Path.{_≡_, refl, sym, _∙_, ap}
 use mathlib.Core.Logic.{_⊎_, inl, inr}
 use mathlib.Core.Bool.{Bool, true, false, _&&_, _||_}
-use mathlib.Core.List.{List, [], _∷_, _++_, map, List·Memᴰ·head as here, List·Memᴰ·tail as there, List·Memᴰ·not-nil as nowhere, List·Memᴰ·append-cases as ∈-append, Memᴰ·of-map as map-∈, Memᴰ·cast as ∈-cast}
+use mathlib.Core.List.{List, [], _∷_, _++_, map, List·Memᴰ·head as here, List·Memᴰ·tail as there}
+use mathlib.Core.List.{List·Memᴰ·not-nil as nowhere, List·Memᴰ·append-cases as ∈-append, Memᴰ·of-map as map-∈}
+use mathlib.Core.List.{Memᴰ·cast as ∈-cast}
 use mathlib.Core.Option.{Option}
 use Prim.Native.Nat.{ℕ}
-use Rattle.hml.specs.Tests.{apart, Tested, decides, decided-true}
-use Rattle.hml.specs.Lists.{_∈_, only, each, any, decided-any, each-cong, each-none, ∈-only, each-∈}
+use Rattle.hml.proofs.Tests.{apart, Tested, decides, decided-true}
+use Rattle.hml.specs.Lists.{_∈_, only, each, any}
+use Rattle.hml.proofs.Lists.{decided-any, each-cong, each-none, ∈-only, each-∈}
 use Rattle.hml.specs.System.{System, Step, move, idle, Run, start, _▸_, last, Pairing}
-use Rattle.hml.specs.Compose.{Way, left, right, both, joint, ways, lefts, rights, handshakes, shakes}
-use Rattle.hml.specs.Real.{halves}
-use Rattle.hml.specs.Split.{grown, options, splits, moves-tested}
+use Rattle.hml.specs.Compose.{Way, left, right, both, joint, ways, lefts, rights, handshakes, shakes, halves}
+use Rattle.hml.specs.Split.{grown, options, splits}
+use Rattle.hml.proofs.Splits.{moves-tested}
 
 pub data Distinct {A : Type 0} : List A → Type 0 where
   none : Distinct []
@@ -120,7 +123,7 @@ whole-halves (right b q) = refl
 whole-halves (both a p b q) = refl
 
 module _ (P : Pairing) {S T : Type 0} (A : Tested S) (B : Tested T) (L : System S) (R : System T) (dl : (p : S) → Distinct (L p)) (dr : (q : T) → Distinct (R q)) where
-  distinct-options : (u : S × T) (s : Step (S × T)) → Distinct (options P A B L R u s)
+  distinct-options : (u : S × T) (s : Step (S × T)) → Distinct (options P (A .equal) (B .equal) L R u s)
   distinct-options u (move c v) = distinct-each _
       (λ w. distinct-only (moves-tested P A B L R .equal (joint (u .0) (u .1) w) (c, v)) (halves w))
       (λ w w′ k i o. let e : k ≡ halves w = ∈-only _ .0 i .1 in let e′ : k ≡ halves w′ = ∈-only _ .0 o .1 in cc (whole-halves w, whole-halves w′))
@@ -128,13 +131,13 @@ module _ (P : Pairing) {S T : Type 0} (A : Tested S) (B : Tested T) (L : System 
   distinct-options u idle = some nowhere none
 
   -- no splitting is listed twice
-  pub splits-distinct : (j : Run (S × T)) → Distinct (splits P A B L R j)
+  pub splits-distinct : (j : Run (S × T)) → Distinct (splits P (A .equal) (B .equal) L R j)
   unfolding splits
   splits-distinct (start u) = some nowhere none
   splits-distinct (j ▸ s) = distinct-each _
       (λ h. distinct-map (grown h) (λ k k′ e. grown-injective h h k k′ e .1) (distinct-options (last j) s))
       (λ h h′ z i o.
-      let t = map-∈ (grown h) (options P A B L R (last j) s) i in
-      let t′ = map-∈ (grown h′) (options P A B L R (last j) s) o in
+      let t = map-∈ (grown h) (options P (A .equal) (B .equal) L R (last j) s) i in
+      let t′ = map-∈ (grown h′) (options P (A .equal) (B .equal) L R (last j) s) o in
       grown-injective h h′ (t .0) (t′ .0) (t .2 ∙ sym (t′ .2)) .0)
       (splits-distinct j)

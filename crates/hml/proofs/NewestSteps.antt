@@ -3,19 +3,23 @@
 -- splittings of these steps alone. A quotient looks back over few steps only (Window), and so it is known by the splittings of these few.
 use mathlib.Core.Path.{_≡_, refl, sym, _∙_, ap}
 use Prim.Native.Nat.{ℕ, zero, suc, _+_, _-_, _*_, _/_, _%_, _≤_, _<_}
-use native.Mathlib.Nat.{mul-one, mul-zero, mul-pos, le-mul-of-pos-right, mul-assoc, mul-comm, div-one, mod-lt, div-div-eq-div-mul, div-lt-iff-lt-mul}
+use native.Mathlib.Nat.{mul-one, mul-zero, mul-pos, le-mul-of-pos-right, mul-assoc, mul-comm, div-one, mod-lt}
+use native.Mathlib.Nat.{div-div-eq-div-mul, div-lt-iff-lt-mul}
 use native.Mathlib.Omega.{arith}
 use lib.Arith.{mod-mul, digits-div, digits-mod}
 use lib.ListN.{length, getD}
-use Rattle.hml.specs.Tests.{Tested}
-use Rattle.hml.specs.System.{System, Step, move, idle, Run, start, _▸_, first, last, steps, undo, stop, Pairing, RunOf, begins, goes}
-use Rattle.hml.specs.Compose.{paired, beside, Join, last-join}
-use Rattle.hml.specs.Real.{run-joined}
-use Rattle.hml.specs.Joining.{join-steps}
-use Rattle.hml.specs.Split.{grown, options, splits, splits-complete, splits-sound, splits-count}
-use Rattle.hml.specs.Indexed.{element, number-of}
-use Rattle.hml.specs.Numbered.{splits-at}
-use Rattle.hml.specs.Window.{Alike, ends, begins as alike-begins, steps as alike-steps}
+use Rattle.hml.proofs.Tests.{Tested}
+use Rattle.hml.specs.System.{System, Step, move, idle, Run, start, _▸_, first, last, steps, undo, stop, Pairing}
+use Rattle.hml.specs.System.{RunOf, begins, goes}
+use Rattle.hml.specs.Compose.{paired, beside}
+use Rattle.hml.proofs.Composition.{Join, last-join}
+use Rattle.hml.proofs.Real.{run-joined}
+use Rattle.hml.proofs.Joins.{join-steps}
+use Rattle.hml.specs.Split.{grown, options, splits}
+use Rattle.hml.proofs.Splits.{splits-complete, splits-sound, splits-count}
+use Rattle.hml.proofs.Indexed.{element, number-of}
+use Rattle.hml.proofs.Numbered.{splits-at}
+use Rattle.hml.proofs.Window.{Alike, ends, begins as alike-begins, steps as alike-steps}
 
 module _ {S : Type 0} where
   -- the newest n steps of a run, as a run of their own, from the state before them; all of it where it has no more
@@ -109,10 +113,10 @@ positive a (suc b) h = omega arith
 module _ (P : Pairing) {S T : Type 0} (A : Tested S) (B : Tested T) (L : System S) (R : System T) where
   -- the number of splittings of a run, and of a step from its end
   abbrev count : Run (S × T) → ℕ
-  count j = length (splits P A B L R j)
+  count j = length (splits P (A .equal) (B .equal) L R j)
 
   abbrev choices : Run (S × T) → Step (S × T) → ℕ
-  choices j s = length (options P A B L R (last j) s)
+  choices j s = length (options P (A .equal) (B .equal) L R (last j) s)
 
   -- a run of the two systems has a splitting, and so has each of its steps
   pub splits-some : {j : Run (S × T)} → RunOf (beside P L R) j → 0 < count j
@@ -154,10 +158,10 @@ module _ (P : Pairing) {S T : Type 0} (A : Tested S) (B : Tested T) (L : System 
   -- the splitting of a number; d stands where there is none
   module _ (d : Run S × Run T) where
     abbrev pub nth : Run (S × T) → ℕ → Run S × Run T
-    nth j i = getD (splits P A B L R j) i d
+    nth j i = getD (splits P (A .equal) (B .equal) L R j) i d
 
     abbrev nth-option : Run (S × T) → Step (S × T) → ℕ → Step S × Step T
-    nth-option j s i = getD (options P A B L R (last j) s) i (idle, idle)
+    nth-option j s i = getD (options P (A .equal) (B .equal) L R (last j) s) i (idle, idle)
 
     -- a run without steps has one
     only-one : (u : S × T) (i : ℕ) → i < 1 → nth (start u) i ≡ (start (u .0), start (u .1))
@@ -176,7 +180,7 @@ module _ (P : Pairing) {S T : Type 0} (A : Tested S) (B : Tested T) (L : System 
 
     -- its halves join to the run
     nth-joins : (j : Run (S × T)) (i : ℕ) → i < count j → Join P paired (nth j i .0) (nth j i .1) j
-    nth-joins j i h = splits-sound P A B L R j (nth j i) (element d (splits P A B L R j) i h) .0
+    nth-joins j i h = splits-sound P A B L R j (nth j i) (element d (splits P (A .equal) (B .equal) L R j) i h) .0
 
     -- a remainder numbers a splitting of newest steps: the last of them by its lowest digit, those before it by the next
     nth-remainder : (n : ℕ) (j : Run (S × T)) (s : Step (S × T)) → 0 < count (behind n j) → 0 < choices j s → (i : ℕ)
