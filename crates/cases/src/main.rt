@@ -1,6 +1,7 @@
-// Puts the published cases of document 01 that are not marked * through the public functions, beside case A and a refusal of each number, and prints a line for each.
-// The output that `rt check` compares with (`stdout`) is not this program's: a script made it that follows document 01's rules by itself. The script shares with this
-// program the list of cases and the form of the lines, and is not in the repository.
+// Puts the published cases of document 01 that are not marked * through the public functions, beside case A and a
+// refusal of each number, and prints a line for each. The output that `rt check` compares with (`stdout`) is not this
+// program's: the plain implementation of document 01 in rust/reference writes it (`make outputs`). The two share the
+// list of cases and the form of the lines.
 mod answers;
 mod case_a;
 mod edges;

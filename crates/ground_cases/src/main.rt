@@ -1,5 +1,6 @@
-// Puts the public functions of labels, tables, halves and machines through trials read from standard input, a line of numbers for each.
-// The output that `rt check` compares with comes from an unrelated plain reading of document 01, not from this program.
+// Puts the public functions of labels, tables, halves and machines through trials read from standard input, a line of
+// numbers for each. The trials and the output that `rt check` compares with come from the plain implementation of
+// document 01 in rust/reference (`make outputs`), not from this program.
 mod answers;
 mod frame;
 mod line;

@@ -37,16 +37,30 @@ pub fn read_half(bytes: &[u8], table: &Table) -> Result<HalfRun, Refusal> {
         return Err(15);
     }
     for step in bytes[1..].chunks(2) {
-        let step = HalfStep {
-            label: step[0],
-            to: step[1],
-        };
+        let step = step_of(step);
         if !is_step(table, half.last(), step) {
             return Err(15);
         }
         half.steps.push(step);
     }
     Ok(half)
+}
+
+/// The step of two bytes.
+fn step_of(bytes: &[u8]) -> HalfStep {
+    HalfStep {
+        label: bytes[0],
+        to: bytes[1],
+    }
+}
+
+/// The step of a number, from 0, of any bytes: those of even length are no half run and have no step, and the limit of
+/// 200 steps is not looked at.
+pub fn step_at(bytes: &[u8], number: usize) -> Option<HalfStep> {
+    if bytes.len().is_multiple_of(2) {
+        return None;
+    }
+    bytes[1..].chunks(2).nth(number).map(step_of)
 }
 
 /// Whether the machine can take this step: an idle keeps the state, a move has a row.

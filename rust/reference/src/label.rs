@@ -17,9 +17,10 @@ pub fn check_k(k: u8) -> Result<(), Refusal> {
     Ok(())
 }
 
-/// The highest label with k pairs (k already checked).
+/// The highest label with k pairs: they are 0 to 2k. With more pairs than a call accepts none lies above 254, since 255
+/// marks an idle.
 pub fn highest(k: u8) -> u8 {
-    2 * k
+    k.saturating_mul(2).min(IDLE - 1)
 }
 
 /// The partner of a handshake label; the silent step and the idle mark have none.
@@ -29,6 +30,14 @@ pub fn partner(label: u8) -> Option<u8> {
         odd if odd % 2 == 1 => Some(odd + 1),
         even => Some(even - 1),
     }
+}
+
+/// The partner of a label of k pairs; what is no label of them has none.
+pub fn partner_among(k: u8, label: u8) -> Option<u8> {
+    if label > highest(k) {
+        return None;
+    }
+    partner(label)
 }
 
 #[cfg(test)]
@@ -53,5 +62,17 @@ mod tests {
         assert_eq!(check_k(15), Ok(()));
         assert_eq!(check_k(16), Err(4));
         assert_eq!(highest(15), 30);
+    }
+
+    /// With more pairs than a call accepts the labels end at 254, and partners stay mutual.
+    #[test]
+    fn labels_of_any_k() {
+        assert_eq!([126, 127, 128, 255].map(highest), [252, 254, 254, 254]);
+        assert_eq!(partner_among(15, 31), None);
+        assert_eq!(partner_among(127, 254), Some(253));
+        for (k, label) in (0..=255).flat_map(|k| (0..=255).map(move |label| (k, label))) {
+            let answer = partner_among(k, label);
+            assert!(answer.is_none_or(|answer| partner_among(k, answer) == Some(label)));
+        }
     }
 }

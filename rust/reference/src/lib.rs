@@ -12,6 +12,7 @@ pub mod random;
 pub mod run;
 pub mod sheet;
 pub mod splitting;
+pub mod stored;
 pub mod table;
 pub mod verdict;
 

@@ -41,15 +41,25 @@ pub fn read_table(bytes: &[u8], k: u8) -> Result<Table, Refusal> {
     }
     let mut rows = Vec::new();
     for row in bytes[1..].chunks(3) {
-        let row = Row {
-            from: row[0],
-            label: row[1],
-            to: row[2],
-        };
+        let row = row_of(row);
         check_next(states, &rows, row, k)?;
         rows.push(row);
     }
     Ok(Table::new(states, rows))
+}
+
+/// The row of three bytes.
+fn row_of(bytes: &[u8]) -> Row {
+    Row {
+        from: bytes[0],
+        label: bytes[1],
+        to: bytes[2],
+    }
+}
+
+/// The row of a number, from 0, of any bytes: they have as many rows as three bytes each make behind the first.
+pub fn row_at(bytes: &[u8], number: usize) -> Option<Row> {
+    bytes.get(1..)?.chunks_exact(3).nth(number).map(row_of)
 }
 
 /// Judges the row that would come next: range (5), order (6), how many from its state (7).

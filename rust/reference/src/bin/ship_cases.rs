@@ -1,5 +1,6 @@
 //! Writes the shipped casebooks and their sheets into the folder given, `cases` at the root of the repository:
-//! `cargo run --release -p reference --example ship_cases -- ../cases`. The sheets are found line by line.
+//! `cargo run --release -p reference --bin ship_cases -- ../cases`, or `make outputs` at the root. The sheets are found
+//! line by line.
 
 use std::env;
 use std::fs;
