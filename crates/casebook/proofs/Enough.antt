@@ -11,7 +11,7 @@ use lib.ListN.{length, getD, take, drop}
 use lib.Seq.{length-take-le, take-all, take-take, getD-take}
 use lib.Dec.{eqb, leb, ltb}
 use borrow.Author.Tests.{lt-ltb, le-ltb, ltb-true, ltb-false, leb-true, eqb-true}
-use Rattle.hml.specs.Tests.{both-true}
+use Rattle.hml.proofs.Tests.{both-true}
 use Rattle.labels.specs.Labels.{checkPairs}
 use Rattle.labels.specs.declared.refusal.Refusal.{Refusal}
 use Rattle.labels.specs.declared.refusal.Refusal.the-variants.{BytesAfter, Truncated, WrongKind, WrongLength}

@@ -9,9 +9,9 @@ use lib.ListN.{length, getD, take, drop, length-append, length-take, length-drop
 use lib.Seq.{length-take-le, drop-cons, drop-drop, getD-drop, getD-take, take-append-seam, drop-append-seam}
 use lib.Dec.{eqb, leb, ltb}
 use borrow.Author.Tests.{eq-eqb, eqb-true, le-ltb, ltb-false}
-use Rattle.hml.specs.Tests.{apart, Decides, decides, decided-iff, decided-and, decided-same, decided-le}
+use Rattle.hml.proofs.Tests.{apart, Decides, decides, decided-iff, decided-and, decided-same, decided-le}
 use Rattle.hml.specs.Formula.{size}
-use Rattle.hml.specs.Spell.{length-spell}
+use Rattle.hml.proofs.Spelling.{length-spell}
 use Rattle.labels.specs.Refusals.{firstOf}
 use Rattle.labels.specs.declared.refusal.Check.the-variants.{Sound}
 use Rattle.labels.specs.declared.refusal.Refusal.the-variants.{Truncated, WrongKind, WrongLength}

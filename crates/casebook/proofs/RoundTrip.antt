@@ -8,7 +8,7 @@ use native.Mathlib.Omega.{arith}
 use lib.ListN.{length, getD, length-append, drop-of-length-le}
 use lib.Dec.{ltb}
 use borrow.Author.Tests.{le-ltb}
-use Rattle.hml.specs.Tests.{apart, decided-lt}
+use Rattle.hml.proofs.Tests.{apart, decided-lt}
 use Rattle.labels.specs.Refusals.{refusedIf, firstOf}
 use Rattle.labels.specs.Labels.{checkPairs}
 use Rattle.labels.specs.declared.refusal.Check.{Check}

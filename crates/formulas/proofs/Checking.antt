@@ -8,11 +8,12 @@ use native.Mathlib.Omega.{arith}
 use lib.ListN.{length}
 use lib.Dec.{leb}
 use borrow.Author.Tests.{le-leb, lt-leb, leb-true}
-use Rattle.hml.specs.Tests.{apart, both-true, decided-true}
+use Rattle.hml.proofs.Tests.{apart, both-true, decided-true}
 use Rattle.hml.specs.Lists.{present}
 use Rattle.hml.specs.Formula.{Formula, size, nesting, labelled}
 use Rattle.hml.specs.Labels.{count}
-use Rattle.hml.specs.Spell.{spell, length-spell, parse, parse-spell, parse-sound}
+use Rattle.hml.specs.Spell.{spell, parse}
+use Rattle.hml.proofs.Spelling.{length-spell, parse-spell, parse-sound}
 use Rattle.labels.specs.Refusals.{firstOf, refusedIf}
 use Rattle.labels.specs.declared.refusal.Check.the-variants.{Sound, Refused}
 use Rattle.labels.specs.declared.refusal.Refusal.the-variants.{NotATree, NestedTooDeep}

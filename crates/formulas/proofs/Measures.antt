@@ -9,8 +9,9 @@ use lib.Seq.{drop-at}
 use lib.Dec.{eqb}
 use Rattle.labels.proofs.Slices.{rest, rest-of}
 use Rattle.hml.specs.Formula.{Formula, top, bottom, not, and, or, fwd, back, fwdIdle, backIdle, size, nesting}
-use Rattle.hml.specs.Window.{backs}
-use Rattle.hml.specs.Spell.{spell, length-spell, parse-spell}
+use Rattle.hml.specs.Working.{backs}
+use Rattle.hml.specs.Spell.{spell}
+use Rattle.hml.proofs.Spelling.{length-spell, parse-spell}
 use Rattle.formulas.specs.Formulas.{nodeOf, operandsOf}
 use Rattle.formulas.specs.Trees.{Tree}
 use Rattle.formulas.specs.Working.{measuredAs, measureOf, operandsIn}

@@ -10,10 +10,10 @@ use lib.ListN.{length, getD, take, drop, set, length-append, length-take, length
 use lib.Seq.{take-all, take-at, take-take, take-suc, drop-cons, drop-drop, getD-at, getD-take, set-at, append-snoc}
 use lib.Dec.{ltb}
 use borrow.Author.Tests.{ltb-true, ltb-false}
-use Rattle.hml.specs.Tests.{apart}
+use Rattle.hml.proofs.Tests.{apart}
 use Rattle.hml.specs.Formula.{Formula, top, bottom, not, and, or, fwd, back, fwdIdle, backIdle, size}
-use Rattle.hml.specs.Spell.{spell, length-spell, Shape, leaf, unary, binary, bad, shape, next, trees, single, parse}
-use Rattle.hml.specs.Spell.{parse-spell, parse-sound}
+use Rattle.hml.specs.Spell.{spell, Shape, leaf, unary, binary, bad, shape, next, trees, single, parse}
+use Rattle.hml.proofs.Spelling.{length-spell, parse-spell, parse-sound}
 use Rattle.formulas.specs.Formulas.{operandsOf, nodeOf}
 use Rattle.formulas.specs.Sizes.{sizeIn, treeSize, sizesOf, sizesOver, Sized}
 use Rattle.formulas.specs.Trees.{Tree}

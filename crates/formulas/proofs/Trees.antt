@@ -6,10 +6,11 @@ use mathlib.Core.Option.{Option, none, some}
 use native.Mathlib.Omega.{arith}
 use lib.ListN.{length, getD, drop, length-drop}
 use lib.Seq.{drop-cons}
-use Rattle.hml.specs.Tests.{apart}
+use Rattle.hml.proofs.Tests.{apart}
 use Rattle.hml.specs.Formula.{Formula}
-use Rattle.hml.specs.Spell.{spell, length-spell, Shape, leaf, unary, binary, bad, shape, Read, build0, build1, build2}
-use Rattle.hml.specs.Spell.{next, trees, single, parse, parse-sound}
+use Rattle.hml.specs.Spell.{spell, Shape, leaf, unary, binary, bad, shape, Read, build0, build1, build2, next, trees}
+use Rattle.hml.specs.Spell.{single, parse}
+use Rattle.hml.proofs.Spelling.{length-spell, parse-sound}
 use Rattle.formulas.specs.Formulas.{operandsOf, nodeOf, endOf, treeEnd}
 use Rattle.formulas.specs.declared.node.Node.the-variants as node
 use Rattle.formulas.specs.declared.tree.TreeEnd.the-variants as end

@@ -6,7 +6,7 @@ use mathlib.Core.Option.{Option, none, some}
 use lib.ListN.{length, getD}
 use lib.Dec.{leb}
 use Rattle.hml.specs.Formula.{Formula, size, nesting}
-use Rattle.hml.specs.Window.{backs}
+use Rattle.hml.specs.Working.{backs}
 use Rattle.hml.specs.Spell.{parse}
 use Rattle.formulas.specs.declared.node.Node.{Node}
 use Rattle.formulas.specs.declared.node.Node.the-variants as node
