@@ -1,5 +1,6 @@
--- How much of some bytes is enough to judge them: 3,826 are. Reading goes record by record and stops at the first fault, and five records have at most
--- 5 + 1,541 + 1,541 + 606 + 132 = 3,825 bytes: of more bytes, the first 3,826 are refused for what all of them are refused for.
+-- How much of some bytes is enough to judge them: 3,826 are. Reading goes record by record and stops at the first
+-- fault, and five records have at most 5 + 1,541 + 1,541 + 606 + 132 = 3,825 bytes: of more bytes, the first 3,826 are
+-- refused for what all of them are refused for.
 use Prim.Native.Nat.{ℕ, zero, suc, _+_, _-_, _%_, _≤_, _<_}
 use mathlib.Core.Path.{_≡_, refl, sym, _∙_, ap}
 use mathlib.Core.Logic.{_⊎_, ⊎-elim, inl, inr}
@@ -19,7 +20,8 @@ use Rattle.labels.specs.declared.refusal.Check.the-variants as check
 use Rattle.tables.specs.Tables.{checkTable}
 use Rattle.machines.specs.Joints.{checkJoint}
 use Rattle.formulas.specs.Formulas.{questionLimit, checkFormula}
-use Rattle.casebook.specs.Records.{wordAt, fitTableLength, fitRunLength, fitQuestionLength, fitLength, nextAt, bodyOf}
+use Rattle.casebook.specs.Records.{wordAt, fitTableLength, fitRunLength, fitQuestionLength, fitLength, nextAt}
+use Rattle.casebook.specs.Records.{bodyOf}
 use Rattle.casebook.specs.Reading.{after, ifSound, readQuestion, readRun, readRight, readLeft, readOf}
 use Rattle.casebook.specs.declared.record.Cursor.{Cursor}
 use Rattle.casebook.specs.declared.record.Record.{Record}
@@ -101,12 +103,21 @@ module _ (n : ℕ) (s : List ℕ) (long : n ≤ length s) where
   unfolding bodyOf
   body-early r h = part-early (r .start) (r .len) n s h
 
-  -- where a record of a kind has room in them, stepping over it answers the same, and what is alike behind it is alike from it on
-  after-alike : (at kind most : ℕ) → Longest kind most → 2 ≤ most → at + 2 + most ≤ n → (go go′ : Record → Cursor → Reading)
-      → ((r : Record) (c : Cursor) → Near at most r c → Alike (go r c) (go′ r c)) → Alike (after (nextAt (take n s) at kind) go) (after (nextAt s at kind) go′)
+  -- where a record of a kind has room in them, stepping over it answers the same, and what is alike behind it is alike
+  -- from it on
+  after-alike : (at kind most : ℕ) → Longest kind most → 2 ≤ most → at + 2 + most ≤ n
+      → (go go′ : Record → Cursor → Reading)
+      → ((r : Record) (c : Cursor) → Near at most r c → Alike (go r c) (go′ r c))
+      → Alike (after (nextAt (take n s) at kind) go) (after (nextAt s at kind) go′)
   unfolding nextAt
   after-alike at kind most longest some room go go′ on =
-      rw (front, word-early at (omega arith), word-early (at + 2) (omega arith), le-ltb n (at + 4) (omega arith), le-ltb (length s) (at + 4) (omega arith))
+      rw (
+        front,
+        word-early at (omega arith),
+        word-early (at + 2) (omega arith),
+        le-ltb n (at + 4) (omega arith),
+        le-ltb (length s) (at + 4) (omega arith),
+      )
       (step (eqb (wordAt s (at + 2)) kind) (fitLength kind (wordAt s at)) refl)
     where
       w : ℕ
@@ -116,8 +127,11 @@ module _ (n : ℕ) (s : List ℕ) (long : n ≤ length s) where
       found = next.Found (record { kind = kind; start = at + 4; len = w - 2 }) (record { at = at + 2 + w })
 
       step : (b d : Bool) → fitLength kind w ≡ d
-          → Alike (after (cond (not b) (next.Refused WrongKind) (cond (not d) (next.Refused WrongLength) (cond (ltb n (at + 2 + w)) (next.Refused Truncated) found))) go)
-          (after (cond (not b) (next.Refused WrongKind) (cond (not d) (next.Refused WrongLength) (cond (ltb (length s) (at + 2 + w)) (next.Refused Truncated) found))) go′)
+          → Alike (after (cond (not b) (next.Refused WrongKind)
+          (cond (not d) (next.Refused WrongLength) (cond (ltb n (at + 2 + w)) (next.Refused Truncated) found))) go)
+          (after (cond (not b) (next.Refused WrongKind)
+          (cond (not d) (next.Refused WrongLength) (cond (ltb (length s) (at + 2 + w)) (next.Refused Truncated) found)))
+          go′)
       step false d e = (WrongKind, refl, refl)
       step true false e = (WrongLength, refl, refl)
       step true true e =
@@ -126,40 +140,53 @@ module _ (n : ℕ) (s : List ℕ) (long : n ≤ length s) where
           rw (le-ltb n (at + 2 + w) (omega arith), le-ltb (length s) (at + 2 + w) (omega arith))
           (on _ _ (record { some = omega arith; whole = omega arith; near = omega arith }))
 
-  -- from the question record on, the front and the whole are refused alike, if the record has room in the front and leaves a byte
-  question-alike : (k : ℕ) (l r j : Record) (at : ℕ) → at + 132 < n → Alike (readQuestion (take n s) k l r j at) (readQuestion s k l r j at)
+  -- from the question record on, the front and the whole are refused alike, if the record has room in the front and
+  -- leaves a byte
+  question-alike : (k : ℕ) (l r j : Record) (at : ℕ) → at + 132 < n
+      → Alike (readQuestion (take n s) k l r j at) (readQuestion s k l r j at)
   unfolding readQuestion
   question-alike k l r j at h = after-alike at 5 130 longest-question (omega arith) (omega arith) _ _ (λ q c d.
-      rw (body-early q (omega (arith, h, d .whole, d .near)), front, lt-ltb (c .at) n (omega (arith, h, d .near)), lt-ltb (c .at) (length s) (omega (arith, h, long, d .near)))
+      rw (
+        body-early q (omega (arith, h, d .whole, d .near)),
+        front,
+        lt-ltb (c .at) n (omega (arith, h, d .near)),
+        lt-ltb (c .at) (length s) (omega (arith, h, long, d .near)),
+      )
       (sound-alike (checkFormula k questionLimit (bodyOf s q)) (BytesAfter, refl, refl)))
 
   -- so it is from the run record on, if it and the question have room and leave a byte
-  run-alike : (k : ℕ) (l r : Record) (at : ℕ) → l .start + l .len ≤ n → r .start + r .len ≤ n → at + 606 + 132 < n → Alike (readRun (take n s) k l r at) (readRun s k l r at)
+  run-alike : (k : ℕ) (l r : Record) (at : ℕ) → l .start + l .len ≤ n → r .start + r .len ≤ n → at + 606 + 132 < n
+      → Alike (readRun (take n s) k l r at) (readRun s k l r at)
   unfolding readRun
   run-alike k l r at a b h = after-alike at 4 604 longest-run (omega arith) (omega arith) _ _ (λ j c d.
       rw (body-early l a, body-early r b, body-early j (omega (arith, h, d .whole, d .near)))
-      (sound-alike (checkJoint k (bodyOf s l) (bodyOf s r) (bodyOf s j)) (question-alike k l r j (c .at) (omega (arith, h, d .near)))))
+      (sound-alike (checkJoint k (bodyOf s l) (bodyOf s r) (bodyOf s j))
+      (question-alike k l r j (c .at) (omega (arith, h, d .near)))))
 
   -- from the right table's record on, if the last three have room and leave a byte
-  right-alike : (k : ℕ) (l : Record) (at : ℕ) → l .start + l .len ≤ n → at + 1541 + 606 + 132 < n → Alike (readRight (take n s) k l at) (readRight s k l at)
+  right-alike : (k : ℕ) (l : Record) (at : ℕ) → l .start + l .len ≤ n → at + 1541 + 606 + 132 < n
+      → Alike (readRight (take n s) k l at) (readRight s k l at)
   unfolding readRight
   right-alike k l at a h = after-alike at 3 1539 longest-right (omega arith) (omega arith) _ _ (λ r c d.
       let b : r .start + r .len ≤ n = omega (arith, h, d .whole, d .near) in
-      rw (body-early r b) (sound-alike (checkTable k (bodyOf s r)) (run-alike k l r (c .at) a b (omega (arith, h, d .near)))))
+      rw (body-early r b)
+      (sound-alike (checkTable k (bodyOf s r)) (run-alike k l r (c .at) a b (omega (arith, h, d .near)))))
 
   -- and from the left table's record on, if the last four have room and leave a byte
   left-alike : (k at : ℕ) → at + 1541 + 1541 + 606 + 132 < n → Alike (readLeft (take n s) k at) (readLeft s k at)
   unfolding readLeft
   left-alike k at h = after-alike at 2 1539 longest-left (omega arith) (omega arith) _ _ (λ l c d.
       let a : l .start + l .len ≤ n = omega (arith, h, d .whole, d .near) in
-      rw (body-early l a) (sound-alike (checkTable k (bodyOf s l)) (right-alike k l (c .at) a (omega (arith, h, d .near)))))
+      rw (body-early l a)
+      (sound-alike (checkTable k (bodyOf s l)) (right-alike k l (c .at) a (omega (arith, h, d .near)))))
 
   -- more bytes than five records can have are refused, for what their front is refused for
   all-alike : 5 + 1541 + 1541 + 606 + 132 < n → Alike (readOf (take n s)) (readOf s)
   unfolding readOf
   all-alike h = after-alike 0 1 3 longest-header (omega arith) (omega arith) _ _ (λ r c d.
       rw (getD-take n s (r .start) 0 (omega (arith, h, d .some, d .near)))
-      (sound-alike (checkPairs (getD s (r .start) 0)) (left-alike (getD s (r .start) 0) (c .at) (omega (arith, h, d .near)))))
+      (sound-alike (checkPairs (getD s (r .start) 0))
+      (left-alike (getD s (r .start) 0) (c .at) (omega (arith, h, d .near)))))
 
 -- bytes are at most 3,826, or they are refused for what their first 3,826 are refused for
 pub judged-by-front : (s : List ℕ) → (take 3826 s ≡ s) ⊎ Alike (readOf (take 3826 s)) (readOf s)

@@ -28,13 +28,19 @@ use Rattle.casebook.specs.declared.read.Reading.the-variants as reading
 use Rattle.casebook.proofs.Records.{fit-some}
 
 -- a record that was found lies in the bytes, and has a body
-pub found-within : (s : List ℕ) (at kind : ℕ) (r : Record) (c : Cursor) → next.Found r c ≡ nextAt s at kind → (r .start + r .len ≤ length s) × (1 ≤ r .len)
+pub found-within : (s : List ℕ) (at kind : ℕ) (r : Record) (c : Cursor) → next.Found r c ≡ nextAt s at kind
+    → (r .start + r .len ≤ length s) × (1 ≤ r .len)
 unfolding nextAt
-found-within s at kind r c e = go (ltb (length s) (at + 4)) (eqb (wordAt s (at + 2)) kind) (fitLength kind (wordAt s at)) (ltb (length s) (at + 2 + wordAt s at)) refl refl e
+found-within s at kind r c e =
+    go (ltb (length s) (at + 4)) (eqb (wordAt s (at + 2)) kind) (fitLength kind (wordAt s at))
+    (ltb (length s) (at + 2 + wordAt s at)) refl refl e
   where
     go : (a b d f : Bool) → fitLength kind (wordAt s at) ≡ d → ltb (length s) (at + 2 + wordAt s at) ≡ f
-        → next.Found r c ≡ cond a (next.Refused Truncated) (cond (not b) (next.Refused WrongKind) (cond (not d) (next.Refused WrongLength) (cond f (next.Refused Truncated)
-        (next.Found (record { kind = kind; start = at + 4; len = wordAt s at - 2 }) (record { at = at + 2 + wordAt s at }))))) → (r .start + r .len ≤ length s) × (1 ≤ r .len)
+        → next.Found r c ≡ cond a (next.Refused Truncated)
+        (cond (not b) (next.Refused WrongKind) (cond (not d) (next.Refused WrongLength) (cond f (next.Refused Truncated)
+        (next.Found (record { kind = kind; start = at + 4; len = wordAt s at - 2 })
+        (record { at = at + 2 + wordAt s at })))))
+        → (r .start + r .len ≤ length s) × (1 ≤ r .len)
     go true b d f p q e = absurd (apart cc)
     go false false d f p q e = absurd (apart cc)
     go false true false f p q e = absurd (apart cc)
@@ -52,11 +58,13 @@ seen f p q h = sym (q ∙ ap f p) ∙ h
 
 module _ (s : List ℕ) where
   module _ (h : Record) (c : Cursor) (e : next.Found h c ≡ nextAt s 0 1) where
-    pub pairs-sound : checkPairs (getD s (h .start) 0) ≡ check.Sound → {x : Reading} → x ≡ readLeft s (getD s (h .start) 0) (c .at) → x ≡ readOf s
+    pub pairs-sound : checkPairs (getD s (h .start) 0) ≡ check.Sound → {x : Reading}
+        → x ≡ readLeft s (getD s (h .start) 0) (c .at) → x ≡ readOf s
     unfolding readOf
     pairs-sound f g = rw (← e, f) g
 
-    pub pairs-refused : (y : Refusal) → checkPairs (getD s (h .start) 0) ≡ check.Refused y → reading.Refused y ≡ readOf s
+    pub pairs-refused : (y : Refusal) → checkPairs (getD s (h .start) 0) ≡ check.Refused y
+        → reading.Refused y ≡ readOf s
     unfolding readOf
     pairs-refused y f = rw (← e, f)
 
@@ -66,11 +74,13 @@ module _ (s : List ℕ) where
 
   module _ (k at : ℕ) where
     module _ (l : Record) (c : Cursor) (e : next.Found l c ≡ nextAt s at 2) where
-      pub left-sound : checkTable k (bodyOf s l) ≡ check.Sound → {x : Reading} → x ≡ readRight s k l (c .at) → x ≡ readLeft s k at
+      pub left-sound : checkTable k (bodyOf s l) ≡ check.Sound → {x : Reading} → x ≡ readRight s k l (c .at)
+          → x ≡ readLeft s k at
       unfolding readLeft
       left-sound f g = rw (← e, f) g
 
-      pub left-refused : (y : Refusal) → checkTable k (bodyOf s l) ≡ check.Refused y → reading.Refused y ≡ readLeft s k at
+      pub left-refused : (y : Refusal) → checkTable k (bodyOf s l) ≡ check.Refused y
+          → reading.Refused y ≡ readLeft s k at
       unfolding readLeft
       left-refused y f = rw (← e, f)
 
@@ -80,11 +90,13 @@ module _ (s : List ℕ) where
 
     module _ (l : Record) where
       module _ (r : Record) (c : Cursor) (e : next.Found r c ≡ nextAt s at 3) where
-        pub right-sound : checkTable k (bodyOf s r) ≡ check.Sound → {x : Reading} → x ≡ readRun s k l r (c .at) → x ≡ readRight s k l at
+        pub right-sound : checkTable k (bodyOf s r) ≡ check.Sound → {x : Reading} → x ≡ readRun s k l r (c .at)
+            → x ≡ readRight s k l at
         unfolding readRight
         right-sound f g = rw (← e, f) g
 
-        pub right-refused : (y : Refusal) → checkTable k (bodyOf s r) ≡ check.Refused y → reading.Refused y ≡ readRight s k l at
+        pub right-refused : (y : Refusal) → checkTable k (bodyOf s r) ≡ check.Refused y
+            → reading.Refused y ≡ readRight s k l at
         unfolding readRight
         right-refused y f = rw (← e, f)
 
@@ -94,11 +106,13 @@ module _ (s : List ℕ) where
 
       module _ (r : Record) where
         module _ (j : Record) (c : Cursor) (e : next.Found j c ≡ nextAt s at 4) where
-          pub run-sound : checkJoint k (bodyOf s l) (bodyOf s r) (bodyOf s j) ≡ check.Sound → {x : Reading} → x ≡ readQuestion s k l r j (c .at) → x ≡ readRun s k l r at
+          pub run-sound : checkJoint k (bodyOf s l) (bodyOf s r) (bodyOf s j) ≡ check.Sound → {x : Reading}
+              → x ≡ readQuestion s k l r j (c .at) → x ≡ readRun s k l r at
           unfolding readRun
           run-sound f g = rw (← e, f) g
 
-          pub run-refused : (y : Refusal) → checkJoint k (bodyOf s l) (bodyOf s r) (bodyOf s j) ≡ check.Refused y → reading.Refused y ≡ readRun s k l r at
+          pub run-refused : (y : Refusal) → checkJoint k (bodyOf s l) (bodyOf s r) (bodyOf s j) ≡ check.Refused y
+              → reading.Refused y ≡ readRun s k l r at
           unfolding readRun
           run-refused y f = rw (← e, f)
 
@@ -108,7 +122,8 @@ module _ (s : List ℕ) where
 
         module _ (j : Record) where
           module _ (q : Record) (c : Cursor) (e : next.Found q c ≡ nextAt s at 5) where
-            pub question-refused : (y : Refusal) → checkFormula k questionLimit (bodyOf s q) ≡ check.Refused y → reading.Refused y ≡ readQuestion s k l r j at
+            pub question-refused : (y : Refusal) → checkFormula k questionLimit (bodyOf s q) ≡ check.Refused y
+                → reading.Refused y ≡ readQuestion s k l r j at
             unfolding readQuestion
             question-refused y f = rw (← e, f)
 
@@ -117,20 +132,27 @@ module _ (s : List ℕ) where
               unfolding readQuestion
               bytes-after h = rw (← e, f, lt-ltb (c .at) (length s) h)
 
-              pub whole : length s ≤ c .at → reading.Casebook (record { pairs = k; left = l; right = r; run = j; question = q }) ≡ readQuestion s k l r j at
+              pub whole : length s ≤ c .at
+                  → reading.Casebook (record { pairs = k; left = l; right = r; run = j; question = q })
+                  ≡ readQuestion s k l r j at
               unfolding readQuestion
               whole h = rw (← e, f, le-ltb (c .at) (length s) h)
 
-          pub no-question : (y : Refusal) → next.Refused y ≡ nextAt s at 5 → reading.Refused y ≡ readQuestion s k l r j at
+          pub no-question : (y : Refusal) → next.Refused y ≡ nextAt s at 5
+              → reading.Refused y ≡ readQuestion s k l r j at
           unfolding readQuestion
           no-question y e = rw (← e)
 
 -- beside sound tables, the check of tables and run is that of the run
-pub run-alone : (k : ℕ) (l r j : List ℕ) → checkTable k l ≡ check.Sound → checkTable k r ≡ check.Sound → checkTablesAndJoint k l r j ≡ checkJoint k l r j
+pub run-alone : (k : ℕ) (l r j : List ℕ) → checkTable k l ≡ check.Sound → checkTable k r ≡ check.Sound
+    → checkTablesAndJoint k l r j ≡ checkJoint k l r j
 unfolding checkTablesAndJoint firstOf
 run-alone k l r j a b = rw (a, b) (then-sound (checkJoint k l r j))
 
-pub run-seen : (k : ℕ) (s : List ℕ) (l r j : Record) → checkTable k (bodyOf s l) ≡ check.Sound → checkTable k (bodyOf s r) ≡ check.Sound
-    → {a b d : List ℕ} {y z : Check} → a ≡ bodyOf s l → b ≡ bodyOf s r → d ≡ bodyOf s j → y ≡ checkTablesAndJoint k a b d → y ≡ z
+pub run-seen : (k : ℕ) (s : List ℕ) (l r j : Record) → checkTable k (bodyOf s l) ≡ check.Sound
+    → checkTable k (bodyOf s r) ≡ check.Sound
+    → {a b d : List ℕ} {y z : Check} → a ≡ bodyOf s l → b ≡ bodyOf s r → d ≡ bodyOf s j
+    → y ≡ checkTablesAndJoint k a b d → y ≡ z
     → checkJoint k (bodyOf s l) (bodyOf s r) (bodyOf s j) ≡ z
-run-seen k s l r j f g p q w e h = sym (run-alone k (bodyOf s l) (bodyOf s r) (bodyOf s j) f g) ∙ rw (← p, ← q, ← w, ← e) h
+run-seen k s l r j f g p q w e h =
+    sym (run-alone k (bodyOf s l) (bodyOf s r) (bodyOf s j) f g) ∙ rw (← p, ← q, ← w, ← e) h

@@ -1,4 +1,5 @@
--- Laws of records: the next record of some bytes, when it was written and when it was read, and the lengths of sound parts.
+-- Laws of records: the next record of some bytes, when it was written and when it was read, and the lengths of sound
+-- parts.
 use Prim.Native.Nat.{ℕ, suc, _+_, _-_, _*_, _/_, _%_, _≤_, _<_}
 use mathlib.Core.Path.{_≡_, refl, _∙_, ap}
 use mathlib.Core.Bool.{Bool, true, false, cond, not, _&&_, _||_, false≢true}
@@ -21,7 +22,8 @@ use Rattle.machines.specs.Joints.{fitJoint, checkJoint}
 use Rattle.formulas.specs.Formulas.{checkFormula, Legal}
 use Rattle.formulas.proofs.Checking.{judged-formula}
 use Rattle.formulas.proofs.Measures.{size-some}
-use Rattle.casebook.specs.Records.{wordAt, fitTableLength, fitRunLength, fitQuestionLength, fitLength, nextAt, bodyOf, recordBytes}
+use Rattle.casebook.specs.Records.{wordAt, fitTableLength, fitRunLength, fitQuestionLength, fitLength, nextAt}
+use Rattle.casebook.specs.Records.{bodyOf, recordBytes}
 use Rattle.casebook.specs.declared.record.Cursor.{Cursor}
 use Rattle.casebook.specs.declared.record.Record.{Record}
 use Rattle.casebook.specs.declared.record.Next.the-variants as next
@@ -63,15 +65,20 @@ unfolding recordBytes
 record-length kind body = omega arith
 
 -- the lengths that fit a kind: with a remainder, and between two bounds
-decided-length : (d m lo hi n : ℕ) → Decides ((n % d ≡ m) × (lo ≤ n) × (n ≤ hi)) (eqb (n % d) m && (leb lo n && leb n hi))
-decided-length d m lo hi n = decided-iff (λ t. (t .0, t .1 .0, t .1 .1)) (λ t. (t .0, (t .1, t .2))) (decided-and (decided-same (n % d) m) (decided-and (decided-le lo n) (decided-le n hi)))
+decided-length : (d m lo hi n : ℕ)
+    → Decides ((n % d ≡ m) × (lo ≤ n) × (n ≤ hi)) (eqb (n % d) m && (leb lo n && leb n hi))
+decided-length d m lo hi n =
+    decided-iff (λ t. (t .0, t .1 .0, t .1 .1)) (λ t. (t .0, (t .1, t .2)))
+    (decided-and (decided-same (n % d) m) (decided-and (decided-le lo n) (decided-le n hi)))
 
 -- every record has a body
 fit-some : (kind n : ℕ) → fitLength kind n ≡ true → 3 ≤ n
 unfolding fitLength fitTableLength fitRunLength fitQuestionLength
 fit-some kind n e = go (eqb kind 1) (eqb kind 2 || eqb kind 3) (eqb kind 4) (eqb kind 5) e
   where
-    go : (a b c d : Bool) → cond a (eqb n 3) (cond b (fitTableLength n) (cond c (fitRunLength n) (cond d (fitQuestionLength n) false))) ≡ true → 3 ≤ n
+    go : (a b c d : Bool)
+        → cond a (eqb n 3) (cond b (fitTableLength n) (cond c (fitRunLength n) (cond d (fitQuestionLength n) false)))
+        ≡ true → 3 ≤ n
     go true b c d e = omega (arith, eqb-true n 3 e)
     go false true c d e = decides (decided-length 3 0 3 1539 n) .0 e .1
     go false false true d e = omega (arith, decides (decided-length 3 1 4 604 n) .0 e)
@@ -81,29 +88,48 @@ fit-some kind n e = go (eqb kind 1) (eqb kind 2 || eqb kind 3) (eqb kind 4) (eqb
 module _ (s : List ℕ) (at : ℕ) where
   -- bytes from a position on, by the place in them
   word-behind : (i : ℕ) → wordAt s (at + i) ≡ wordAt (drop at s) i
-  word-behind i = rw (getD-drop at s i 0, getD-drop at s (i + 1) 0) (let e : at + i + 1 ≡ at + (i + 1) = omega arith in rw e)
+  word-behind i =
+      rw (getD-drop at s i 0, getD-drop at s (i + 1) 0) (let e : at + i + 1 ≡ at + (i + 1) = omega arith in rw e)
 
   -- the first four bytes from a position on
-  four : at + 4 ≤ length s → drop at s ≡ getD s at 0 ∷ getD s (at + 1) 0 ∷ getD s (at + 2) 0 ∷ getD s (at + 3) 0 ∷ drop (at + 4) s
+  four : at + 4 ≤ length s
+      → drop at s ≡ getD s at 0 ∷ getD s (at + 1) 0 ∷ getD s (at + 2) 0 ∷ getD s (at + 3) 0 ∷ drop (at + 4) s
   four h =
       let a : suc at ≡ at + 1 = omega arith in
       let b : suc (at + 1) ≡ at + 2 = omega arith in
       let c : suc (at + 2) ≡ at + 3 = omega arith in
       let d : suc (at + 3) ≡ at + 4 = omega arith in
-      rw (drop-cons s at 0 (omega arith), a, drop-cons s (at + 1) 0 (omega arith), b, drop-cons s (at + 2) 0 (omega arith), c, drop-cons s (at + 3) 0 (omega arith), d)
+      rw (
+        drop-cons s at 0 (omega arith),
+        a,
+        drop-cons s (at + 1) 0 (omega arith),
+        b,
+        drop-cons s (at + 2) 0 (omega arith),
+        c,
+        drop-cons s (at + 3) 0 (omega arith),
+        d,
+      )
 
 module _ (s : List ℕ) (at kind : ℕ) where
   -- a record is found if it is there
-  found-next : (n : ℕ) → wordAt s at ≡ n → wordAt s (at + 2) ≡ kind → fitLength kind n ≡ true → at + 4 ≤ length s → at + 2 + n ≤ length s
+  found-next : (n : ℕ) → wordAt s at ≡ n → wordAt s (at + 2) ≡ kind → fitLength kind n ≡ true → at + 4 ≤ length s
+      → at + 2 + n ≤ length s
       → nextAt s at kind ≡ next.Found (record { kind = kind; start = at + 4; len = n - 2 }) (record { at = at + 2 + n })
   unfolding nextAt
-  found-next n e f g a b = rw (le-ltb (length s) (at + 4) a, eq-eqb (wordAt s (at + 2)) kind f, e, g, le-ltb (length s) (at + 2 + n) b)
+  found-next n e f g a b =
+      rw (le-ltb (length s) (at + 4) a, eq-eqb (wordAt s (at + 2)) kind f, e, g, le-ltb (length s) (at + 2 + n) b)
 
   -- stepping over a record that was written gives it, and leaves what was written behind it
-  pub next-record : (body rest : List ℕ) → fitLength kind (2 + length body) ≡ true → drop at s ≡ recordBytes kind body ++ rest
-      → (nextAt s at kind ≡ next.Found (placed kind at body) (behind at body)) × (bodyOf s (placed kind at body) ≡ body) × (drop (at + 4 + length body) s ≡ rest)
+  pub next-record : (body rest : List ℕ) → fitLength kind (2 + length body) ≡ true
+      → drop at s ≡ recordBytes kind body ++ rest
+      → (nextAt s at kind ≡ next.Found (placed kind at body) (behind at body)) × (bodyOf s (placed kind at body) ≡ body)
+      × (drop (at + 4 + length body) s ≡ rest)
   unfolding recordBytes bodyOf
-  next-record body rest g e = (found, rw body-on (take-append-seam body rest), rw (← drop-drop (length body) (at + 4) s, body-on) (drop-append-seam body rest))
+  next-record body rest g e = (
+    found,
+    rw body-on (take-append-seam body rest),
+    rw (← drop-drop (length body) (at + 4) s, body-on) (drop-append-seam body rest),
+  )
     where
       room : at + 4 + length body + length rest ≡ length s
       room = omega (arith, simp length-append at (ap length e), length-drop at s)
@@ -117,7 +143,8 @@ module _ (s : List ℕ) (at kind : ℕ) where
           let m : 2 + length body - 2 ≡ length body = omega arith in
           let n : at + 2 + (2 + length body) ≡ at + 4 + length body = omega arith in
           let w = rw z at (word-behind s at 0) in
-          rw (m, n) at (found-next (2 + length body) (w ∙ rw e (words (2 + length body))) (word-behind s at 2 ∙ rw e (words kind)) g (omega (arith, room)) (omega (arith, room)))
+          rw (m, n) at (found-next (2 + length body) (w ∙ rw e (words (2 + length body)))
+          (word-behind s at 2 ∙ rw e (words kind)) g (omega (arith, room)) (omega (arith, room)))
 
   -- what the bytes are if a record is found
   record Seen (r : Record) (c : Cursor) : Type 0 where
@@ -130,11 +157,17 @@ module _ (s : List ℕ) (at kind : ℕ) where
 
   seen : (r : Record) (c : Cursor) → nextAt s at kind ≡ next.Found r c → Seen r c
   unfolding nextAt
-  seen r c e = go (ltb (length s) (at + 4)) (eqb (wordAt s (at + 2)) kind) (fitLength kind (wordAt s at)) (ltb (length s) (at + 2 + wordAt s at)) refl refl refl refl e
+  seen r c e =
+      go (ltb (length s) (at + 4)) (eqb (wordAt s (at + 2)) kind) (fitLength kind (wordAt s at))
+      (ltb (length s) (at + 2 + wordAt s at)) refl refl refl refl e
     where
-      go : (a b d f : Bool) → ltb (length s) (at + 4) ≡ a → eqb (wordAt s (at + 2)) kind ≡ b → fitLength kind (wordAt s at) ≡ d → ltb (length s) (at + 2 + wordAt s at) ≡ f
-          → cond a (next.Refused Truncated) (cond (not b) (next.Refused WrongKind) (cond (not d) (next.Refused WrongLength) (cond f (next.Refused Truncated)
-          (next.Found (record { kind = kind; start = at + 4; len = wordAt s at - 2 }) (record { at = at + 2 + wordAt s at }))))) ≡ next.Found r c
+      go : (a b d f : Bool) → ltb (length s) (at + 4) ≡ a → eqb (wordAt s (at + 2)) kind ≡ b
+          → fitLength kind (wordAt s at) ≡ d → ltb (length s) (at + 2 + wordAt s at) ≡ f
+          → cond a (next.Refused Truncated)
+          (cond (not b) (next.Refused WrongKind)
+          (cond (not d) (next.Refused WrongLength) (cond f (next.Refused Truncated)
+          (next.Found (record { kind = kind; start = at + 4; len = wordAt s at - 2 })
+          (record { at = at + 2 + wordAt s at }))))) ≡ next.Found r c
           → Seen r c
       go true b d f ea eb ed ef e = absurd (apart cc)
       go false false d f ea eb ed ef e = absurd (apart cc)
@@ -164,7 +197,8 @@ module _ (s : List ℕ) (at kind : ℕ) where
           → Lies s at kind (record { kind = kind; start = at + 4; len = n - 2 }) (record { at = at + 2 + n })
       lies h k f room =
           let some = fit-some kind n f in
-          let m : length body ≡ n - 2 = length-take-le (n - 2) (drop (at + 4) s) (omega (arith, length-drop (at + 4) s)) in
+          let m : length body ≡ n - 2 = length-take-le (n - 2) (drop (at + 4) s)
+          (omega (arith, length-drop (at + 4) s)) in
           let z : 2 + length body ≡ n = omega (arith, m) in
           let t : at + 2 + 1 ≡ at + 3 = omega arith in
           let d : at + 4 + (n - 2) ≡ at + 2 + n = omega arith in
@@ -198,7 +232,11 @@ pub first-byte : (s : List ℕ) (r : Record) → 1 ≤ length (bodyOf s r) → g
 unfolding bodyOf
 first-byte s r h =
     let z : r .start + 0 ≡ r .start = omega arith in
-    rw (getD-take (r .len) (drop (r .start) s) 0 0 (omega (arith, length-take (r .len) (drop (r .start) s))), getD-drop (r .start) s 0 0, z)
+    rw (
+      getD-take (r .len) (drop (r .start) s) 0 0 (omega (arith, length-take (r .len) (drop (r .start) s))),
+      getD-drop (r .start) s 0 0,
+      z,
+    )
 
 -- a list of one element is that element alone
 pub single : (l : List ℕ) → length l ≡ 1 → l ≡ getD l 0 0 ∷ []
@@ -207,25 +245,32 @@ single (x ∷ []) e = refl
 single (x ∷ y ∷ l) e = absurd (omega (arith, e))
 
 -- the record of a sound table has a length that fits, on either side
-pub table-fits : (k : ℕ) (t : List ℕ) → checkTable k t ≡ Sound → (fitLength 2 (2 + length t) ≡ true) × (fitLength 3 (2 + length t) ≡ true) × (length t ≤ 1537)
+pub table-fits : (k : ℕ) (t : List ℕ) → checkTable k t ≡ Sound
+    → (fitLength 2 (2 + length t) ≡ true) × (fitLength 3 (2 + length t) ≡ true) × (length t ≤ 1537)
 unfolding fitLength fitTableLength
 table-fits k t e =
     let f = sound-table k t e .fits in
-    let g = decides (decided-length 3 0 3 1539 (2 + length t)) .1 (omega (arith, f), omega (arith, f), omega (arith, f)) in
+    let g = decides (decided-length 3 0 3 1539 (2 + length t)) .1
+    (omega (arith, f), omega (arith, f), omega (arith, f)) in
     (g, g, f .1)
 
 -- so has the record of a sound joint run
-pub joint-fits : (k : ℕ) (l r j : List ℕ) → checkJoint k l r j ≡ Sound → (fitLength 4 (2 + length j) ≡ true) × (length j ≤ 602)
+pub joint-fits : (k : ℕ) (l r j : List ℕ) → checkJoint k l r j ≡ Sound
+    → (fitLength 4 (2 + length j) ≡ true) × (length j ≤ 602)
 unfolding fitLength fitRunLength checkJoint firstOf fitJoint
 joint-fits k l r j e =
-    let c = judges (judged-unless WrongLength (decided-and (decided-same (length j % 3) 2) (decided-le (length j) 602))) .0 (both-sound _ _ e .0) in
+    let c = judges (judged-unless WrongLength
+    (decided-and (decided-same (length j % 3) 2) (decided-le (length j) 602))) .0 (both-sound _ _ e .0) in
     (decides (decided-length 3 1 4 604 (2 + length j)) .1 (omega (arith, c), omega (arith, c), omega (arith, c)), c .1)
 
 -- and that of a sound question
-pub question-fits : (k : ℕ) (q : List ℕ) → checkFormula k 64 q ≡ Sound → (fitLength 5 (2 + length q) ≡ true) × (length q ≤ 128)
+pub question-fits : (k : ℕ) (q : List ℕ) → checkFormula k 64 q ≡ Sound
+    → (fitLength 5 (2 + length q) ≡ true) × (length q ≤ 128)
 unfolding fitLength fitQuestionLength Legal
 question-fits k q e =
     let (φ, f, s, _, _) = judges (judged-formula k 64 q) .0 e in
     let n : length q ≡ 2 * size φ = omega (arith, ap length f, length-spell φ []) in
-    let m = size-some φ in
-    (decides (decided-length 2 0 4 130 (2 + length q)) .1 (omega (arith, n), omega (arith, n, m), omega (arith, n, s)), omega (arith, n, s))
+    let m = size-some φ in (
+      decides (decided-length 2 0 4 130 (2 + length q)) .1 (omega (arith, n), omega (arith, n, m), omega (arith, n, s)),
+      omega (arith, n, s),
+    )

@@ -10,7 +10,8 @@ use lib.Dec.{eqb, leb}
 use borrow.Author.Tests.{eq-eqb, ne-eqb, lt-ltb, le-ltb, le-leb, lt-leb, leb-true, eqb-true}
 use Rattle.hml.proofs.Tests.{both-true, apart}
 use Rattle.labels.specs.declared.refusal.Refusal.the-variants.{Truncated, WrongKind, WrongLength}
-use Rattle.casebook.specs.Records.{wordAt, fitTableLength, fitRunLength, fitQuestionLength, fitLength, nextAt, bodyOf}
+use Rattle.casebook.specs.Records.{wordAt, fitTableLength, fitRunLength, fitQuestionLength, fitLength, nextAt}
+use Rattle.casebook.specs.Records.{bodyOf}
 use Rattle.casebook.specs.declared.record.Record.{Record}
 use Rattle.casebook.specs.declared.record.Next.the-variants as next
 
@@ -47,7 +48,8 @@ module _ (kind n : ℕ) where
   unfolding fitLength
   kind-5 e h = rw e h
 
-  pub no-kind : (kind ≡ 1 → ⊥) → (kind ≡ 2 → ⊥) → (kind ≡ 3 → ⊥) → (kind ≡ 4 → ⊥) → (kind ≡ 5 → ⊥) → false ≡ fitLength kind n
+  pub no-kind : (kind ≡ 1 → ⊥) → (kind ≡ 2 → ⊥) → (kind ≡ 3 → ⊥) → (kind ≡ 4 → ⊥) → (kind ≡ 5 → ⊥)
+      → false ≡ fitLength kind n
   unfolding fitLength
   no-kind a b c d e = rw (ne-eqb _ _ a, ne-eqb _ _ b, ne-eqb _ _ c, ne-eqb _ _ d, ne-eqb _ _ e)
 
@@ -61,7 +63,11 @@ module _ (kind n : ℕ) where
           let inner = both-true {a = eqb x y} {b = leb low n && leb n high} h .1 in
           omega (arith, l, leb-true low n (both-true {a = leb low n} {b = leb n high} inner .0))
 
-      go : (a b c d : Bool) → cond a (eqb n 3) (cond b (eqb (n % 3) 0 && (leb 3 n && leb n 1539)) (cond c (eqb (n % 3) 1 && (leb 4 n && leb n 604)) (cond d (eqb (n % 2) 0 && (leb 4 n && leb n 130)) false))) ≡ true → 3 ≤ n
+      go : (a b c d : Bool)
+          → cond a (eqb n 3)
+          (cond b (eqb (n % 3) 0 && (leb 3 n && leb n 1539))
+          (cond c (eqb (n % 3) 1 && (leb 4 n && leb n 604)) (cond d (eqb (n % 2) 0 && (leb 4 n && leb n 130)) false)))
+          ≡ true → 3 ≤ n
       go true b c d h = omega (arith, eqb-true n 3 h)
       go false true c d h = ranged (n % 3) 0 3 1539 (omega arith) h
       go false false true d h = ranged (n % 3) 1 4 604 (omega arith) h
@@ -87,12 +93,26 @@ module _ (s : List ℕ) (at kind : ℕ) where
       module _ (fit : fitLength kind (wordAt s at) ≡ true) where
         pub short-body : length s < at + 2 + wordAt s at → next.Refused Truncated ≡ nextAt s at kind
         unfolding nextAt
-        short-body h = rw (le-ltb (length s) (at + 4) header, eq-eqb (wordAt s (at + 2)) kind due, fit, lt-ltb (length s) (at + 2 + wordAt s at) h)
+        short-body h =
+            rw (
+              le-ltb (length s) (at + 4) header,
+              eq-eqb (wordAt s (at + 2)) kind due,
+              fit,
+              lt-ltb (length s) (at + 2 + wordAt s at) h,
+            )
 
         pub found : (n e : ℕ) → at + 2 + wordAt s at ≤ length s → n ≡ wordAt s at - 2 → e ≡ at + 2 + wordAt s at
             → next.Found (record { kind = kind; start = at + 4; len = n }) (record { at = e }) ≡ nextAt s at kind
         unfolding nextAt
-        found n e h p q = rw (p, q, le-ltb (length s) (at + 4) header, eq-eqb (wordAt s (at + 2)) kind due, fit, le-ltb (length s) (at + 2 + wordAt s at) h)
+        found n e h p q =
+            rw (
+              p,
+              q,
+              le-ltb (length s) (at + 4) header,
+              eq-eqb (wordAt s (at + 2)) kind due,
+              fit,
+              le-ltb (length s) (at + 2 + wordAt s at) h,
+            )
 
 -- the body of a record
 module _ (s : List ℕ) (r : Record) where
@@ -102,7 +122,10 @@ module _ (s : List ℕ) (r : Record) where
 
   pub body-short : length s - r .start < r .len → take (length s - r .start) (drop (r .start) s) ≡ bodyOf s r
   unfolding bodyOf
-  body-short h = let l = length-drop (r .start) s in take-all (length s - r .start) (drop (r .start) s) (omega arith) ∙ sym (take-all (r .len) (drop (r .start) s) (omega arith))
+  body-short h =
+      let l = length-drop (r .start) s in
+      take-all (length s - r .start) (drop (r .start) s) (omega arith)
+      ∙ sym (take-all (r .len) (drop (r .start) s) (omega arith))
 
   pub body-whole : (n : ℕ) → n ≡ r .len → take n (drop (r .start) s) ≡ bodyOf s r
   unfolding bodyOf

@@ -21,18 +21,19 @@ use Rattle.casebook.specs.declared.write.Writing.the-variants as writing
 use Rattle.casebook.proofs.RecordLaws.{Bytes}
 use Rattle.casebook.proofs.RoundTrip.{ReadsTo, read-sound, read-written, written-read}
 
--- what writing the parts of a casebook s answers, and the output afterwards: k, and the bodies that its records have in s
+-- what writing the parts of a casebook s answers, and the output afterwards: its k, and the bodies of its records
 module _ (s : List ℕ) (p : Parts) (out : List ℕ) where
   abbrev pub answerFor : Writing
   answerFor =
-      writeOf (p .pairs) (bodyOf s (p .left)) (bodyOf s (p .right)) (bodyOf s (p .run)) (bodyOf s (p .question)) (length out)
+      writeOf (p .pairs) (bodyOf s (p .left)) (bodyOf s (p .right)) (bodyOf s (p .run)) (bodyOf s (p .question))
+      (length out)
 
   abbrev pub outputFor : List ℕ
   outputFor =
       writtenOf (p .pairs) (bodyOf s (p .left)) (bodyOf s (p .right)) (bodyOf s (p .run)) (bodyOf s (p .question)) out
 
--- A casebook that was read, written again from its parts. Into an output of its length or more go its own bytes, and "lent
--- bytes past it keep theirs". A shorter output is refused, 18, and "every lent byte keeps its value".
+-- A casebook that was read, written again from its parts. Into an output of its length or more go its own bytes, and
+-- "lent bytes past it keep theirs". A shorter output is refused, 18, and "every lent byte keeps its value".
 pub filed-and-returned : (s : List ℕ) → Bytes s → (p : Parts) → readOf s ≡ reading.Casebook p → (out : List ℕ)
     → (length s ≤ length out
     → (answerFor s p out ≡ writing.Written (length s)) × (outputFor s p out ≡ s ++ drop (length s) out))
@@ -51,8 +52,8 @@ answered-whole : (c : Check) (m n : ℕ) → answered c m ≡ writing.Written n 
 answered-whole check.Sound m n e = (refl, cc)
 answered-whole (check.Refused x) m n e = absurd (apart cc)
 
--- Parts that were written, any k and bytes whatever. The output's first bytes, as many as the answer says, read to a casebook
--- with that k, and the bodies of its four records are those parts.
+-- Parts that were written, any k and bytes whatever. The output's first bytes, as many as the answer says, read to a
+-- casebook with that k, and the bodies of its four records are those parts.
 pub returned-as-filed : (k : ℕ) (l r j q out : List ℕ) (n : ℕ) → writeOf k l r j q (length out) ≡ writing.Written n
     → ReadsTo (take n (writtenOf k l r j q out)) k l r j q
 unfolding writeOf writtenOf checkWrite firstOf inFront

@@ -1,4 +1,5 @@
--- The round trip of casebooks: what was written reads to its parts, what was read is what its parts write, and nothing else is accepted.
+-- The round trip of casebooks: what was written reads to its parts, what was read is what its parts write, and nothing
+-- else is accepted.
 use Prim.Native.Nat.{ℕ, _+_, _≤_}
 use mathlib.Core.Path.{_≡_, refl, sym, _∙_, ap}
 use mathlib.Core.Logic.{_↔_}
@@ -29,7 +30,8 @@ use Rattle.casebook.specs.declared.read.Parts.{Parts}
 use Rattle.casebook.specs.declared.read.Reading.{Reading}
 use Rattle.casebook.specs.declared.read.Reading.the-variants as reading
 use Rattle.casebook.proofs.Reading.{found-within}
-use Rattle.casebook.proofs.RecordLaws.{Bytes, placed, behind, next-record, record-next, record-length, header-fits, first-byte, single, table-fits, joint-fits, question-fits}
+use Rattle.casebook.proofs.RecordLaws.{Bytes, placed, behind, next-record, record-next, record-length}
+use Rattle.casebook.proofs.RecordLaws.{header-fits, first-byte, single, table-fits, joint-fits, question-fits}
 
 -- parts of which each is sound by itself
 pub record SoundParts (k : ℕ) (l r j q : List ℕ) : Type 0 where
@@ -48,7 +50,13 @@ module _ (k : ℕ) (l r j q : List ℕ) where
       let (c, d) = both-sound (checkTable k l) _ b in
       let (f, g) = both-sound (checkTable k r) _ d in
       let (h, i) = both-sound (checkJoint k l r j) _ g in
-      record { pairs = a; left = c; right = f; run = h; question = both-sound (checkFormula k questionLimit q) Sound i .0 }
+      record {
+        pairs = a;
+        left = c;
+        right = f;
+        run = h;
+        question = both-sound (checkFormula k questionLimit q) Sound i .0;
+      }
 
   -- parts that are sound each are sound together
   pub parts-sound : SoundParts k l r j q → checkParts k l r j q ≡ Sound
@@ -64,15 +72,24 @@ module _ (k : ℕ) (l r j q : List ℕ) where
   pub casebook-short : checkParts k l r j q ≡ Sound → length (casebookBytes k l r j q) ≤ 3825
   casebook-short e =
       let s = sound-parts e in
-      omega (arith, casebook-length, table-fits k l (s .left) .2, table-fits k r (s .right) .2, joint-fits k l r j (s .run) .1, question-fits k q (s .question) .1)
+      omega (
+        arith,
+        casebook-length,
+        table-fits k l (s .left) .2,
+        table-fits k r (s .right) .2,
+        joint-fits k l r j (s .run) .1,
+        question-fits k q (s .question) .1,
+      )
 
 -- what a casebook that was read shows: contents that are read are sound, a record that is read was found
 module _ {X : Type 0} {p : Parts} where
-  sound-read : (x : Check) {y : Reading} → ifSound x y ≡ reading.Casebook p → (x ≡ Sound → y ≡ reading.Casebook p → X) → X
+  sound-read : (x : Check) {y : Reading} → ifSound x y ≡ reading.Casebook p → (x ≡ Sound → y ≡ reading.Casebook p → X)
+      → X
   sound-read check.Sound e on = on refl e
   sound-read (check.Refused z) e on = absurd (apart cc)
 
-  record-read : (n : Next) (judge : Record → Check) (go : Record → Cursor → Reading) → after n (λ r c. ifSound (judge r) (go r c)) ≡ reading.Casebook p
+  record-read : (n : Next) (judge : Record → Check) (go : Record → Cursor → Reading)
+      → after n (λ r c. ifSound (judge r) (go r c)) ≡ reading.Casebook p
       → ((r : Record) (c : Cursor) → n ≡ next.Found r c → judge r ≡ Sound → go r c ≡ reading.Casebook p → X) → X
   record-read (next.Found r c) judge go e on = sound-read (judge r) e (on r c refl)
   record-read (next.Refused x) judge go e on = absurd (apart cc)
@@ -112,19 +129,37 @@ module _ (s : List ℕ) (p : Parts) where
   unfolding readOf readLeft readRight readRun readQuestion
   chain-read w =
       let a = w .sound in
-      rw (w .first, w .byte, a .pairs, w .second, a .left, w .third, a .right, w .fourth, a .run, w .fifth, a .question, le-ltb (w .c5 .at) (length s) (w .all))
+      rw (
+        w .first,
+        w .byte,
+        a .pairs,
+        w .second,
+        a .left,
+        w .third,
+        a .right,
+        w .fourth,
+        a .run,
+        w .fifth,
+        a .question,
+        le-ltb (w .c5 .at) (length s) (w .all),
+      )
 
   -- what is read is such a chain
   read-chain : readOf s ≡ reading.Casebook p → Chain s p
   unfolding readOf readLeft readRight readRun readQuestion
   read-chain e =
-      record-read (nextAt s 0 1) (λ h. checkPairs (getD s (h .start) 0)) (λ h c. readLeft s (getD s (h .start) 0) (c .at)) e (λ h c1 n1 f1 e1.
+      record-read (nextAt s 0 1) (λ h. checkPairs (getD s (h .start) 0))
+      (λ h c. readLeft s (getD s (h .start) 0) (c .at)) e (λ h c1 n1 f1 e1.
       let k = getD s (h .start) 0 in
-      record-read (nextAt s (c1 .at) 2) (λ l. checkTable k (bodyOf s l)) (λ l c. readRight s k l (c .at)) e1 (λ l c2 n2 f2 e2.
-      record-read (nextAt s (c2 .at) 3) (λ r. checkTable k (bodyOf s r)) (λ r c. readRun s k l r (c .at)) e2 (λ r c3 n3 f3 e3.
-      record-read (nextAt s (c3 .at) 4) (λ j. checkJoint k (bodyOf s l) (bodyOf s r) (bodyOf s j)) (λ j c. readQuestion s k l r j (c .at)) e3 (λ j c4 n4 f4 e4.
+      record-read (nextAt s (c1 .at) 2) (λ l. checkTable k (bodyOf s l)) (λ l c. readRight s k l (c .at)) e1
+      (λ l c2 n2 f2 e2.
+      record-read (nextAt s (c2 .at) 3) (λ r. checkTable k (bodyOf s r)) (λ r c. readRun s k l r (c .at)) e2
+      (λ r c3 n3 f3 e3.
+      record-read (nextAt s (c3 .at) 4) (λ j. checkJoint k (bodyOf s l) (bodyOf s r) (bodyOf s j))
+      (λ j c. readQuestion s k l r j (c .at)) e3 (λ j c4 n4 f4 e4.
       record-read (nextAt s (c4 .at) 5) (λ q. checkFormula k questionLimit (bodyOf s q))
-      (λ q c. ifSound (refusedIf (ltb (c .at) (length s)) BytesAfter) (reading.Casebook (record { pairs = k; left = l; right = r; run = j; question = q }))) e4 (λ q c5 n5 f5 e5.
+      (λ q c. ifSound (refusedIf (ltb (c .at) (length s)) BytesAfter)
+      (reading.Casebook (record { pairs = k; left = l; right = r; run = j; question = q }))) e4 (λ q c5 n5 f5 e5.
       sound-read (refusedIf (ltb (c5 .at) (length s)) BytesAfter) e5 (λ a b. rw (← same-parts b) (record {
         header = h;
         c1 = c1;
@@ -143,7 +178,9 @@ module _ (s : List ℕ) (p : Parts) where
       })))))))
 
   -- the parts of a casebook that was read are sound
-  pub read-sound : readOf s ≡ reading.Casebook p → checkParts (p .pairs) (bodyOf s (p .left)) (bodyOf s (p .right)) (bodyOf s (p .run)) (bodyOf s (p .question)) ≡ Sound
+  pub read-sound : readOf s ≡ reading.Casebook p
+      → checkParts (p .pairs) (bodyOf s (p .left)) (bodyOf s (p .right)) (bodyOf s (p .run)) (bodyOf s (p .question))
+      ≡ Sound
   read-sound e = parts-sound _ _ _ _ _ (read-chain e .sound)
 
 -- bytes that read to a casebook of these parts: its k, and the bodies of its four records, are theirs
@@ -167,12 +204,19 @@ read-written k l r j q e =
     let c2 = behind (c1 .at) l in
     let c3 = behind (c2 .at) r in
     let c4 = behind (c3 .at) j in
-    let p : Parts = record { pairs = k; left = placed 2 (c1 .at) l; right = placed 3 (c2 .at) r; run = placed 4 (c3 .at) j; question = placed 5 (c4 .at) q } in
+    let p : Parts = record {
+      pairs = k;
+      left = placed 2 (c1 .at) l;
+      right = placed 3 (c2 .at) r;
+      run = placed 4 (c3 .at) j;
+      question = placed 5 (c4 .at) q;
+    } in
     let (n1, b1, d1) = next-record s 0 1 (k ∷ []) _ refl refl in
     let (n2, b2, d2) = next-record s (c1 .at) 2 l _ (table-fits k l (w .left) .0) d1 in
     let (n3, b3, d3) = next-record s (c2 .at) 3 r _ (table-fits k r (w .right) .1) d2 in
     let (n4, b4, d4) = next-record s (c3 .at) 4 j _ (joint-fits k l r j (w .run) .0) d3 in
-    let (n5, b5, d5) = next-record s (c4 .at) 5 q [] (question-fits k q (w .question) .0) (d4 ∙ sym (append-nil (recordBytes 5 q))) in
+    let (n5, b5, d5) = next-record s (c4 .at) 5 q [] (question-fits k q (w .question) .0)
+    (d4 ∙ sym (append-nil (recordBytes 5 q))) in
     record {
       parts = p;
       read = chain-read s p (record {
@@ -201,13 +245,15 @@ read-written k l r j q e =
 -- a casebook that was read, of bytes
 module _ (s : List ℕ) (bytes : Bytes s) (p : Parts) (e : readOf s ≡ reading.Casebook p) where
   -- writing its parts gives its bytes
-  pub written-read : casebookBytes (p .pairs) (bodyOf s (p .left)) (bodyOf s (p .right)) (bodyOf s (p .run)) (bodyOf s (p .question)) ≡ s
+  pub written-read : casebookBytes (p .pairs) (bodyOf s (p .left)) (bodyOf s (p .right)) (bodyOf s (p .run))
+      (bodyOf s (p .question)) ≡ s
   unfolding casebookBytes
   written-read =
       let w = read-chain s p e in
       let y = record-next s 0 1 bytes (w .header) (w .c1) (w .first) in
       let one = header-fits (length (bodyOf s (w .header))) (y .fits) in
-      let k : bodyOf s (w .header) ≡ p .pairs ∷ [] = single (bodyOf s (w .header)) one ∙ ap (λ x. x ∷ []) (first-byte s (w .header) (omega (arith, one)) ∙ w .byte) in
+      let k : bodyOf s (w .header) ≡ p .pairs ∷ [] = single (bodyOf s (w .header)) one
+      ∙ ap (λ x. x ∷ []) (first-byte s (w .header) (omega (arith, one)) ∙ w .byte) in
       sym (y .bytes ∙ rw (
         k,
         record-next s (w .c1 .at) 2 bytes (p .left) (w .c2) (w .second) .bytes,
@@ -221,10 +267,24 @@ module _ (s : List ℕ) (bytes : Bytes s) (p : Parts) (e : readOf s ≡ reading.
 -- a casebook is accepted exactly if it is what writing makes of sound parts
 pub accepted-exactly : (s : List ℕ) → Bytes s
     → ((p : Parts) × (readOf s ≡ reading.Casebook p))
-    ↔ ((k : ℕ) × (l : List ℕ) × (r : List ℕ) × (j : List ℕ) × (q : List ℕ) × (checkParts k l r j q ≡ Sound) × (s ≡ casebookBytes k l r j q))
-accepted-exactly s b = (λ (p, e). (p .pairs, bodyOf s (p .left), bodyOf s (p .right), bodyOf s (p .run), bodyOf s (p .question), read-sound s p e, sym (written-read s b p e)), from)
+    ↔ ((k : ℕ) × (l : List ℕ) × (r : List ℕ) × (j : List ℕ) × (q : List ℕ) × (checkParts k l r j q ≡ Sound)
+    × (s ≡ casebookBytes k l r j q))
+accepted-exactly s b = (
+  λ (p, e). (
+    p .pairs,
+    bodyOf s (p .left),
+    bodyOf s (p .right),
+    bodyOf s (p .run),
+    bodyOf s (p .question),
+    read-sound s p e,
+    sym (written-read s b p e),
+  ),
+  from,
+)
   where
-    from : (k : ℕ) × (l : List ℕ) × (r : List ℕ) × (j : List ℕ) × (q : List ℕ) × (checkParts k l r j q ≡ Sound) × (s ≡ casebookBytes k l r j q) → (p : Parts) × (readOf s ≡ reading.Casebook p)
+    from : (k : ℕ) × (l : List ℕ) × (r : List ℕ) × (j : List ℕ) × (q : List ℕ) × (checkParts k l r j q ≡ Sound)
+        × (s ≡ casebookBytes k l r j q)
+        → (p : Parts) × (readOf s ≡ reading.Casebook p)
     from (k, l, r, j, q, e, z) = let t = read-written k l r j q e in (t .parts, rw z (t .read))
 
 -- a casebook that was read is short, and its records lie in it

@@ -1,5 +1,5 @@
--- Reading a casebook: document 01, "The casebook" and "Who can cause a refusal": "Checked record by record, in the order 1 (header), 2, 3,
--- 1 (body), then contents from left to right."
+-- Reading a casebook: document 01, "The casebook" and "Who can cause a refusal": "Checked record by record, in the
+-- order 1 (header), 2, 3, 1 (body), then contents from left to right."
 use Prim.Native.Nat.{ℕ}
 use mathlib.Core.List.{List}
 use lib.ListN.{length, getD}
@@ -38,7 +38,9 @@ readQuestion s k l r j at = after (nextAt s at 5) (λ q c.
     (reading.Casebook (record { pairs = k; left = l; right = r; run = j; question = q }))))
 
 unfoldable pub readRun : List ℕ → ℕ → Record → Record → ℕ → Reading
-readRun s k l r at = after (nextAt s at 4) (λ j c. ifSound (checkJoint k (bodyOf s l) (bodyOf s r) (bodyOf s j)) (readQuestion s k l r j (c .at)))
+readRun s k l r at =
+    after (nextAt s at 4)
+    (λ j c. ifSound (checkJoint k (bodyOf s l) (bodyOf s r) (bodyOf s j)) (readQuestion s k l r j (c .at)))
 
 unfoldable pub readRight : List ℕ → ℕ → Record → ℕ → Reading
 readRight s k l at = after (nextAt s at 3) (λ r c. ifSound (checkTable k (bodyOf s r)) (readRun s k l r (c .at)))
@@ -48,4 +50,5 @@ readLeft s k at = after (nextAt s at 2) (λ l c. ifSound (checkTable k (bodyOf s
 
 -- "Five records, each once, in this order."
 unfoldable pub readOf : List ℕ → Reading
-readOf s = after (nextAt s 0 1) (λ h c. ifSound (checkPairs (getD s (h .start) 0)) (readLeft s (getD s (h .start) 0) (c .at)))
+readOf s =
+    after (nextAt s 0 1) (λ h c. ifSound (checkPairs (getD s (h .start) 0)) (readLeft s (getD s (h .start) 0) (c .at)))

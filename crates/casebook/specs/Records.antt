@@ -1,5 +1,6 @@
--- Records: document 01, "The casebook". "A record is a two-byte length, a two-byte kind, then the body; both little-endian. The
--- length counts kind and body. A reading position steps over one record and yields the next position."
+-- Records: document 01, "The casebook". "A record is a two-byte length, a two-byte kind, then the body; both
+-- little-endian. The length counts kind and body. A reading position steps over one record and yields the next
+-- position."
 use Prim.Native.Nat.{ℕ, _+_, _-_, _*_, _/_, _%_}
 use mathlib.Core.Bool.{Bool, false, cond, _&&_, _||_, not}
 use mathlib.Core.List.{List, [], _∷_, _++_}
@@ -41,7 +42,8 @@ nextAt s at kind =
     (cond (not (eqb (wordAt s (at + 2)) kind)) (next.Refused WrongKind)
     (cond (not (fitLength kind (wordAt s at))) (next.Refused WrongLength)
     (cond (ltb (length s) (at + 2 + wordAt s at)) (next.Refused Truncated)
-    (next.Found (record { kind = kind; start = at + 4; len = wordAt s at - 2 }) (record { at = at + 2 + wordAt s at })))))
+    (next.Found (record { kind = kind; start = at + 4; len = wordAt s at - 2 })
+    (record { at = at + 2 + wordAt s at })))))
 
 -- the body of a record
 unfoldable pub bodyOf : List ℕ → Record → List ℕ

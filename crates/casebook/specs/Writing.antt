@@ -17,15 +17,18 @@ use Rattle.casebook.specs.declared.write.Writing.the-variants as writing
 
 -- the bytes of a casebook
 unfoldable pub casebookBytes : ℕ → List ℕ → List ℕ → List ℕ → List ℕ → List ℕ
-casebookBytes k l r j q = recordBytes 1 (k ∷ []) ++ (recordBytes 2 l ++ (recordBytes 3 r ++ (recordBytes 4 j ++ recordBytes 5 q)))
+casebookBytes k l r j q =
+    recordBytes 1 (k ∷ []) ++ (recordBytes 2 l ++ (recordBytes 3 r ++ (recordBytes 4 j ++ recordBytes 5 q)))
 
 -- "Calls that take parts give the parts' numbers, in record order"; a question has at most 64 nodes
 unfoldable pub checkParts : ℕ → List ℕ → List ℕ → List ℕ → List ℕ → Check
-checkParts k l r j q = firstOf (checkPairs k ∷ checkTable k l ∷ checkTable k r ∷ checkJoint k l r j ∷ checkFormula k questionLimit q ∷ [])
+checkParts k l r j q =
+    firstOf (checkPairs k ∷ checkTable k l ∷ checkTable k r ∷ checkJoint k l r j ∷ checkFormula k questionLimit q ∷ [])
 
 -- 18: "lent output shorter than the answer; looked at last, after every other number"
 unfoldable pub checkWrite : ℕ → List ℕ → List ℕ → List ℕ → List ℕ → ℕ → Check
-checkWrite k l r j q room = firstOf (checkParts k l r j q ∷ refusedIf (ltb room (length (casebookBytes k l r j q))) OutputTooShort ∷ [])
+checkWrite k l r j q room =
+    firstOf (checkParts k l r j q ∷ refusedIf (ltb room (length (casebookBytes k l r j q))) OutputTooShort ∷ [])
 
 -- the answer: how many bytes were written
 abbrev pub answered : Check → ℕ → Writing

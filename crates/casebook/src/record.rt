@@ -3,7 +3,8 @@ use labels::refusal::Refusal;
 ghost use mathlib.Core.Path.{_≡_};
 ghost use Prim.Native.Nat.{_+_, _<_};
 ghost use lib.ListN.{length};
-ghost use Rattle.casebook.specs.Records.{wordAt, fitTableLength, fitRunLength, fitQuestionLength, fitLength, nextAt, bodyOf};
+ghost use Rattle.casebook.specs.Records.{wordAt, fitTableLength, fitRunLength, fitQuestionLength, fitLength};
+ghost use Rattle.casebook.specs.Records.{nextAt, bodyOf};
 
 // A reading position.
 pub struct Cursor {

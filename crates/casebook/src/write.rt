@@ -28,8 +28,11 @@ pub fn write(
     question: &[u8],
     out: &mut [u8],
 ) -> Writing
-    ensures { λ r. ⌜ r ≡ writeOf k (now (left .entry)) (now (right .entry)) (now (run .entry)) (now (question .entry)) (length (now (out .entry))) ⌝ }
-    ensures { λ r. ⌜ now (out .exit) ≡ writtenOf k (now (left .entry)) (now (right .entry)) (now (run .entry)) (now (question .entry)) (now (out .entry)) ⌝ }
+    ensures { λ r. ⌜ r ≡ writeOf k (now (left .entry)) (now (right .entry)) (now (run .entry)) (now (question .entry))
+        (length (now (out .entry))) ⌝ }
+    ensures { λ r. ⌜ now (out .exit)
+        ≡ writtenOf k (now (left .entry)) (now (right .entry)) (now (run .entry)) (now (question .entry))
+        (now (out .entry)) ⌝ }
 {
     match check_parts(k, left, right, run, question) {
         Check::Sound => {}
@@ -45,7 +48,8 @@ pub fn write(
 
 // The parts' numbers, in record order.
 fn check_parts(k: u8, left: &[u8], right: &[u8], run: &[u8], question: &[u8]) -> Check
-    ensures { λ r. ⌜ r ≡ checkParts k (now (left .entry)) (now (right .entry)) (now (run .entry)) (now (question .entry)) ⌝ }
+    ensures { λ r. ⌜ r ≡ checkParts k (now (left .entry)) (now (right .entry)) (now (run .entry))
+        (now (question .entry)) ⌝ }
 {
     let labels = Labels { pairs: k };
     let tables_and_run = check_joint(labels, left, right, run);
@@ -57,7 +61,9 @@ fn check_parts(k: u8, left: &[u8], right: &[u8], run: &[u8], question: &[u8]) ->
 // The five records, one after the other.
 fn put_casebook(k: u8, left: &[u8], right: &[u8], run: &[u8], question: &[u8], out: &mut [u8])
     requires { ⌜ Fitting (now left) (now right) (now run) (now question) (now out) ⌝ }
-    ensures { λ r. ⌜ now (out .exit) ≡ inFront (casebookBytes k (now (left .entry)) (now (right .entry)) (now (run .entry)) (now (question .entry))) (now (out .entry)) ⌝ }
+    ensures { λ r. ⌜ now (out .exit)
+        ≡ inFront (casebookBytes k (now (left .entry)) (now (right .entry)) (now (run .entry)) (now (question .entry)))
+        (now (out .entry)) ⌝ }
 {
     let pairs = [k];
     put_record(&mut out[0..], 1, &pairs);

@@ -48,7 +48,8 @@ module _ (f : List ℕ) where
   unfolding formulaOf wholeOf
   formula-spelled φ e = go (parse f) (parse-sound f) e
     where
-      go : (o : Option (Formula × List ℕ)) → ((ψ : Formula) (rest : List ℕ) → o ≡ some (ψ, rest) → spell ψ rest ≡ f) → wholeOf o ≡ some φ → f ≡ spell φ []
+      go : (o : Option (Formula × List ℕ)) → ((ψ : Formula) (rest : List ℕ) → o ≡ some (ψ, rest) → spell ψ rest ≡ f)
+          → wholeOf o ≡ some φ → f ≡ spell φ []
       go none s e = absurd (apart cc)
       go (some (ψ, [])) s e = let q : ψ ≡ φ = cc in rw (← q) (sym (s ψ [] refl))
       go (some (ψ, b ∷ bs)) s e = absurd (apart cc)
@@ -66,19 +67,24 @@ module _ (f : List ℕ) where
     unfolding treeEnd endOf formulaOf wholeOf
     more-than-tree d = go (parse f) (parse-sound f) e
       where
-        go : (o : Option (Formula × List ℕ)) → ((ψ : Formula) (rest : List ℕ) → o ≡ some (ψ, rest) → spell ψ rest ≡ f) → end.At n ≡ endOf o → wholeOf o ≡ none
+        go : (o : Option (Formula × List ℕ)) → ((ψ : Formula) (rest : List ℕ) → o ≡ some (ψ, rest) → spell ψ rest ≡ f)
+            → end.At n ≡ endOf o → wholeOf o ≡ none
         go none s e = refl
-        go (some (ψ, [])) s e = let q : n ≡ 2 * size ψ = cc in absurd (d (omega (arith, q, length-spell ψ [], ap length (s ψ [] refl))))
+        go (some (ψ, [])) s e =
+            let q : n ≡ 2 * size ψ = cc in absurd (d (omega (arith, q, length-spell ψ [], ap length (s ψ [] refl))))
         go (some (ψ, b ∷ bs)) s e = refl
 
     pub one-tree : n ≡ length f → (φ : Formula) × (f ≡ spell φ [])
     unfolding treeEnd endOf
     one-tree d = go (parse f) (parse-sound f) e
       where
-        go : (o : Option (Formula × List ℕ)) → ((ψ : Formula) (rest : List ℕ) → o ≡ some (ψ, rest) → spell ψ rest ≡ f) → end.At n ≡ endOf o → (φ : Formula) × (f ≡ spell φ [])
+        go : (o : Option (Formula × List ℕ)) → ((ψ : Formula) (rest : List ℕ) → o ≡ some (ψ, rest) → spell ψ rest ≡ f)
+            → end.At n ≡ endOf o → (φ : Formula) × (f ≡ spell φ [])
         go none s e = absurd (apart cc)
         go (some (ψ, [])) s e = (ψ, sym (s ψ [] refl))
-        go (some (ψ, b ∷ bs)) s e = let q : n ≡ 2 * size ψ = cc in absurd (omega (arith, q, d, length-spell ψ (b ∷ bs), ap length (s ψ (b ∷ bs) refl)))
+        go (some (ψ, b ∷ bs)) s e =
+            let q : n ≡ 2 * size ψ = cc in
+            absurd (omega (arith, q, d, length-spell ψ (b ∷ bs), ap length (s ψ (b ∷ bs) refl)))
 
 pub tree-of : (f : List ℕ) (φ : Formula) → f ≡ spell φ [] → Tree f
 unfolding Tree
@@ -125,7 +131,8 @@ module _ (k limit : ℕ) (f : List ℕ) where
 
           pub nested-refused : 4 < m .nesting → Refused NestedTooDeep ≡ checkFormula k limit f
           unfolding checkFormula firstOf isFormula nestsFit
-          nested-refused h = rw (within-limit, reads, sym labels-seen ∙ fit, lt-leb (nesting φ) 4 (omega (arith, nesting-seen)))
+          nested-refused h =
+              rw (within-limit, reads, sym labels-seen ∙ fit, lt-leb (nesting φ) 4 (omega (arith, nesting-seen)))
 
           pub formula-sound : m .nesting ≤ 4 → Sound ≡ checkFormula k limit f
           formula-sound h = shallow-sound (omega (arith, nesting-seen))
@@ -133,17 +140,34 @@ module _ (k limit : ℕ) (f : List ℕ) where
 -- 9 and 10: a formula is accepted exactly if its bytes spell one tree within the limits
 pub judged-formula : (k limit : ℕ) (f : List ℕ) → Judges (Legal k limit f) (checkFormula k limit f)
 unfolding checkFormula firstOf isFormula nestsFit Legal
-judged-formula k limit f = judged-iff to from (judged-then (judged-unless NotATree (decided-true (isFormula k limit f))) (rw (then-sound (refusedIf _ NestedTooDeep)) (judged-unless NestedTooDeep (decided-true (nestsFit f)))))
+judged-formula k limit f =
+    judged-iff to from
+    (judged-then (judged-unless NotATree (decided-true (isFormula k limit f)))
+    (rw (then-sound (refusedIf _ NestedTooDeep)) (judged-unless NestedTooDeep (decided-true (nestsFit f)))))
   where
     to : (isFormula k limit f ≡ true) × (nestsFit f ≡ true) → Legal k limit f
     to (a, b) = go (formulaOf f) (formula-spelled f) (both-true a) b
       where
-        go : (o : Option Formula) → ((φ : Formula) → o ≡ some φ → f ≡ spell φ []) → (leb (length f) (2 * limit) ≡ true) × (present (labelled (count k)) o ≡ true) → present (λ φ. leb (nesting φ) 4) o ≡ true → Legal k limit f
+        go : (o : Option Formula) → ((φ : Formula) → o ≡ some φ → f ≡ spell φ [])
+            → (leb (length f) (2 * limit) ≡ true) × (present (labelled (count k)) o ≡ true)
+            → present (λ φ. leb (nesting φ) 4) o ≡ true → Legal k limit f
         go none s a b = absurd (false≢true b)
-        go (some φ) s a b = (φ, s φ refl, omega (arith, leb-true (length f) (2 * limit) (a .0), formula-length f φ (s φ refl)), a .1, leb-true (nesting φ) 4 b)
+        go (some φ) s a b = (
+          φ,
+          s φ refl,
+          omega (arith, leb-true (length f) (2 * limit) (a .0), formula-length f φ (s φ refl)),
+          a .1,
+          leb-true (nesting φ) 4 b,
+        )
 
     from : Legal k limit f → (isFormula k limit f ≡ true) × (nestsFit f ≡ true)
-    from (φ, e, s, l, n) = rw (reads k limit f φ e, le-leb (length f) (2 * limit) (omega (arith, formula-length f φ e)), l, le-leb (nesting φ) 4 n) (refl, refl)
+    from (φ, e, s, l, n) =
+        rw (
+          reads k limit f φ e,
+          le-leb (length f) (2 * limit) (omega (arith, formula-length f φ e)),
+          l,
+          le-leb (nesting φ) 4 n,
+        ) (refl, refl)
 
 -- the reading of a legal formula is its first tree
 pub legal-tree : (k limit : ℕ) (f : List ℕ) → Legal k limit f → formulaOf f ≡ some (treeOf f)

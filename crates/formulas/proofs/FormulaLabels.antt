@@ -19,10 +19,12 @@ module _ (n : ℕ) where
   first-label (o ∷ []) h = absurd (omega arith)
   first-label (o ∷ a ∷ bs) h = refl
 
-  pub label-above : (x : Bool) (bs : List ℕ) → 2 ≤ length bs → x ≡ labelsFit n bs → leb (getD bs 1 0) n ≡ false → false ≡ x
+  pub label-above : (x : Bool) (bs : List ℕ) → 2 ≤ length bs → x ≡ labelsFit n bs → leb (getD bs 1 0) n ≡ false
+      → false ≡ x
   label-above x bs h e f = sym (e ∙ first-label bs h ∙ rw f)
 
-  pub label-fits : (x : Bool) (bs : List ℕ) → 2 ≤ length bs → x ≡ labelsFit n bs → leb (getD bs 1 0) n ≡ true → x ≡ labelsFit n (rest 2 bs)
+  pub label-fits : (x : Bool) (bs : List ℕ) → 2 ≤ length bs → x ≡ labelsFit n bs → leb (getD bs 1 0) n ≡ true
+      → x ≡ labelsFit n (rest 2 bs)
   label-fits x bs h e f = rw (rest-of 2 bs) (e ∙ first-label bs h ∙ rw f)
 
   pub no-label-left : (x : Bool) (bs : List ℕ) → length bs < 2 → x ≡ labelsFit n bs → true ≡ x
@@ -40,9 +42,15 @@ module _ (n : ℕ) where
   spelled-labels top bs = rw zero-fits
   spelled-labels bottom bs = rw zero-fits
   spelled-labels (not φ) bs = rw zero-fits (spelled-labels φ bs)
-  spelled-labels (and φ ψ) bs = rw zero-fits (spelled-labels φ (spell ψ bs) ∙ ap (labelled n φ &&_) (spelled-labels ψ bs) ∙ sym (and-assoc (labelled n φ) (labelled n ψ) (labelsFit n bs)))
-  spelled-labels (or φ ψ) bs = rw zero-fits (spelled-labels φ (spell ψ bs) ∙ ap (labelled n φ &&_) (spelled-labels ψ bs) ∙ sym (and-assoc (labelled n φ) (labelled n ψ) (labelsFit n bs)))
-  spelled-labels (fwd a φ) bs = ap (leb a n &&_) (spelled-labels φ bs) ∙ sym (and-assoc (leb a n) (labelled n φ) (labelsFit n bs))
-  spelled-labels (back a φ) bs = ap (leb a n &&_) (spelled-labels φ bs) ∙ sym (and-assoc (leb a n) (labelled n φ) (labelsFit n bs))
+  spelled-labels (and φ ψ) bs =
+      rw zero-fits (spelled-labels φ (spell ψ bs) ∙ ap (labelled n φ &&_) (spelled-labels ψ bs)
+      ∙ sym (and-assoc (labelled n φ) (labelled n ψ) (labelsFit n bs)))
+  spelled-labels (or φ ψ) bs =
+      rw zero-fits (spelled-labels φ (spell ψ bs) ∙ ap (labelled n φ &&_) (spelled-labels ψ bs)
+      ∙ sym (and-assoc (labelled n φ) (labelled n ψ) (labelsFit n bs)))
+  spelled-labels (fwd a φ) bs =
+      ap (leb a n &&_) (spelled-labels φ bs) ∙ sym (and-assoc (leb a n) (labelled n φ) (labelsFit n bs))
+  spelled-labels (back a φ) bs =
+      ap (leb a n &&_) (spelled-labels φ bs) ∙ sym (and-assoc (leb a n) (labelled n φ) (labelsFit n bs))
   spelled-labels (fwdIdle φ) bs = rw zero-fits (spelled-labels φ bs)
   spelled-labels (backIdle φ) bs = rw zero-fits (spelled-labels φ bs)

@@ -32,10 +32,12 @@ module _ (f : List ℕ) where
 
   module _ (n : ℕ) (bs : List ℕ) (so : Counting f n bs) where
     -- a node that looks forward, and one that does not
-    pub count-forward : 2 ≤ length bs → (eqb (getD bs 0 0) 5 || eqb (getD bs 0 0) 7) ≡ true → (m : ℕ) → m ≡ n + 1 → Counting f m (rest 2 bs)
+    pub count-forward : 2 ≤ length bs → (eqb (getD bs 0 0) 5 || eqb (getD bs 0 0) 7) ≡ true → (m : ℕ) → m ≡ n + 1
+        → Counting f m (rest 2 bs)
     count-forward h e m q = omega (arith, so, rw e at (first-forward bs h), rest-length 2 bs, q)
 
-    pub count-other : 2 ≤ length bs → (eqb (getD bs 0 0) 5 || eqb (getD bs 0 0) 7) ≡ false → (m : ℕ) → m ≡ n → Counting f m (rest 2 bs)
+    pub count-other : 2 ≤ length bs → (eqb (getD bs 0 0) 5 || eqb (getD bs 0 0) 7) ≡ false → (m : ℕ) → m ≡ n
+        → Counting f m (rest 2 bs)
     count-other h e m q = omega (arith, so, rw e at (first-forward bs h), rest-length 2 bs, q)
 
     -- no node is left

@@ -23,7 +23,8 @@ unfolding spell
 spell-append top xs ys = refl
 spell-append bottom xs ys = refl
 spell-append (not φ) xs ys = ap (λ l. 2 ∷ 0 ∷ l) (spell-append φ xs ys)
-spell-append (and φ ψ) xs ys = ap (λ l. 3 ∷ 0 ∷ l) (ap (spell φ) (spell-append ψ xs ys) ∙ spell-append φ (spell ψ xs) ys)
+spell-append (and φ ψ) xs ys =
+    ap (λ l. 3 ∷ 0 ∷ l) (ap (spell φ) (spell-append ψ xs ys) ∙ spell-append φ (spell ψ xs) ys)
 spell-append (or φ ψ) xs ys = ap (λ l. 4 ∷ 0 ∷ l) (ap (spell φ) (spell-append ψ xs ys) ∙ spell-append φ (spell ψ xs) ys)
 spell-append (fwd a φ) xs ys = ap (λ l. 5 ∷ a ∷ l) (spell-append φ xs ys)
 spell-append (back a φ) xs ys = ap (λ l. 6 ∷ a ∷ l) (spell-append φ xs ys)
@@ -100,18 +101,25 @@ data View (f : List ℕ) : ℕ → Type 0 where
 view-leaf : (φ : Formula) (rest : List ℕ) → size φ ≡ 1 → nesting φ ≡ 0 → backs φ ≡ 0 → View (spell φ rest) 0
 view-leaf φ rest s n b = none (made-path (omega (arith, s)) (sym n) (sym b) ∙ sym (measure-spell φ rest))
 
-view-one : (φ ψ : Formula) (rest : List ℕ) → drop 2 (spell φ rest) ≡ spell ψ rest → size φ ≡ 1 + size ψ → forward (spell φ rest) + nesting ψ ≡ nesting φ → backward (spell φ rest) + backs ψ ≡ backs φ → View (spell φ rest) 1
+view-one : (φ ψ : Formula) (rest : List ℕ) → drop 2 (spell φ rest) ≡ spell ψ rest → size φ ≡ 1 + size ψ
+    → forward (spell φ rest) + nesting ψ ≡ nesting φ → backward (spell φ rest) + backs ψ ≡ backs φ
+    → View (spell φ rest) 1
 unfolding Tree
-view-one φ ψ rest d s n b = one (ψ, rest, d) (rw (d, measure-spell ψ rest) (made-path (omega (arith, s)) n b ∙ sym (measure-spell φ rest)))
+view-one φ ψ rest d s n b =
+    one (ψ, rest, d) (rw (d, measure-spell ψ rest) (made-path (omega (arith, s)) n b ∙ sym (measure-spell φ rest)))
 
-view-two : (φ ψ χ : Formula) (rest : List ℕ) → drop 2 (spell φ rest) ≡ spell ψ (spell χ rest) → size φ ≡ 1 + size ψ + size χ → max (nesting ψ) (nesting χ) ≡ nesting φ → max (backs ψ) (backs χ) ≡ backs φ → View (spell φ rest) 2
+view-two : (φ ψ χ : Formula) (rest : List ℕ) → drop 2 (spell φ rest) ≡ spell ψ (spell χ rest)
+    → size φ ≡ 1 + size ψ + size χ → max (nesting ψ) (nesting χ) ≡ nesting φ → max (backs ψ) (backs χ) ≡ backs φ
+    → View (spell φ rest) 2
 unfolding Tree
 view-two φ ψ χ rest d s n b =
     two (ψ, spell χ rest, d)
     (rw (d, measure-spell ψ (spell χ rest)) (χ, rest, spell-drop ψ (spell χ rest)))
-    (rw (d, measure-spell ψ (spell χ rest), spell-drop ψ (spell χ rest), measure-spell χ rest) (made-path (omega (arith, s)) n b ∙ sym (measure-spell φ rest)))
+    (rw (d, measure-spell ψ (spell χ rest), spell-drop ψ (spell χ rest), measure-spell χ rest)
+    (made-path (omega (arith, s)) n b ∙ sym (measure-spell φ rest)))
 
-view-spell : (φ : Formula) (rest : List ℕ) → View (spell φ rest) (operandsIn (nodeOf (getD (spell φ rest) 0 0) (getD (spell φ rest) 1 0)))
+view-spell : (φ : Formula) (rest : List ℕ)
+    → View (spell φ rest) (operandsIn (nodeOf (getD (spell φ rest) 0 0) (getD (spell φ rest) 1 0)))
 unfolding spell nodeOf operandsOf size nesting backs
 view-spell top rest = view-leaf top rest refl refl refl
 view-spell bottom rest = view-leaf bottom rest refl refl refl
@@ -133,9 +141,12 @@ view f (φ, rest, e) = rw e (view-spell φ rest)
 
 module _ (f : List ℕ) (tree : Tree f) where
   -- a tree has room for its bytes
-  pub tree-room : (2 ≤ length f) × (measureOf f .len ≤ length f) × (measureOf f .nesting ≤ measureOf f .len) × (measureOf f .backs ≤ measureOf f .len)
+  pub tree-room : (2 ≤ length f) × (measureOf f .len ≤ length f) × (measureOf f .nesting ≤ measureOf f .len)
+      × (measureOf f .backs ≤ measureOf f .len)
   unfolding Tree
-  tree-room = let (φ, rest, e) = tree in rw (e, measure-spell φ rest) (omega (arith, length-spell φ rest, size-some φ, depths-size φ))
+  tree-room =
+      let (φ, rest, e) = tree in
+      rw (e, measure-spell φ rest) (omega (arith, length-spell φ rest, size-some φ, depths-size φ))
 
   pub leaf-measure : operands f ≡ 0 → made 2 0 0 ≡ measureOf f
   leaf-measure e = go (view f tree) e
@@ -179,7 +190,8 @@ module _ (f : List ℕ) (tree : Tree f) where
         go (one t m) n0 n1 = absurd (n1 refl)
         go (two t u m) n0 n1 = m
 
--- the same over the parts that the code passes on: the body behind the first node, and what is behind the first operand in it
+-- the same over the parts that the code passes on: the body behind the first node, and what is behind the first operand
+-- in it
 abbrev pub body : List ℕ → List ℕ
 body f = rest 2 f
 
@@ -190,7 +202,8 @@ module _ (f : List ℕ) (tree : Tree f) where
   pub body-tree : (operands f ≡ 0 → ⊥) → Tree (body f)
   body-tree n = rw (rest-of 2 f) (first-operand f tree n)
 
-  pub one-made : (m : Measure) (d b : ℕ) → m ≡ measureOf (body f) → d ≡ forward f → b ≡ backward f → operands f ≡ 1 → made (2 + m .len) (d + m .nesting) (b + m .backs) ≡ measureOf f
+  pub one-made : (m : Measure) (d b : ℕ) → m ≡ measureOf (body f) → d ≡ forward f → b ≡ backward f → operands f ≡ 1
+      → made (2 + m .len) (d + m .nesting) (b + m .backs) ≡ measureOf f
   one-made m d b e g h o = rw (e ∙ ap measureOf (rest-of 2 f), g, h) (one-measure f tree o)
 
   module _ (m : Measure) (e : m ≡ measureOf (body f)) where
@@ -201,7 +214,9 @@ module _ (f : List ℕ) (tree : Tree f) where
     body-room n = let r = tree-room (body f) (body-tree n) in rw e (r .1, r .2, r .3)
 
     same-later : later (body f) (m .len) ≡ drop (behind f .len) (drop 2 f)
-    same-later = rest-of (m .len) (body f) ∙ ap (drop (m .len)) (rest-of 2 f) ∙ ap (λ (x : Measure). drop (x .len) (drop 2 f)) same-behind
+    same-later =
+        rest-of (m .len) (body f) ∙ ap (drop (m .len)) (rest-of 2 f)
+        ∙ ap (λ (x : Measure). drop (x .len) (drop 2 f)) same-behind
 
     module _ (n0 : operands f ≡ 0 → ⊥) (n1 : operands f ≡ 1 → ⊥) where
       pub later-tree : Tree (later (body f) (m .len))
@@ -211,8 +226,10 @@ module _ (f : List ℕ) (tree : Tree f) where
         pub later-room : 2 + m .len + w .len ≤ length f
         later-room =
             let whole = two-measure f tree n0 n1 in
-            let z : 2 + m .len + w .len ≡ measureOf f .len = rw (q ∙ ap measureOf same-later, same-behind) (ap (λ (x : Measure). x .len) whole) in
+            let z : 2 + m .len + w .len ≡ measureOf f .len = rw (q ∙ ap measureOf same-later, same-behind)
+            (ap (λ (x : Measure). x .len) whole) in
             omega (arith, z, tree-room f tree .1)
 
-        pub two-made : (x b : ℕ) → x ≡ max (m .nesting) (w .nesting) → b ≡ max (m .backs) (w .backs) → made (2 + m .len + w .len) x b ≡ measureOf f
+        pub two-made : (x b : ℕ) → x ≡ max (m .nesting) (w .nesting) → b ≡ max (m .backs) (w .backs)
+            → made (2 + m .len + w .len) x b ≡ measureOf f
         two-made x b g h = rw (g, h, q ∙ ap measureOf same-later, same-behind) (two-measure f tree n0 n1)

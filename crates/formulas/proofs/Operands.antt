@@ -62,7 +62,9 @@ module _ (sizes f : List ℕ) (p : Part sizes f) where
       first-size =
           let l = length-drop 2 f in
           let i : length f / 2 - 2 ≡ length (drop 2 f) / 2 - 1 = omega (arith, l, size-read) in
-          e ∙ ap (λ i. getD sizes i 0) i ∙ sized-first sizes (drop 2 f) (sized-part sizes f 1 (p .sized)) (omega (arith, l, size-read)) ∙ tree-size (drop 2 f) (two .first)
+          e ∙ ap (λ i. getD sizes i 0) i ∙ sized-first sizes (drop 2 f) (sized-part sizes f 1 (p .sized))
+          (omega (arith, l, size-read))
+          ∙ tree-size (drop 2 f) (two .first)
 
       second-begins : rest (2 * m + 2) f ≡ drop (2 * size (treeOf (drop 2 f))) (drop 2 f)
       second-begins =
@@ -85,7 +87,9 @@ module _ (sizes f : List ℕ) (p : Part sizes f) where
 module _ (k limit : ℕ) (f : List ℕ) (legal : Legal k limit f) where
   pub legal-part : (sizes : List ℕ) → limit ≤ length sizes → Part (sizesOver f sizes) f
   unfolding Legal Tree
-  legal-part sizes h = let (φ, e, s, l, d) = legal in record { tree = (φ, [], e); sized = sizes-over f sizes (omega (arith, formula-length f φ e, s, h)) }
+  legal-part sizes h =
+      let (φ, e, s, l, d) = legal in
+      record { tree = (φ, [], e); sized = sizes-over f sizes (omega (arith, formula-length f φ e, s, h)) }
 
   pub legal-nesting : nesting (treeOf f) ≤ 4
   unfolding Legal
@@ -114,7 +118,8 @@ labelled-connected n o φ ψ = go (eqb o 3)
     go false = refl
 
 -- an operator from 5 to 8, by the tests that it failed
-pub back-operator : (f : List ℕ) → Tree f → 5 ≤ getD f 0 0 → (getD f 0 0 ≡ 5 → ⊥) → (getD f 0 0 ≡ 7 → ⊥) → (getD f 0 0 ≡ 6) ⊎ (getD f 0 0 ≡ 8)
+pub back-operator : (f : List ℕ) → Tree f → 5 ≤ getD f 0 0 → (getD f 0 0 ≡ 5 → ⊥) → (getD f 0 0 ≡ 7 → ⊥)
+    → (getD f 0 0 ≡ 6) ⊎ (getD f 0 0 ≡ 8)
 back-operator f t a b c = go (getD f 0 0) a b c (λ o e. at f t o e)
   where
     go : (o : ℕ) → 5 ≤ o → (o ≡ 5 → ⊥) → (o ≡ 7 → ⊥) → ((x : ℕ) → o ≡ x → At x f) → (o ≡ 6) ⊎ (o ≡ 8)
@@ -127,7 +132,8 @@ back-operator f t a b c = go (getD f 0 0) a b c (λ o e. at f t o e)
     go (suc (suc (suc (suc (suc (suc zero)))))) a b c w = inl refl
     go (suc (suc (suc (suc (suc (suc (suc zero))))))) a b c w = absurd (c refl)
     go (suc (suc (suc (suc (suc (suc (suc (suc zero)))))))) a b c w = inr refl
-    go (suc (suc (suc (suc (suc (suc (suc (suc (suc o))))))))) a b c w = absurd (w (suc (suc (suc (suc (suc (suc (suc (suc (suc o))))))))) refl)
+    go (suc (suc (suc (suc (suc (suc (suc (suc (suc o))))))))) a b c w =
+        absurd (w (suc (suc (suc (suc (suc (suc (suc (suc (suc o))))))))) refl)
 
 -- an operator below 2 is a leaf's; one from 2 to 4 that is not 2 has two operands
 pub leaf-operator : (o : ℕ) → o < 2 → (o ≡ 0) ⊎ (o ≡ 1)

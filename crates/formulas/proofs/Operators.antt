@@ -40,15 +40,20 @@ At (suc (suc (suc (suc (suc (suc (suc zero))))))) f = Unary f fwdIdle
 At (suc (suc (suc (suc (suc (suc (suc (suc zero)))))))) f = Unary f backIdle
 At (suc (suc (suc (suc (suc (suc (suc (suc (suc o))))))))) f = ⊥
 
-one : (φ : Formula) (g : Formula → Formula) (rest : List ℕ) → drop 2 (spell (g φ) rest) ≡ spell φ rest → Unary (spell (g φ) rest) g
+one : (φ : Formula) (g : Formula → Formula) (rest : List ℕ) → drop 2 (spell (g φ) rest) ≡ spell φ rest
+    → Unary (spell (g φ) rest) g
 unfolding Tree
-one φ g rest d = record { is = tree-spell (g φ) rest ∙ ap g (sym (tree-spell φ rest) ∙ ap treeOf (sym d)); operand = (φ, rest, d) }
+one φ g rest d =
+    record { is = tree-spell (g φ) rest ∙ ap g (sym (tree-spell φ rest) ∙ ap treeOf (sym d)); operand = (φ, rest, d) }
 
-two : (φ ψ : Formula) (g : Formula → Formula → Formula) (rest : List ℕ) → drop 2 (spell (g φ ψ) rest) ≡ spell φ (spell ψ rest) → size (g φ ψ) ≡ 1 + size φ + size ψ → Binary (spell (g φ ψ) rest) g
+two : (φ ψ : Formula) (g : Formula → Formula → Formula) (rest : List ℕ)
+    → drop 2 (spell (g φ ψ) rest) ≡ spell φ (spell ψ rest) → size (g φ ψ) ≡ 1 + size φ + size ψ
+    → Binary (spell (g φ ψ) rest) g
 unfolding Tree
 two φ ψ g rest d s =
     let e : treeOf (drop 2 (spell (g φ ψ) rest)) ≡ φ = ap treeOf d ∙ tree-spell φ (spell ψ rest) in
-    let b : drop (2 * size φ) (drop 2 (spell (g φ ψ) rest)) ≡ spell ψ rest = ap (drop (2 * size φ)) d ∙ spell-drop φ (spell ψ rest) in
+    let b : drop (2 * size φ) (drop 2 (spell (g φ ψ) rest)) ≡ spell ψ rest = ap (drop (2 * size φ)) d
+    ∙ spell-drop φ (spell ψ rest) in
     record {
       is = rw (e, b, tree-spell ψ rest, tree-spell (g φ ψ) rest);
       first = (φ, spell ψ rest, d);

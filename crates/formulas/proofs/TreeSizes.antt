@@ -1,5 +1,5 @@
--- The sizes of all trees: each from its node's operands and the sizes behind it, for any bytes; and what a list that begins with them
--- says of the parts of a formula.
+-- The sizes of all trees: each from its node's operands and the sizes behind it, for any bytes; and what a list that
+-- begins with them says of the parts of a formula.
 use Prim.Native.Nat.{ℕ, zero, suc, _+_, _-_, _*_, _/_, _≤_, _<_, min}
 use mathlib.Core.Path.{_≡_, refl, sym, _∙_, ap}
 use mathlib.Core.Bool.{Bool, true, false}
@@ -80,8 +80,10 @@ module _ (f : List ℕ) where
 -- what a node makes of the trees behind it
 data Made (o a : ℕ) : Node → Type 0 where
   made0 : (φ : Formula) → ((bs : List ℕ) → spell φ bs ≡ o ∷ a ∷ bs) → Made o a (node.Operands 0)
-  made1 : (g : Formula → Formula) → ((φ : Formula) (bs : List ℕ) → spell (g φ) bs ≡ o ∷ a ∷ spell φ bs) → Made o a (node.Operands 1)
-  made2 : (g : Formula → Formula → Formula) → ((φ ψ : Formula) (bs : List ℕ) → spell (g φ ψ) bs ≡ o ∷ a ∷ spell φ (spell ψ bs)) → Made o a (node.Operands 2)
+  made1 : (g : Formula → Formula) → ((φ : Formula) (bs : List ℕ) → spell (g φ) bs ≡ o ∷ a ∷ spell φ bs)
+      → Made o a (node.Operands 1)
+  made2 : (g : Formula → Formula → Formula)
+      → ((φ ψ : Formula) (bs : List ℕ) → spell (g φ ψ) bs ≡ o ∷ a ∷ spell φ (spell ψ bs)) → Made o a (node.Operands 2)
   nothing : Made o a node.Bad
 
 -- by the table of operators
@@ -161,10 +163,18 @@ module _ (f : List ℕ) (room : 2 ≤ length f) where
         unfolding Tree
         one-size k1 = go (made (getD f 0 0) (getD f 1 0)) e first-tree
           where
-            go : {o : Node} → Made (getD f 0 0) (getD f 1 0) o → node.Operands k ≡ o → Tree (drop 2 f) → 1 + n ≡ treeSize f
+            go : {o : Node} → Made (getD f 0 0) (getD f 1 0) o → node.Operands k ≡ o → Tree (drop 2 f)
+                → 1 + n ≡ treeSize f
             go (made0 φ s) e t = absurd (omega (arith, k1, ap operandsIn e))
             go (made1 g s) e (φ, bs, t) =
-                omega (arith, q, spelled-size (g φ) bs (split ∙ rw t (sym (s φ bs))), ap treeSize t ∙ size-spell φ bs, ap length t ∙ length-spell φ bs, length-drop 2 f)
+                omega (
+                  arith,
+                  q,
+                  spelled-size (g φ) bs (split ∙ rw t (sym (s φ bs))),
+                  ap treeSize t ∙ size-spell φ bs,
+                  ap length t ∙ length-spell φ bs,
+                  length-drop 2 f,
+                )
             go (made2 g s) e t = absurd (omega (arith, k1, ap operandsIn e))
             go nothing e t = absurd (apart cc)
 
@@ -174,13 +184,18 @@ module _ (f : List ℕ) (room : 2 ≤ length f) where
           second-missing m0 = sym (no-tree f (λ t. tree-size (drop (2 * n) (drop 2 f)) (second t) (sym z ∙ m0)))
             where
               second : Tree f → Tree (drop (2 * n) (drop 2 f))
-              second t = rw (q, ← measured-size (drop 2 f) first-tree) (second-operand f t no-leaf (λ w. k1 (ap operandsIn e ∙ w)))
+              second t =
+                  rw (q, ← measured-size (drop 2 f) first-tree)
+                  (second-operand f t no-leaf (λ w. k1 (ap operandsIn e ∙ w)))
 
           pub two-size : (m ≡ 0 → ⊥) → 1 + n + m ≡ treeSize f
           unfolding Tree
-          two-size some-second = go (made (getD f 0 0) (getD f 1 0)) e first-tree (size-tree (drop (2 * n) (drop 2 f)) (λ w. some-second (z ∙ w)))
+          two-size some-second =
+              go (made (getD f 0 0) (getD f 1 0)) e first-tree
+              (size-tree (drop (2 * n) (drop 2 f)) (λ w. some-second (z ∙ w)))
             where
-              go : {o : Node} → Made (getD f 0 0) (getD f 1 0) o → node.Operands k ≡ o → Tree (drop 2 f) → Tree (drop (2 * n) (drop 2 f)) → 1 + n + m ≡ treeSize f
+              go : {o : Node} → Made (getD f 0 0) (getD f 1 0) o → node.Operands k ≡ o → Tree (drop 2 f)
+                  → Tree (drop (2 * n) (drop 2 f)) → 1 + n + m ≡ treeSize f
               go (made0 φ s) e t u = absurd (k0 (ap operandsIn e))
               go (made1 g s) e t u = absurd (k1 (ap operandsIn e))
               go (made2 g s) e (φ, bs, t) (ψ, cs, u) =
@@ -191,7 +206,8 @@ module _ (f : List ℕ) (room : 2 ≤ length f) where
                     arith,
                     w,
                     z ∙ ap treeSize u ∙ size-spell ψ cs,
-                    spelled-size (g φ ψ) cs (split ∙ ap (λ l. getD f 0 0 ∷ getD f 1 0 ∷ l) (t ∙ ap (spell φ) b) ∙ sym (s φ ψ cs)),
+                    spelled-size (g φ ψ) cs
+                        (split ∙ ap (λ l. getD f 0 0 ∷ getD f 1 0 ∷ l) (t ∙ ap (spell φ) b) ∙ sym (s φ ψ cs)),
                     ap length t ∙ length-spell φ bs,
                     ap length b ∙ length-spell ψ cs,
                     length-drop 2 f,
@@ -210,7 +226,9 @@ sizes-behind : (f : List ℕ) → sizesOf (drop 2 f) ≡ take (length f / 2 - 1)
 unfolding sizesOf
 sizes-behind [] = refl
 sizes-behind (o ∷ []) = refl
-sizes-behind (o ∷ a ∷ bs) = sym (take-at (sizesOf bs) (treeSize (o ∷ a ∷ bs) ∷ []) (length (o ∷ a ∷ bs) / 2 - 1) (omega (arith, length-sizes bs)))
+sizes-behind (o ∷ a ∷ bs) =
+    sym (take-at (sizesOf bs) (treeSize (o ∷ a ∷ bs) ∷ []) (length (o ∷ a ∷ bs) / 2 - 1)
+    (omega (arith, length-sizes bs)))
 
 -- and so on for each part
 sizes-part : (f : List ℕ) (m : ℕ) → sizesOf (drop (2 * m) f) ≡ take (length f / 2 - m) (sizesOf f)
@@ -218,7 +236,8 @@ sizes-part f zero = sym (take-all (length f / 2 - 0) (sizesOf f) (omega (arith, 
 sizes-part f (suc m) =
     let twice : 2 * suc m ≡ 2 * m + 2 = omega arith in
     let less : length (drop (2 * m) f) / 2 - 1 ≡ length f / 2 - suc m = omega (arith, length-drop (2 * m) f) in
-    rw (twice, ← drop-drop 2 (2 * m) f, sizes-behind (drop (2 * m) f), sizes-part f m, less) (take-take (length f / 2 - suc m) (length f / 2 - m) (sizesOf f) (omega arith))
+    rw (twice, ← drop-drop 2 (2 * m) f, sizes-behind (drop (2 * m) f), sizes-part f m, less)
+    (take-take (length f / 2 - suc m) (length f / 2 - m) (sizesOf f) (omega arith))
 
 -- the last size is that of the first tree
 last-size : (f : List ℕ) → 2 ≤ length f → getD (sizesOf f) (length f / 2 - 1) 0 ≡ treeSize f
@@ -228,11 +247,14 @@ last-size (o ∷ []) h = absurd (omega arith)
 last-size (o ∷ a ∷ bs) h = getD-at (sizesOf bs) (treeSize (o ∷ a ∷ bs)) [] 0 _ (omega (arith, length-sizes bs))
 
 -- the size of the tree n nodes behind the first one
-size-at : (f : List ℕ) (n : ℕ) → n < length f / 2 → getD (sizesOf f) (length f / 2 - 1 - n) 0 ≡ treeSize (drop (2 * n) f)
+size-at : (f : List ℕ) (n : ℕ) → n < length f / 2
+    → getD (sizesOf f) (length f / 2 - 1 - n) 0 ≡ treeSize (drop (2 * n) f)
 size-at f n h =
     let less : length (drop (2 * n) f) / 2 - 1 ≡ length f / 2 - 1 - n = omega (arith, length-drop (2 * n) f) in
-    let last : getD (sizesOf (drop (2 * n) f)) (length (drop (2 * n) f) / 2 - 1) 0 ≡ treeSize (drop (2 * n) f) = last-size (drop (2 * n) f) (omega (arith, length-drop (2 * n) f)) in
-    sym (getD-take (length f / 2 - n) (sizesOf f) (length f / 2 - 1 - n) 0 (omega arith)) ∙ (rw (sizes-part f n, less) at last)
+    let last : getD (sizesOf (drop (2 * n) f)) (length (drop (2 * n) f) / 2 - 1) 0
+    ≡ treeSize (drop (2 * n) f) = last-size (drop (2 * n) f) (omega (arith, length-drop (2 * n) f)) in
+    sym (getD-take (length f / 2 - n) (sizesOf f) (length f / 2 - 1 - n) 0 (omega arith))
+    ∙ (rw (sizes-part f n, less) at last)
 
 -- fewer bytes than a node has begin no tree
 short-size : (f : List ℕ) → length f < 2 → treeSize f ≡ 0
@@ -260,17 +282,21 @@ size-behind f n = go (ltb n (length f / 2)) refl
         sym (size-found (sizesOf f) n (omega (arith, length-sizes f))) ∙ rw (length-sizes f) (size-at f n h)
     go false e =
         let h : length f / 2 ≤ n = ltb-false n (length f / 2) e in
-        sym (size-over (sizesOf f) n (omega (arith, length-sizes f))) ∙ sym (short-size (drop (2 * n) f) (omega (arith, length-drop (2 * n) f)))
+        sym (size-over (sizesOf f) n (omega (arith, length-sizes f)))
+        ∙ sym (short-size (drop (2 * n) f) (omega (arith, length-drop (2 * n) f)))
 
 -- sizes written over a list long enough for them stand at its front, and the list keeps its length
 pub sizes-over : (f xs : List ℕ) → length f / 2 ≤ length xs → Sized (sizesOver f xs) f
 unfolding Sized sizesOver
-sizes-over f xs h = rw (take-all (length xs) (sizesOf f) (omega (arith, length-sizes f))) (take-at (sizesOf f) (drop (length (sizesOf f)) xs) (length f / 2) (length-sizes f))
+sizes-over f xs h =
+    rw (take-all (length xs) (sizesOf f) (omega (arith, length-sizes f)))
+    (take-at (sizesOf f) (drop (length (sizesOf f)) xs) (length f / 2) (length-sizes f))
 
 pub length-over : (f xs : List ℕ) → length (sizesOver f xs) ≡ length xs
 unfolding sizesOver
 length-over f xs =
-    length-append (take (length xs) (sizesOf f)) (drop (length (sizesOf f)) xs) ∙ omega (arith, length-take (length xs) (sizesOf f), length-drop (length (sizesOf f)) xs)
+    length-append (take (length xs) (sizesOf f)) (drop (length (sizesOf f)) xs)
+    ∙ omega (arith, length-take (length xs) (sizesOf f), length-drop (length (sizesOf f)) xs)
 
 module _ (sizes f : List ℕ) where
   -- a list that begins with the sizes of f has one for each node
@@ -296,9 +322,18 @@ module _ (f sizes : List ℕ) (p : sizes ≡ sizesOf (drop 2 f)) where
   size-known n m e = e ∙ ap (λ l. sizeBehind l n) p ∙ size-behind (drop 2 f) n
 
   -- two operands have fewer nodes than there are
-  pub sizes-fit : 2 ≤ length f → (n m : ℕ) → n ≡ sizeBehind sizes 0 → m ≡ sizeBehind sizes n → 2 + 2 * n + 2 * m ≤ length f
+  pub sizes-fit : 2 ≤ length f → (n m : ℕ) → n ≡ sizeBehind sizes 0 → m ≡ sizeBehind sizes n
+      → 2 + 2 * n + 2 * m ≤ length f
   sizes-fit h n m e q =
-      omega (arith, size-known 0 n e, size-room (drop 2 f), size-known n m q, size-room (drop (2 * n) (drop 2 f)), length-drop (2 * n) (drop 2 f), length-drop 2 f)
+      omega (
+        arith,
+        size-known 0 n e,
+        size-room (drop 2 f),
+        size-known n m q,
+        size-room (drop (2 * n) (drop 2 f)),
+        length-drop (2 * n) (drop 2 f),
+        length-drop 2 f,
+      )
 
 -- nothing is left to take, or to drop, behind i elements
 take-rest : (i j : ℕ) (l : List ℕ) → i ≤ j → min j (length l) ≤ i → take i l ≡ take j l
@@ -309,13 +344,21 @@ drop-rest i j l h r = go (ltb i (length l)) refl
   where
     go : (b : Bool) → ltb i (length l) ≡ b → drop i l ≡ drop j l
     go true e = let s = ltb-true i (length l) e in let same : i ≡ j = omega (arith, s) in ap (λ k. drop k l) same
-    go false e = let s = ltb-false i (length l) e in drop-of-length-le l {i = i} s ∙ sym (drop-of-length-le l {i = j} (omega (arith, s)))
+    go false e =
+        let s = ltb-false i (length l) e in
+        drop-of-length-le l {i = i} s ∙ sym (drop-of-length-le l {i = j} (omega (arith, s)))
 
 -- the next element of one list in its place in the other
-one-more : (xs ys : List ℕ) (i : ℕ) → i < length xs → i < length ys → set (take i xs ++ drop i ys) i (getD xs i 0) ≡ take (i + 1) xs ++ drop (i + 1) ys
+one-more : (xs ys : List ℕ) (i : ℕ) → i < length xs → i < length ys
+    → set (take i xs ++ drop i ys) i (getD xs i 0) ≡ take (i + 1) xs ++ drop (i + 1) ys
 one-more xs ys i h r =
     let next : i + 1 ≡ suc i = omega arith in
-    rw (next, drop-cons ys i 0 r, take-suc xs i 0 h, set-at (take i xs) (getD ys i 0) (drop (suc i) ys) (getD xs i 0) i (omega (arith, length-take i xs)))
+    rw (
+      next,
+      drop-cons ys i 0 r,
+      take-suc xs i 0 h,
+      set-at (take i xs) (getD ys i 0) (drop (suc i) ys) (getD xs i 0) i (omega (arith, length-take i xs)),
+    )
     (sym (append-snoc (take i xs) (getD xs i 0) (drop (suc i) ys)))
 
 -- i sizes are found, the rest of the list is as it was
@@ -331,7 +374,8 @@ module _ (f old : List ℕ) where
     pub sizing-length : length xs ≡ length old
     sizing-length =
         let l = g .within in
-        ap length (g .same) ∙ length-append (take i (sizesOf f)) (drop i old) ∙ omega (arith, l, length-sizes f, length-take i (sizesOf f), length-drop i old)
+        ap length (g .same) ∙ length-append (take i (sizesOf f)) (drop i old)
+        ∙ omega (arith, l, length-sizes f, length-take i (sizesOf f), length-drop i old)
 
     found-length : length (take i (sizesOf f)) ≡ i
     found-length = let l = g .within in omega (arith, l, length-sizes f, length-take i (sizesOf f))
@@ -340,7 +384,11 @@ module _ (f old : List ℕ) where
     unfolding sizesOver
     sizing-end h =
         let l = g .within in
-        rw (g .same, take-rest i (length old) (sizesOf f) (omega arith) (omega (arith, length-sizes f)), drop-rest i (length (sizesOf f)) old (omega (arith, length-sizes f)) (omega (arith, length-sizes f)))
+        rw (
+          g .same,
+          take-rest i (length old) (sizesOf f) (omega arith) (omega (arith, length-sizes f)),
+          drop-rest i (length (sizesOf f)) old (omega (arith, length-sizes f)) (omega (arith, length-sizes f)),
+        )
 
     module _ (more : i < min (length f / 2) (length old)) where
       -- the node with i nodes behind it
@@ -354,13 +402,16 @@ module _ (f old : List ℕ) where
       here-behind =
           let next : 2 * (length f / 2 - 1 - i) + 2 ≡ 2 * (length f / 2 - i) = omega arith in
           let left : length f / 2 - (length f / 2 - i) ≡ i = omega arith in
-          rw (g .same, drop-drop 2 (2 * (length f / 2 - 1 - i)) f, next, sizes-part f (length f / 2 - i), left) (take-at (take i (sizesOf f)) (drop i old) i found-length)
+          rw (g .same, drop-drop 2 (2 * (length f / 2 - 1 - i)) f, next, sizes-part f (length f / 2 - i), left)
+          (take-at (take i (sizesOf f)) (drop i old) i found-length)
 
       pub sizing-on : (n : ℕ) → n ≡ treeSize here → Sizing f old (set xs i n) (i + 1)
       sizing-on n e = record {
         within = omega arith;
         same =
             let place : length f / 2 - 1 - (length f / 2 - 1 - i) ≡ i = omega arith in
-            let size : getD (sizesOf f) (length f / 2 - 1 - (length f / 2 - 1 - i)) 0 ≡ treeSize here = size-at f (length f / 2 - 1 - i) (omega arith) in
-            rw (g .same, e ∙ sym (rw place at size)) (one-more (sizesOf f) old i (omega (arith, length-sizes f)) (omega arith));
+            let size : getD (sizesOf f) (length f / 2 - 1 - (length f / 2 - 1 - i)) 0
+            ≡ treeSize here = size-at f (length f / 2 - 1 - i) (omega arith) in
+            rw (g .same, e ∙ sym (rw place at size))
+            (one-more (sizesOf f) old i (omega (arith, length-sizes f)) (omega arith));
       }

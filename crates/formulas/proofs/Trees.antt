@@ -68,20 +68,24 @@ restOf none = none
 restOf (some t) = some (t .1)
 
 -- a node leaves the end to its operands and what was due beside it
-rest-next : (s : Shape) (n m : ℕ) (more : ℕ → Read) → ((d : ℕ) → Counted d (more d)) → node.Operands m ≡ operandsOf s → restOf (next s n more) ≡ restOf (more (n + m))
+rest-next : (s : Shape) (n m : ℕ) (more : ℕ → Read) → ((d : ℕ) → Counted d (more d)) → node.Operands m ≡ operandsOf s
+    → restOf (next s n more) ≡ restOf (more (n + m))
 unfolding operandsOf
 rest-next (leaf φ) n m more h e = let q : n + m ≡ n = (let z : m ≡ 0 = cc in omega (arith, z)) in rw q (go (more n))
   where
     go : (t : Read) → restOf (build0 φ t) ≡ restOf t
     go none = refl
     go (some t) = refl
-rest-next (unary f) n m more h e = let q : n + m ≡ suc n = (let z : m ≡ 1 = cc in omega (arith, z)) in rw q (go (more (suc n)) (h (suc n)))
+rest-next (unary f) n m more h e =
+    let q : n + m ≡ suc n = (let z : m ≡ 1 = cc in omega (arith, z)) in rw q (go (more (suc n)) (h (suc n)))
   where
     go : (t : Read) → Counted (suc n) t → restOf (build1 f t) ≡ restOf t
     go none c = refl
     go (some ([], bs)) c = absurd (omega (arith, c))
     go (some (φ ∷ φs, bs)) c = refl
-rest-next (binary f) n m more h e = let q : n + m ≡ suc (suc n) = (let z : m ≡ 2 = cc in omega (arith, z)) in rw q (go (more (suc (suc n))) (h (suc (suc n))))
+rest-next (binary f) n m more h e =
+    let q : n + m ≡ suc (suc n) = (let z : m ≡ 2 = cc in omega (arith, z)) in
+    rw q (go (more (suc (suc n))) (h (suc (suc n))))
   where
     go : (t : Read) → Counted (suc (suc n)) t → restOf (build2 f t) ≡ restOf t
     go none c = refl
@@ -126,7 +130,9 @@ module _ (f : List ℕ) where
   unfolding treeEnd endOf parse
   at-end at h e = go (trees f 1) (counted f 1) e (λ φ rest p. parse-sound f φ rest p)
     where
-      go : (t : Read) → Counted 1 t → restOf t ≡ some (drop at f) → ((φ : Formula) (rest : List ℕ) → single t ≡ some (φ, rest) → spell φ rest ≡ f) → end.At at ≡ endOf (single t)
+      go : (t : Read) → Counted 1 t → restOf t ≡ some (drop at f)
+          → ((φ : Formula) (rest : List ℕ) → single t ≡ some (φ, rest) → spell φ rest ≡ f)
+          → end.At at ≡ endOf (single t)
       go none c e s = absurd (apart cc)
       go (some ([], bs)) c e s = absurd (omega (arith, c))
       go (some (φ ∷ [], bs)) c e s =
@@ -138,7 +144,9 @@ module _ (f : List ℕ) where
   module _ (due at : ℕ) (g : Seeking f due at) where
     pub seek-end : due ≤ 0 → end.At at ≡ treeEnd f
     unfolding trees
-    seek-end h = let z : due ≡ 0 = omega arith in at-end at (g .within) (g .same ∙ ap (λ d. restOf (trees (drop at f) d)) z ∙ none-due (drop at f))
+    seek-end h =
+        let z : due ≡ 0 = omega arith in
+        at-end at (g .within) (g .same ∙ ap (λ d. restOf (trees (drop at f) d)) z ∙ none-due (drop at f))
       where
         none-due : (bs : List ℕ) → restOf (trees bs 0) ≡ some bs
         none-due [] = refl
@@ -150,7 +158,9 @@ module _ (f : List ℕ) where
       due-suc = omega arith
 
       pub seek-short : length f - at < 2 → end.Nowhere ≡ treeEnd f
-      seek-short h = nowhere (g .same ∙ ap (λ d. restOf (trees (drop at f) d)) due-suc ∙ short (drop at f) (due - 1) (omega (arith, length-drop at f)))
+      seek-short h =
+          nowhere (g .same ∙ ap (λ d. restOf (trees (drop at f) d)) due-suc
+          ∙ short (drop at f) (due - 1) (omega (arith, length-drop at f)))
 
       module _ (room : 2 ≤ length f - at) where
         -- the node at `at`, and the bytes behind it
@@ -160,18 +170,26 @@ module _ (f : List ℕ) where
             let d : suc (at + 1) ≡ at + 2 = omega arith in
             rw (drop-cons f at 0 (omega arith), b, drop-cons f (at + 1) 0 (omega arith), d)
 
-        here : restOf (trees f 1) ≡ restOf (next (shape (getD f at 0) (getD f (at + 1) 0)) (due - 1) (λ m. trees (drop (at + 2) f) m))
+        here : restOf (trees f 1) ≡ restOf
+            (next (shape (getD f at 0) (getD f (at + 1) 0)) (due - 1) (λ m. trees (drop (at + 2) f) m))
         unfolding trees
-        here = g .same ∙ ap (λ d. restOf (trees (drop at f) d)) due-suc ∙ ap (λ l. restOf (trees l (suc (due - 1)))) node-first
+        here =
+            g .same ∙ ap (λ d. restOf (trees (drop at f) d)) due-suc
+            ∙ ap (λ l. restOf (trees l (suc (due - 1)))) node-first
 
         pub seek-bad : node.Bad ≡ nodeOf (getD f at 0) (getD f (at + 1) 0) → end.Nowhere ≡ treeEnd f
         unfolding nodeOf
-        seek-bad e = nowhere (here ∙ rest-bad (shape (getD f at 0) (getD f (at + 1) 0)) (due - 1) (λ m. trees (drop (at + 2) f) m) e)
+        seek-bad e =
+            nowhere (here ∙ rest-bad (shape (getD f at 0) (getD f (at + 1) 0)) (due - 1)
+            (λ m. trees (drop (at + 2) f) m) e)
 
-        pub seek-on : (m : ℕ) → node.Operands m ≡ nodeOf (getD f at 0) (getD f (at + 1) 0) → Seeking f (due - 1 + m) (at + 2)
+        pub seek-on : (m : ℕ) → node.Operands m ≡ nodeOf (getD f at 0) (getD f (at + 1) 0)
+            → Seeking f (due - 1 + m) (at + 2)
         unfolding nodeOf
         seek-on m e = record {
           within = omega arith;
           few = omega (arith, few-operands (shape (getD f at 0) (getD f (at + 1) 0)) m e, g .few);
-          same = here ∙ rest-next (shape (getD f at 0) (getD f (at + 1) 0)) (due - 1) m (λ d. trees (drop (at + 2) f) d) (λ d. counted (drop (at + 2) f) d) e;
+          same =
+              here ∙ rest-next (shape (getD f at 0) (getD f (at + 1) 0)) (due - 1) m (λ d. trees (drop (at + 2) f) d)
+              (λ d. counted (drop (at + 2) f) d) e;
         }

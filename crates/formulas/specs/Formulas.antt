@@ -19,8 +19,8 @@ use Rattle.formulas.specs.declared.node.Node.the-variants as node
 use Rattle.formulas.specs.declared.tree.TreeEnd.{TreeEnd}
 use Rattle.formulas.specs.declared.tree.TreeEnd.the-variants as end
 
--- how many operands a node has: the theory's table of operators (Spell) says so, and that a label byte is 0 where the operator has
--- no label
+-- how many operands a node has: the theory's table of operators (Spell) says so, and that a label byte is 0 where the
+-- operator has no label
 unfoldable pub operandsOf : Shape → Node
 operandsOf (leaf φ) = node.Operands 0
 operandsOf (unary f) = node.Operands 1
@@ -54,13 +54,13 @@ questionLimit = 64
 abbrev pub quotientLimit : ℕ
 quotientLimit = 4096
 
--- what it is for bytes to be a formula of a call: they spell one tree, of at most `limit` nodes, whose labels are those of k pairs and
--- whose forward modalities nest at most 4 deep
+-- what it is for bytes to be a formula of a call: they spell one tree, of at most `limit` nodes, whose labels are those
+-- of k pairs and whose forward modalities nest at most 4 deep
 unfoldable pub Legal : ℕ → ℕ → List ℕ → Type 0
 Legal k limit f = (φ : Formula) × (f ≡ spell φ []) × (size φ ≤ limit) × (labelled (count k) φ ≡ true) × (nesting φ ≤ 4)
 
--- the same as two tests. 9: "formula not one whole tree, operator over 8, label over 2k, or a label byte set where none belongs", "9 also for an unfit
--- length or over the node limit"
+-- the same as two tests. 9: "formula not one whole tree, operator over 8, label over 2k, or a label byte set where none
+-- belongs", "9 also for an unfit length or over the node limit"
 unfoldable pub isFormula : ℕ → ℕ → List ℕ → Bool
 isFormula k limit f = leb (length f) (2 * limit) && present (labelled (count k)) (formulaOf f)
 
@@ -70,4 +70,5 @@ nestsFit f = present (λ φ. leb (nesting φ) 4) (formulaOf f)
 
 -- "10: .. after 9"
 unfoldable pub checkFormula : ℕ → ℕ → List ℕ → Check
-checkFormula k limit f = firstOf (refusedIf (not (isFormula k limit f)) NotATree ∷ refusedIf (not (nestsFit f)) NestedTooDeep ∷ [])
+checkFormula k limit f =
+    firstOf (refusedIf (not (isFormula k limit f)) NotATree ∷ refusedIf (not (nestsFit f)) NestedTooDeep ∷ [])

@@ -25,7 +25,7 @@ sizesOf (o ∷ a ∷ bytes) = sizesOf bytes ++ treeSize (o ∷ a ∷ bytes) ∷ 
 unfoldable pub sizesOver : List ℕ → List ℕ → List ℕ
 sizesOver f xs = take (length xs) (sizesOf f) ++ drop (length (sizesOf f)) xs
 
--- the list begins with the sizes of f: those of its nodes from the last one on, so a part of f from a later node on needs no other
--- list
+-- the list begins with the sizes of f: those of its nodes from the last one on, so a part of f from a later node on
+-- needs no other list
 unfoldable pub Sized : List ℕ → List ℕ → Type 0
 Sized sizes f = take (length f / 2) sizes ≡ sizesOf f

@@ -1,4 +1,5 @@
--- Bytes that begin with a tree, and that tree. Functions that walk a formula promise by them, here, in verdict and in dividing.
+-- Bytes that begin with a tree, and that tree. Functions that walk a formula promise by them, here, in verdict and in
+-- dividing.
 use Prim.Native.Nat.{ℕ}
 use mathlib.Core.Path.{_≡_}
 use mathlib.Core.List.{List}

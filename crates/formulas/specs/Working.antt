@@ -30,6 +30,7 @@ labelsFit n [] = true
 labelsFit n (o ∷ []) = true
 labelsFit n (o ∷ a ∷ bytes) = leb a n && labelsFit n bytes
 
--- of sizes that stand from the last node on, that of the tree n nodes behind the first one; 0 stands for what is behind the last node
+-- of sizes that stand from the last node on, that of the tree n nodes behind the first one; 0 stands for what is behind
+-- the last node
 unfoldable pub sizeBehind : List ℕ → ℕ → ℕ
 sizeBehind sizes n = getD (0 ∷ sizes) (length sizes - n) 0

@@ -22,7 +22,8 @@ pub fn tree_sizes(f: &[u8], sizes: &mut [usize])
     }
 }
 
-// The size of the first tree, from the sizes of those that begin behind its first node; 0 if the node is bad or an operand is missing.
+// The size of the first tree, from the sizes of those that begin behind its first node; 0 if the node is bad or an
+// operand is missing.
 fn first_size(f: &[u8], behind: &[usize]) -> usize
     requires { ⌜ 2 ≤ length (now f) ⌝ }
     requires { ⌜ now behind ≡ sizesOf (drop 2 (now f)) ⌝ }

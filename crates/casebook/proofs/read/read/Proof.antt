@@ -13,7 +13,12 @@ enum-known-record : tie.Need-enum-known-record
 enum-known-record c = search needs
 
 shared-slice-read-k : tie.Need-shared-slice-read-k
-shared-slice-read-k c = omega (arith, found-within _ _ _ _ _ (sym (c .before .before .«record» .given .1) ∙ c .before .before .before .before .next .ensures))
+shared-slice-read-k c =
+    omega (
+      arith,
+      found-within _ _ _ _ _
+          (sym (c .before .before .«record» .given .1) ∙ c .before .before .before .before .next .ensures),
+    )
 
 check-pairs-requires : tie.Need-check-pairs-requires
 check-pairs-requires c κs = search needs
@@ -31,10 +36,18 @@ enum-known-refusal-2 : tie.Need-enum-known-refusal-2
 enum-known-refusal-2 c = search needs
 
 returns : tie.Need-returns
-returns c = pairs-sound _ _ _ (sym (c .before .before .before .before .before .before .«record» .given .1) ∙ c .before .before .before .before .before .before .before .before .next .ensures) (sym (c .before .before .before .check-pairs .ensures) ∙ c .before .enum-told .given .1) (c .read-left .ensures)
+returns c =
+    pairs-sound _ _ _
+    (sym (c .before .before .before .before .before .before .«record» .given .1)
+    ∙ c .before .before .before .before .before .before .before .before .next .ensures)
+    (sym (c .before .before .before .check-pairs .ensures) ∙ c .before .enum-told .given .1) (c .read-left .ensures)
 
 returns-2 : tie.Need-returns-2
-returns-2 c = pairs-refused _ _ _ (sym (c .before .before .before .before .before .before .«record» .given .1) ∙ c .before .before .before .before .before .before .before .before .next .ensures) _ (sym (c .before .before .before .check-pairs .ensures) ∙ c .before .refusal .given .1)
+returns-2 c =
+    pairs-refused _ _ _
+    (sym (c .before .before .before .before .before .before .«record» .given .1)
+    ∙ c .before .before .before .before .before .before .before .before .next .ensures) _
+    (sym (c .before .before .before .check-pairs .ensures) ∙ c .before .refusal .given .1)
 
 returns-3 : tie.Need-returns-3
 returns-3 c = first-refused _ _ (sym (c .before .refusal2 .given .1) ∙ c .before .before .before .next .ensures)

@@ -22,7 +22,9 @@ enum-told : tie.Need-enum-told
 enum-told c = search needs
 
 read-right-requires : tie.Need-read-right-requires
-read-right-requires c κs = seen (checkTable _) (c .before .before .before .body .ensures) (c .before .before .check-table .ensures) (c .enum-told .given .1)
+read-right-requires c κs =
+    seen (checkTable _) (c .before .before .before .body .ensures) (c .before .before .check-table .ensures)
+    (c .enum-told .given .1)
 
 enum-known-refusal : tie.Need-enum-known-refusal
 enum-known-refusal c = search needs
@@ -31,10 +33,19 @@ enum-known-refusal-2 : tie.Need-enum-known-refusal-2
 enum-known-refusal-2 c = search needs
 
 returns : tie.Need-returns
-returns c = left-sound _ _ _ _ _ (sym (c .before .before .before .before .before .before .left .given .1) ∙ c .before .before .before .before .before .before .before .before .next .ensures) (seen (checkTable _) (c .before .before .before .before .body .ensures) (c .before .before .before .check-table .ensures) (c .before .enum-told .given .1)) (c .read-right .ensures)
+returns c =
+    let c1 = c .before .before .before in
+    left-sound _ _ _ _ _
+    (sym (c1 .before .before .before .left .given .1) ∙ c1 .before .before .before .before .before .next .ensures)
+    (seen (checkTable _) (c1 .before .body .ensures) (c1 .check-table .ensures) (c .before .enum-told .given .1))
+    (c .read-right .ensures)
 
 returns-2 : tie.Need-returns-2
-returns-2 c = left-refused _ _ _ _ _ (sym (c .before .before .before .before .before .before .left .given .1) ∙ c .before .before .before .before .before .before .before .before .next .ensures) _ (seen (checkTable _) (c .before .before .before .before .body .ensures) (c .before .before .before .check-table .ensures) (c .before .refusal .given .1))
+returns-2 c =
+    let c1 = c .before .before .before in
+    left-refused _ _ _ _ _
+    (sym (c1 .before .before .before .left .given .1) ∙ c1 .before .before .before .before .before .next .ensures) _
+    (seen (checkTable _) (c1 .before .body .ensures) (c1 .check-table .ensures) (c .before .refusal .given .1))
 
 returns-3 : tie.Need-returns-3
 returns-3 c = no-left _ _ _ _ (sym (c .before .refusal2 .given .1) ∙ c .before .before .before .next .ensures)

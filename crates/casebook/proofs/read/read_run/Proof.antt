@@ -36,10 +36,25 @@ enum-known-refusal-2 : tie.Need-enum-known-refusal-2
 enum-known-refusal-2 c = search needs
 
 returns : tie.Need-returns
-returns c = run-sound _ _ _ _ _ _ _ (sym (c .before .before .before .before .before .before .before .before .run .given .1) ∙ c .before .before .before .before .before .before .before .before .before .before .next .ensures) (run-seen _ _ _ _ _ (c .before .before .before .before .before .before .before .before .before .before .before .before .pre .0) (c .before .before .before .before .before .before .before .before .before .before .before .before .pre .1) (c .before .before .before .before .before .before .body .ensures) (c .before .before .before .before .before .body2 .ensures) (c .before .before .before .before .body3 .ensures) (c .before .before .before .check-joint .ensures) (c .before .enum-told .given .1)) (c .read-question .ensures)
+returns c =
+    let c1 = c .before .before .before in
+    let c2 = c1 .before .before in
+    let c3 = c2 .before .before .before in
+    let s = c3 .before .before .before .before in
+    run-sound _ _ _ _ _ _ _ (sym (c3 .run .given .1) ∙ c3 .before .before .next .ensures)
+    (run-seen _ _ _ _ _ (s .pre .0) (s .pre .1) (c2 .before .body .ensures) (c2 .body2 .ensures)
+    (c1 .before .body3 .ensures) (c1 .check-joint .ensures) (c .before .enum-told .given .1))
+    (c .read-question .ensures)
 
 returns-2 : tie.Need-returns-2
-returns-2 c = run-refused _ _ _ _ _ _ _ (sym (c .before .before .before .before .before .before .before .before .run .given .1) ∙ c .before .before .before .before .before .before .before .before .before .before .next .ensures) _ (run-seen _ _ _ _ _ (c .before .before .before .before .before .before .before .before .before .before .before .before .pre .0) (c .before .before .before .before .before .before .before .before .before .before .before .before .pre .1) (c .before .before .before .before .before .before .body .ensures) (c .before .before .before .before .before .body2 .ensures) (c .before .before .before .before .body3 .ensures) (c .before .before .before .check-joint .ensures) (c .before .refusal .given .1))
+returns-2 c =
+    let c1 = c .before .before .before in
+    let c2 = c1 .before .before in
+    let c3 = c2 .before .before .before in
+    let s = c3 .before .before .before .before in
+    run-refused _ _ _ _ _ _ _ (sym (c3 .run .given .1) ∙ c3 .before .before .next .ensures) _
+    (run-seen _ _ _ _ _ (s .pre .0) (s .pre .1) (c2 .before .body .ensures) (c2 .body2 .ensures)
+    (c1 .before .body3 .ensures) (c1 .check-joint .ensures) (c .before .refusal .given .1))
 
 returns-3 : tie.Need-returns-3
 returns-3 c = no-run _ _ _ _ _ _ (sym (c .before .refusal2 .given .1) ∙ c .before .before .before .next .ensures)

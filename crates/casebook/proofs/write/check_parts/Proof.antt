@@ -20,7 +20,10 @@ then-requires-2 : tie.Need-then-requires-2
 then-requires-2 c κs = search needs
 
 returns : tie.Need-returns
-returns c = parts-checked _ _ _ _ _ (c .then2 .ensures) (c .before .before .then .ensures) (c .before .before .before .check-pairs .ensures) (c .before .before .before .before .check-joint .ensures) (c .before .check-formula .ensures)
+returns c =
+    parts-checked _ _ _ _ _ (c .then2 .ensures) (c .before .before .then .ensures)
+    (c .before .before .before .check-pairs .ensures) (c .before .before .before .before .check-joint .ensures)
+    (c .before .check-formula .ensures)
 
 pub check-parts-spec : {M : Type 1} → statement M
 check-parts-spec =

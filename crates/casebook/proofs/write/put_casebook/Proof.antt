@@ -85,20 +85,45 @@ part-put-record-end-5 c = search needs
 
 put-record-requires-5 : tie.Need-put-record-requires-5
 put-record-requires-5 c κs =
-    let s = c .before .before .before .before .before .before .before .before .before .before .before .before .before .before .before .before .before .before .before .before .before .before .before in
-    (fifth-room (s .args .k) (s .args .left .now) (s .args .right .now) (s .args .run .now) (s .args .question .now) (s .args .out .now) _ _ _ _ (c .before .before .before .before .before .before .before .before .before .before .before .before .before .before .before .put-record .ensures) (c .before .before .before .before .before .before .before .before .before .before .before .put-record2 .ensures) (c .before .before .before .before .before .before .before .put-record3 .ensures) (c .before .before .before .put-record4 .ensures) (s .pre .room), omega (arith, s .pre .question))
+    let c1 = c .before .before .before .before .before .before .before in
+    let c2 = c1 .before .before .before .before in
+    let c3 = c2 .before .before .before .before in
+    let s = c3 .before .before .before .before .before .before .before .before in (
+      fifth-room (s .args .k) (s .args .left .now) (s .args .right .now) (s .args .run .now) (s .args .question .now)
+          (s .args .out .now) _ _ _ _ (c3 .put-record .ensures) (c2 .put-record2 .ensures) (c1 .put-record3 .ensures)
+          (c .before .before .before .put-record4 .ensures) (s .pre .room),
+      omega (arith, s .pre .question),
+    )
 
 same-length : tie.Need-same-length
 same-length c =
-    let s = c .before .before .before .before .before .before .before .before .before .before .before .before .before .before .before .before .before .before .before .before .before .before .before .before .before .before in
-    front-length (casebookBytes (s .args .k) (s .args .left .now) (s .args .right .now) (s .args .run .now) (s .args .question .now)) (s .args .out .now) _
-    (all-put (s .args .k) (s .args .left .now) (s .args .right .now) (s .args .run .now) (s .args .question .now) (s .args .out .now) _ _ _ _ (c .before .before .before .before .before .before .before .before .before .before .before .before .before .before .before .before .before .before .put-record .ensures) (c .before .before .before .before .before .before .before .before .before .before .before .before .before .before .put-record2 .ensures) (c .before .before .before .before .before .before .before .before .before .before .put-record3 .ensures) (c .before .before .before .before .before .before .put-record4 .ensures) _ (c .before .before .put-record5 .ensures))
-    (omega (arith, s .pre .room, casebook-length (s .args .k) (s .args .left .now) (s .args .right .now) (s .args .run .now) (s .args .question .now)))
+    let c1 = c .before .before .before .before .before .before in
+    let c2 = c1 .before .before .before .before in
+    let c3 = c2 .before .before .before .before in
+    let c4 = c3 .before .before .before .before in
+    let s = c4 .before .before .before .before .before .before .before .before in
+    front-length (casebookBytes (s .args .k) (s .args .left .now) (s .args .right .now) (s .args .run .now)
+    (s .args .question .now)) (s .args .out .now) _
+    (all-put (s .args .k) (s .args .left .now) (s .args .right .now) (s .args .run .now) (s .args .question .now)
+    (s .args .out .now) _ _ _ _ (c4 .put-record .ensures) (c3 .put-record2 .ensures) (c2 .put-record3 .ensures)
+    (c1 .put-record4 .ensures) _ (c .before .before .put-record5 .ensures))
+    (omega (
+      arith,
+      s .pre .room,
+      casebook-length (s .args .k) (s .args .left .now) (s .args .right .now) (s .args .run .now)
+          (s .args .question .now),
+    ))
 
 returns : tie.Need-returns
 returns c =
-    let s = c .before .before .before .before .before .before .before .before .before .before .before .before .before .before .before .before .before .before .before .before .before .before .before .before .before .before in
-    all-put (s .args .k) (s .args .left .now) (s .args .right .now) (s .args .run .now) (s .args .question .now) (s .args .out .now) _ _ _ _ (c .before .before .before .before .before .before .before .before .before .before .before .before .before .before .before .before .before .before .put-record .ensures) (c .before .before .before .before .before .before .before .before .before .before .before .before .before .before .put-record2 .ensures) (c .before .before .before .before .before .before .before .before .before .before .put-record3 .ensures) (c .before .before .before .before .before .before .put-record4 .ensures) _ (c .before .before .put-record5 .ensures)
+    let c1 = c .before .before .before .before .before .before in
+    let c2 = c1 .before .before .before .before in
+    let c3 = c2 .before .before .before .before in
+    let c4 = c3 .before .before .before .before in
+    let s = c4 .before .before .before .before .before .before .before .before in
+    all-put (s .args .k) (s .args .left .now) (s .args .right .now) (s .args .run .now) (s .args .question .now)
+    (s .args .out .now) _ _ _ _ (c4 .put-record .ensures) (c3 .put-record2 .ensures) (c2 .put-record3 .ensures)
+    (c1 .put-record4 .ensures) _ (c .before .before .put-record5 .ensures)
 
 pub put-casebook-spec : {M : Type 1} → statement M
 put-casebook-spec =

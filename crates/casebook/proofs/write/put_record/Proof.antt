@@ -46,12 +46,16 @@ copy-requires c κs = simp (length-take, length-drop, length-set) (omega (arith,
 same-length : tie.Need-same-length
 same-length c =
     let s = c .before .before .before .before .before .before in
-    front-length (recordBytes (s .args .kind) (s .args .body .now)) (s .args .out .now) _ (record-put (s .args .out .now) (s .args .body .now) _ (s .args .kind) _ _ (omega (arith, s .pre .0)) (s .pre .1) (omega arith) refl refl (c .before .before .copy .ensures .1)) (omega (arith, s .pre .0, record-length (s .args .kind) (s .args .body .now)))
+    front-length (recordBytes (s .args .kind) (s .args .body .now)) (s .args .out .now) _
+    (record-put (s .args .out .now) (s .args .body .now) _ (s .args .kind) _ _ (omega (arith, s .pre .0)) (s .pre .1)
+    (omega arith) refl refl (c .before .before .copy .ensures .1))
+    (omega (arith, s .pre .0, record-length (s .args .kind) (s .args .body .now)))
 
 returns : tie.Need-returns
 returns c =
     let s = c .before .before .before .before .before .before in
-    record-put (s .args .out .now) (s .args .body .now) _ (s .args .kind) _ _ (omega (arith, s .pre .0)) (s .pre .1) (omega arith) refl refl (c .before .before .copy .ensures .1)
+    record-put (s .args .out .now) (s .args .body .now) _ (s .args .kind) _ _ (omega (arith, s .pre .0)) (s .pre .1)
+    (omega arith) refl refl (c .before .before .copy .ensures .1)
 
 pub put-record-spec : {M : Type 1} → statement M
 put-record-spec =

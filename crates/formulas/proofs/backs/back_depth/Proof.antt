@@ -13,7 +13,9 @@ enum-known-end : tie.Need-enum-known-end
 enum-known-end c = search needs
 
 returns : tie.Need-returns
-returns c = no-backs _ (more-than-tree _ _ (sym (c .before .before .end .given .1) ∙ c .before .before .before .before .tree-end .ensures) (c .if1 .taken))
+returns c =
+    no-backs _ (more-than-tree _ _
+    (sym (c .before .before .end .given .1) ∙ c .before .before .before .before .tree-end .ensures) (c .if1 .taken))
 
 enum-told : tie.Need-enum-told
 enum-told c = search needs
@@ -23,12 +25,15 @@ returns-2 c = no-backs _ (no-tree _ (sym (c .enum-told .given .1) ∙ c .before 
 
 measured-requires : tie.Need-measured-requires
 measured-requires c κs =
-    let t = one-tree _ _ (sym (c .before .before .end .given .1) ∙ c .before .before .before .before .tree-end .ensures) (c .if1 .left) in
+    let t = one-tree _ _ (sym (c .before .before .end .given .1) ∙ c .before .before .before .before .tree-end .ensures)
+    (c .if1 .left) in
     tree-of _ (t .0) (t .1)
 
 returns-3 : tie.Need-returns-3
 returns-3 c =
-    let t = one-tree _ _ (sym (c .before .before .before .end .given .1) ∙ c .before .before .before .before .before .tree-end .ensures) (c .before .if1 .left) in
+    let t = one-tree _ _
+    (sym (c .before .before .before .end .given .1) ∙ c .before .before .before .before .before .tree-end .ensures)
+    (c .before .if1 .left) in
     backs-seen _ (t .0) (t .1) _ (c .measured .ensures)
 
 pub back-depth-spec : {M : Type 1} → statement M

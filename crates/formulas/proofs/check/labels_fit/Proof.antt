@@ -27,7 +27,9 @@ has-requires : tie.Need-has-requires Inv-loop μ-loop
 has-requires c κs = search needs
 
 returns : tie.Need-returns Inv-loop μ-loop
-returns c = label-above _ _ _ (c .before .before .before .loop-test .taken) (c .before .before .before .before .loop .inv) (sym (c .before .has .ensures) ∙ not-true _ (c .if1 .taken))
+returns c =
+    label-above _ _ _ (c .before .before .before .loop-test .taken) (c .before .before .before .before .loop .inv)
+    (sym (c .before .has .ensures) ∙ not-true _ (c .if1 .taken))
 
 sub-rest : tie.Need-sub-rest Inv-loop μ-loop
 sub-rest c = omega arith
@@ -39,10 +41,15 @@ part-rest-end : tie.Need-part-rest-end Inv-loop μ-loop
 part-rest-end c = omega arith
 
 loop-less : tie.Need-loop-less Inv-loop μ-loop
-loop-less c = rest-fewer 2 (c .before .before .before .before .before .loop .rest .now) (omega arith) (c .before .before .before .before .loop-test .taken)
+loop-less c =
+    rest-fewer 2 (c .before .before .before .before .before .loop .rest .now) (omega arith)
+    (c .before .before .before .before .loop-test .taken)
 
 loop-again : tie.Need-loop-again Inv-loop μ-loop
-loop-again c = label-fits _ _ _ (c .before .before .before .before .loop-test .taken) (c .before .before .before .before .before .loop .inv) (sym (c .before .before .has .ensures) ∙ not-false _ (c .before .if1 .left))
+loop-again c =
+    label-fits _ _ _ (c .before .before .before .before .loop-test .taken)
+    (c .before .before .before .before .before .loop .inv)
+    (sym (c .before .before .has .ensures) ∙ not-false _ (c .before .if1 .left))
 
 returns-2 : tie.Need-returns-2 Inv-loop μ-loop
 returns-2 c = no-label-left _ _ _ (c .loop-test .left) (c .before .loop .inv)

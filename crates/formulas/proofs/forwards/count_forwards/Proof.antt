@@ -37,14 +37,17 @@ part-rest-end : tie.Need-part-rest-end Inv-loop μ-loop
 part-rest-end c = omega arith
 
 loop-less : tie.Need-loop-less Inv-loop μ-loop
-loop-less c = rest-fewer 2 (c .before .before .before .before .before .loop .rest .now) (omega arith) (c .before .before .before .before .loop-test .taken)
+loop-less c =
+    rest-fewer 2 (c .before .before .before .before .before .loop .rest .now) (omega arith)
+    (c .before .before .before .before .loop-test .taken)
 
 loop-again : tie.Need-loop-again Inv-loop μ-loop
 loop-again c =
     let so = c .before .before .before .before .before .loop .inv in
     let room = c .before .before .before .before .loop-test .taken in
     let seen = sym (c .before .before .is-forward .ensures) in
-    ⊎-elim (λ w. count-forward _ _ _ so room (seen ∙ w .0 .taken) _ (w .1)) (λ w. count-other _ _ _ so room (seen ∙ w .0 .left) _ (w .1)) (c .before .if1 .came)
+    ⊎-elim (λ w. count-forward _ _ _ so room (seen ∙ w .0 .taken) _ (w .1))
+    (λ w. count-other _ _ _ so room (seen ∙ w .0 .left) _ (w .1)) (c .before .if1 .came)
 
 returns : tie.Need-returns Inv-loop μ-loop
 returns c = count-end _ _ _ (c .before .loop .inv) (c .loop-test .left)

@@ -4,7 +4,8 @@ use Rattle.formulas.proofs.sizes.first_size.Statement.{statement}
 use Rattle.formulas.proofs.sizes.first_size.Tie as tie
 use native.Mathlib.Omega.{arith}
 use mathlib.Core.Path.{refl, sym, _∙_}
-use Rattle.formulas.proofs.TreeSizes.{bad-size, leaf-size, first-missing, one-size, second-missing, two-size, size-known, sizes-fit}
+use Rattle.formulas.proofs.TreeSizes.{bad-size, leaf-size, first-missing, one-size, second-missing, two-size}
+use Rattle.formulas.proofs.TreeSizes.{size-known, sizes-fit}
 
 shared-slice-read-read-node : tie.Need-shared-slice-read-read-node
 shared-slice-read-read-node c = search needs
@@ -19,51 +20,90 @@ enum-known-operands : tie.Need-enum-known-operands
 enum-known-operands c = search needs
 
 returns : tie.Need-returns
-returns c = leaf-size _ (c .before .before .before .before .before .before .before .before .before .pre .0) _ (sym (c .before .before .operands .given .1) ∙ c .before .before .before .before .read-node .ensures) (c .if1 .taken)
+returns c =
+    leaf-size _ (c .before .before .before .before .before .before .before .before .before .pre .0) _
+    (sym (c .before .before .operands .given .1) ∙ c .before .before .before .before .read-node .ensures)
+    (c .if1 .taken)
 
 size-behind-requires : tie.Need-size-behind-requires
 size-behind-requires c κs = search needs
 
 returns-2 : tie.Need-returns-2
 returns-2 c =
-    let s = c .before .before .before .before .before .before .before .before .before .before .before in
-    first-missing _ (s .pre .0) _ (sym (c .before .before .before .before .operands .given .1) ∙ c .before .before .before .before .before .before .read-node .ensures) (c .before .before .if1 .left) _ (size-known (s .args .f .now) _ (s .pre .1) _ _ (c .before .size-behind .ensures)) (c .if2 .taken)
+    let c1 = c .before .before .before .before in
+    let s = c1 .before .before .before .before .before .before .before in
+    first-missing _ (s .pre .0) _ (sym (c1 .operands .given .1) ∙ c1 .before .before .read-node .ensures)
+    (c .before .before .if1 .left) _ (size-known (s .args .f .now) _ (s .pre .1) _ _ (c .before .size-behind .ensures))
+    (c .if2 .taken)
 
 add-result : tie.Need-add-result
 add-result c =
     let s = c .before .before .before .before .before .before .before .before .before .before .before .before in
-    omega (arith, s .good .0, sizes-fit (s .args .f .now) (s .args .behind .now) (s .pre .1) (s .pre .0) _ _ (c .before .before .size-behind .ensures) refl)
+    omega (
+      arith,
+      s .good .0,
+      sizes-fit (s .args .f .now) (s .args .behind .now) (s .pre .1) (s .pre .0) _ _
+          (c .before .before .size-behind .ensures) refl,
+    )
 
 returns-3 : tie.Need-returns-3
 returns-3 c =
-    let s = c .before .before .before .before .before .before .before .before .before .before .before .before in
-    one-size _ (s .pre .0) _ (sym (c .before .before .before .before .before .operands .given .1) ∙ c .before .before .before .before .before .before .before .read-node .ensures) (c .before .before .before .if1 .left) _ (size-known (s .args .f .now) _ (s .pre .1) _ _ (c .before .before .size-behind .ensures)) (c .before .if2 .left) (c .if3 .taken)
+    let c1 = c .before .before in
+    let c2 = c1 .before .before .before in
+    let s = c2 .before .before .before .before .before .before .before in
+    one-size _ (s .pre .0) _ (sym (c2 .operands .given .1) ∙ c2 .before .before .read-node .ensures)
+    (c1 .before .if1 .left) _ (size-known (s .args .f .now) _ (s .pre .1) _ _ (c1 .size-behind .ensures))
+    (c .before .if2 .left) (c .if3 .taken)
 
 size-behind-requires-2 : tie.Need-size-behind-requires-2
 size-behind-requires-2 c κs = search needs
 
 returns-4 : tie.Need-returns-4
 returns-4 c =
-    let s = c .before .before .before .before .before .before .before .before .before .before .before .before .before .before in
-    second-missing _ (s .pre .0) _ (sym (c .before .before .before .before .before .before .before .operands .given .1) ∙ c .before .before .before .before .before .before .before .before .before .read-node .ensures) (c .before .before .before .before .before .if1 .left) _ (size-known (s .args .f .now) _ (s .pre .1) _ _ (c .before .before .before .before .size-behind .ensures)) (c .before .before .before .if2 .left) (c .before .before .if3 .left) _ (size-known (s .args .f .now) _ (s .pre .1) _ _ (c .before .size-behind2 .ensures)) (c .if4 .taken)
+    let c1 = c .before .before in
+    let c2 = c1 .before .before in
+    let c3 = c2 .before .before .before in
+    let s = c3 .before .before .before .before .before .before .before in
+    second-missing _ (s .pre .0) _ (sym (c3 .operands .given .1) ∙ c3 .before .before .read-node .ensures)
+    (c2 .before .if1 .left) _ (size-known (s .args .f .now) _ (s .pre .1) _ _ (c2 .size-behind .ensures))
+    (c1 .before .if2 .left) (c1 .if3 .left) _
+    (size-known (s .args .f .now) _ (s .pre .1) _ _ (c .before .size-behind2 .ensures)) (c .if4 .taken)
 
 add-result-2 : tie.Need-add-result-2
 add-result-2 c =
-    let s = c .before .before .before .before .before .before .before .before .before .before .before .before .before .before in
-    omega (arith, s .good .0, sizes-fit (s .args .f .now) (s .args .behind .now) (s .pre .1) (s .pre .0) _ _ (c .before .before .before .before .size-behind .ensures) (c .before .size-behind2 .ensures))
+    let c1 = c .before .before .before .before in
+    let s = c1 .before .before .before .before .before .before .before .before .before .before in
+    omega (
+      arith,
+      s .good .0,
+      sizes-fit (s .args .f .now) (s .args .behind .now) (s .pre .1) (s .pre .0) _ _ (c1 .size-behind .ensures)
+          (c .before .size-behind2 .ensures),
+    )
 
 add-result-3 : tie.Need-add-result-3
 add-result-3 c =
-    let s = c .before .before .before .before .before .before .before .before .before .before .before .before .before .before in
-    omega (arith, s .good .0, sizes-fit (s .args .f .now) (s .args .behind .now) (s .pre .1) (s .pre .0) _ _ (c .before .before .before .before .size-behind .ensures) (c .before .size-behind2 .ensures))
+    let c1 = c .before .before .before .before in
+    let s = c1 .before .before .before .before .before .before .before .before .before .before in
+    omega (
+      arith,
+      s .good .0,
+      sizes-fit (s .args .f .now) (s .args .behind .now) (s .pre .1) (s .pre .0) _ _ (c1 .size-behind .ensures)
+          (c .before .size-behind2 .ensures),
+    )
 
 enum-told : tie.Need-enum-told
 enum-told c = search needs
 
 returns-5 : tie.Need-returns-5
 returns-5 c =
-    let s = c .before .before .before .before .before .before .before .before .before .before .before .before .before .before in
-    two-size _ (s .pre .0) _ (sym (c .before .before .before .before .before .before .before .operands .given .1) ∙ c .before .before .before .before .before .before .before .before .before .read-node .ensures) (c .before .before .before .before .before .if1 .left) _ (size-known (s .args .f .now) _ (s .pre .1) _ _ (c .before .before .before .before .size-behind .ensures)) (c .before .before .before .if2 .left) (c .before .before .if3 .left) _ (size-known (s .args .f .now) _ (s .pre .1) _ _ (c .before .size-behind2 .ensures)) (c .if4 .left)
+    let c1 = c .before .before in
+    let c2 = c1 .before .before in
+    let c3 = c2 .before .before .before in
+    let s = c3 .before .before .before .before .before .before .before in
+    two-size _ (s .pre .0) _ (sym (c3 .operands .given .1) ∙ c3 .before .before .read-node .ensures)
+    (c2 .before .if1 .left) _ (size-known (s .args .f .now) _ (s .pre .1) _ _ (c2 .size-behind .ensures))
+    (c1 .before .if2 .left) (c1 .if3 .left) _
+    (size-known (s .args .f .now) _ (s .pre .1) _ _ (c .before .size-behind2 .ensures)) (c .if4 .left)
 
 returns-6 : tie.Need-returns-6
 returns-6 c =

@@ -8,7 +8,8 @@ use mathlib.Core.Path.{_∙_, ap, sym}
 use lib.Seq.{length-take-le}
 use Rattle.formulas.specs.Sizes.{treeSize}
 use Rattle.labels.proofs.Slices.{rest-of}
-use Rattle.formulas.proofs.TreeSizes.{Sizing, sizing-start, sizing-length, sizing-end, sizing-on, here-room, here-behind}
+use Rattle.formulas.proofs.TreeSizes.{Sizing, sizing-start, sizing-length, sizing-end, sizing-on, here-room}
+use Rattle.formulas.proofs.TreeSizes.{here-behind}
 
 abbrev Inv-loop : tie.InvT-loop
 Inv-loop f sizes₀ nodes count i₀ sizes i = Sizing f sizes₀ sizes i
@@ -44,12 +45,14 @@ slice-reshare-prefix-first-size : tie.Need-slice-reshare-prefix-first-size Inv-l
 slice-reshare-prefix-first-size c = omega (arith, sizing-length _ _ _ _ (c .before .before .loop .inv))
 
 slice-aggregate-first-size : tie.Need-slice-aggregate-first-size Inv-loop μ-loop
-slice-aggregate-first-size c = sym (length-take-le _ _ (omega (arith, sizing-length _ _ _ _ (c .before .before .before .loop .inv))))
+slice-aggregate-first-size c =
+    sym (length-take-le _ _ (omega (arith, sizing-length _ _ _ _ (c .before .before .before .loop .inv))))
 
 first-size-requires : tie.Need-first-size-requires Inv-loop μ-loop
 first-size-requires c κs =
     let g = c .before .before .before .loop .inv in
-    rw (rest-of _ (c .before .before .before .before .before .before .before .args .f .now)) (here-room _ _ _ _ g (omega arith), here-behind _ _ _ _ g (omega arith))
+    rw (rest-of _ (c .before .before .before .before .before .before .before .args .f .now))
+    (here-room _ _ _ _ g (omega arith), here-behind _ _ _ _ g (omega arith))
 
 mul-sizes : tie.Need-mul-sizes Inv-loop μ-loop
 mul-sizes c = search needs
@@ -64,7 +67,10 @@ loop-less : tie.Need-loop-less Inv-loop μ-loop
 loop-less c = search needs
 
 loop-again : tie.Need-loop-again Inv-loop μ-loop
-loop-again c = sizing-on _ _ _ _ (c .before .before .before .before .loop .inv) (omega arith) _ (c .first-size .ensures ∙ ap treeSize (rest-of _ (c .before .before .before .before .before .before .before .before .args .f .now)))
+loop-again c =
+    sizing-on _ _ _ _ (c .before .before .before .before .loop .inv) (omega arith) _
+    (c .first-size .ensures ∙ ap treeSize
+    (rest-of _ (c .before .before .before .before .before .before .before .before .args .f .now)))
 
 same-length : tie.Need-same-length Inv-loop μ-loop
 same-length c = sizing-length _ _ _ _ (c .before .loop .inv)

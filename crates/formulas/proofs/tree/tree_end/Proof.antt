@@ -42,13 +42,17 @@ sub-due : tie.Need-sub-due Inv-loop μ-loop
 sub-due c = omega arith
 
 add-due : tie.Need-add-due Inv-loop μ-loop
-add-due c = omega (arith, operands-few _ _ _ (sym (c .before .n .given .1) ∙ c .before .before .before .read-node .ensures))
+add-due c =
+    omega (arith, operands-few _ _ _ (sym (c .before .n .given .1) ∙ c .before .before .before .read-node .ensures))
 
 enum-told : tie.Need-enum-told Inv-loop μ-loop
 enum-told c = search needs
 
 returns-2 : tie.Need-returns-2 Inv-loop μ-loop
-returns-2 c = seek-bad _ _ _ (c .before .before .before .before .before .before .before .loop .inv) (c .before .before .before .before .before .before .loop-test .taken) (c .before .before .before .before .before .if1 .left) (sym (c .enum-told .given .1) ∙ c .before .before .read-node .ensures)
+returns-2 c =
+    let c1 = c .before .before .before .before .before in
+    seek-bad _ _ _ (c1 .before .before .loop .inv) (c1 .before .loop-test .taken) (c1 .if1 .left)
+    (sym (c .enum-told .given .1) ∙ c .before .before .read-node .ensures)
 
 add-at : tie.Need-add-at Inv-loop μ-loop
 add-at c = omega arith
@@ -57,7 +61,10 @@ loop-less : tie.Need-loop-less Inv-loop μ-loop
 loop-less c = omega arith
 
 loop-again : tie.Need-loop-again Inv-loop μ-loop
-loop-again c = seek-on _ _ _ (c .before .before .before .before .before .before .before .before .loop .inv) (c .before .before .before .before .before .before .before .loop-test .taken) (c .before .before .before .before .before .before .if1 .left) _ (sym (c .before .n .given .1) ∙ c .before .before .before .read-node .ensures)
+loop-again c =
+    let c1 = c .before .before .before .before .before .before in
+    seek-on _ _ _ (c1 .before .before .loop .inv) (c1 .before .loop-test .taken) (c1 .if1 .left) _
+    (sym (c .before .n .given .1) ∙ c .before .before .before .read-node .ensures)
 
 returns-3 : tie.Need-returns-3 Inv-loop μ-loop
 returns-3 c = seek-end _ _ _ (c .before .loop .inv) (c .loop-test .left)

@@ -33,7 +33,11 @@ fits-requires : tie.Need-fits-requires
 fits-requires c κs = search needs
 
 returns-4 : tie.Need-returns-4
-returns-4 c = misfit _ _ _ (omega arith) (sym (c .before .before .before .before .word .ensures .0) ∙ c .before .before .before .if3 .left) (ap (fitLength _) (sym (c .before .before .word2 .ensures .0)) ∙ sym (c .before .fits2 .ensures) ∙ not-true _ (c .if4 .taken))
+returns-4 c =
+    misfit _ _ _ (omega arith)
+    (sym (c .before .before .before .before .word .ensures .0) ∙ c .before .before .before .if3 .left)
+    (ap (fitLength _) (sym (c .before .before .word2 .ensures .0)) ∙ sym (c .before .fits2 .ensures)
+    ∙ not-true _ (c .if4 .taken))
 
 sub-if5 : tie.Need-sub-if5
 sub-if5 c = search needs
@@ -42,7 +46,11 @@ sub-if5-2 : tie.Need-sub-if5-2
 sub-if5-2 c = search needs
 
 returns-5 : tie.Need-returns-5
-returns-5 c = short-body _ _ _ (omega arith) (sym (c .before .before .before .before .before .word .ensures .0) ∙ c .before .before .before .before .if3 .left) (ap (fitLength _) (sym (c .before .before .before .word2 .ensures .0)) ∙ sym (c .before .before .fits2 .ensures) ∙ not-false _ (c .before .if4 .left)) (omega arith)
+returns-5 c =
+    short-body _ _ _ (omega arith)
+    (sym (c .before .before .before .before .before .word .ensures .0) ∙ c .before .before .before .before .if3 .left)
+    (ap (fitLength _) (sym (c .before .before .before .word2 .ensures .0)) ∙ sym (c .before .before .fits2 .ensures)
+    ∙ not-false _ (c .before .if4 .left)) (omega arith)
 
 add-start : tie.Need-add-start
 add-start c = search needs
@@ -57,7 +65,11 @@ add-t11 : tie.Need-add-t11
 add-t11 c = search needs
 
 returns-6 : tie.Need-returns-6
-returns-6 c = found _ _ _ (omega arith) (sym (c .before .before .before .before .before .word .ensures .0) ∙ c .before .before .before .before .if3 .left) (ap (fitLength _) (sym (c .before .before .before .word2 .ensures .0)) ∙ sym (c .before .before .fits2 .ensures) ∙ not-false _ (c .before .if4 .left)) _ _ (omega arith) (omega arith) (omega arith)
+returns-6 c =
+    found _ _ _ (omega arith)
+    (sym (c .before .before .before .before .before .word .ensures .0) ∙ c .before .before .before .before .if3 .left)
+    (ap (fitLength _) (sym (c .before .before .before .word2 .ensures .0)) ∙ sym (c .before .before .fits2 .ensures)
+    ∙ not-false _ (c .before .if4 .left)) _ _ (omega arith) (omega arith) (omega arith)
 
 pub next-spec : {M : Type 1} → statement M
 next-spec =

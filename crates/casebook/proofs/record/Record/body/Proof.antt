@@ -42,7 +42,8 @@ part-result-end-2 c = search needs
 
 returns-3 : tie.Need-returns-3
 returns-3 c =
-    let e : (c .before .before .before .args .self .start + c .before .before .before .args .self .len) - c .before .before .before .args .self .start ≡ c .before .before .before .args .self .len = omega arith in
+    let s = c .before .before .before in
+    let e : (s .args .self .start + s .args .self .len) - s .args .self .start ≡ s .args .self .len = omega arith in
     body-whole _ _ _ e
 
 pub body-spec : {M : Type 1} → statement M
