@@ -106,7 +106,7 @@ decimal-5 n h i =
     let v : n / 10 / 10 ≡ n / 100 = omega arith in
     decimal-more n (omega arith) ∙ ap (_++ ((48 + n % 10) ∷ [])) (decimal-4 (n / 10) (omega arith) (omega arith)) ∙ rw (z, w, v)
 
--- a number below 100000 has five digits at most
+-- a number below 1000 has three digits at most, one below 100000 five
 count-step : (n m : ℕ) → length (decimal (n / 10)) ≤ m → length (decimal n) ≤ suc m
 count-step n m h = go (ltb n 10) refl
   where
@@ -114,5 +114,10 @@ count-step n m h = go (ltb n 10) refl
     go true e = omega (arith, count-small n (ltb-true n 10 e))
     go false e = omega (arith, count-more n _ (ltb-false n 10 e) refl, h)
 
+pub count-three : (n : ℕ) → n < 1000 → length (decimal n) ≤ 3
+count-three n h =
+    let last : length (decimal (n / 10 / 10)) ≤ 1 = omega (arith, count-small (n / 10 / 10) (omega arith)) in
+    count-step n 2 (count-step (n / 10) 1 last)
+
 pub count-few : (n : ℕ) → n < 100000 → length (decimal n) ≤ 5
-count-few n h = count-step n 4 (count-step (n / 10) 3 (count-step (n / 10 / 10) 2 (count-step (n / 10 / 10 / 10) 1 (omega (arith, count-small (n / 10 / 10 / 10 / 10) (omega arith))))))
+count-few n h = count-step n 4 (count-step (n / 10) 3 (count-three (n / 10 / 10) (omega arith)))

@@ -109,19 +109,26 @@ module _ (k : ℕ) (l r w f : List ℕ) (letter t : ℕ) (text : List ℕ) (size
       ending-front xs ys _ _ m room (ending-refused k l r w f letter t text size x told) (p ∙ sym d) (omega (arith, p, few)) q
 
 -- an ending is short: 4,096 nodes of four digits each, and three bytes
-pub ending-short : (k : ℕ) (l r w f : List ℕ) (letter t : ℕ) → length (endingIn k l r w f letter t) ≤ 16387
-ending-short k l r w f letter t = go (byNumber k l r w f t side.Right (length w / 3) (length zeros)) refl
+pub any-ending-short : (k : ℕ) (l r s f : List ℕ) (point n letter : ℕ)
+    → length (endingOf (quotientAt k l r s f point n) (textAt k l r s f point n) letter) ≤ 16387
+unfolding quotientAt textAt byNumber endingOf
+any-ending-short k l r s f point n letter = go (byNumber k l r s f n side.Right point textRoom) refl
   where
-    zeros : List ℕ
-    zeros = replicate 8192 0
+    tree : Option Formula
+    tree = treeByNumber k l r s f n side.Right point
 
-    size : length zeros ≡ 8192
+    room : List ℕ
+    room = replicate 8192 0
+
+    size : length room ≡ 8192
     size = length-replicate {A = ℕ} 8192 0
 
-    go : (a : Quotient) → byNumber k l r w f t side.Right (length w / 3) (length zeros) ≡ a → length (endingIn k l r w f letter t) ≤ 16387
-    go (quotient.Written n) e =
-        let (_, b, c) = text-told k l r w f letter t zeros size n e _ refl in
-        omega (arith, ap length (ending-written k l r w f letter t zeros size n e), length-fields (textAt k l r w f (length w / 3) t) letter, b, c)
-    go (quotient.Refused x) e =
-        let (d, few) = length-refusal x in
-        omega (arith, ap length (ending-refused k l r w f letter t zeros size x e), d, few)
+    go : (a : Quotient) → byNumber k l r s f n side.Right point textRoom ≡ a → length (endingOf a (textOf tree) letter) ≤ 16387
+    go (quotient.Written m) e =
+        let (_, b, c) = written-bytes (checkByNumber k l r s f n point) tree room m (rw size e) in
+        omega (arith, length-fields (textOf tree) letter, b, c, size)
+    go (quotient.Refused x) e = let (d, few) = length-refusal x in omega (arith, d, few)
+
+pub ending-short : (k : ℕ) (l r w f : List ℕ) (letter t : ℕ) → length (endingIn k l r w f letter t) ≤ 16387
+unfolding endingIn
+ending-short k l r w f letter t = any-ending-short k l r w f (length w / 3) t letter

@@ -11,7 +11,9 @@ pub mod WindowLines
 pub mod PointLines
 pub mod FillLaws
 pub mod PartsLines
+pub mod LongestLine
 pub mod SheetBlocks
+pub mod WholeSheet
 pub mod EnoughInput
 pub mod Published
 pub mod Standing

@@ -14,7 +14,7 @@ use Rattle.labels.specs.declared.refusal.Refusal.the-variants as refusal
 use Rattle.sheet_lines.specs.Digits.{decimal}
 use Rattle.sheet_lines.specs.Sheets.{blank, lineFeed, headOf, refusedLine}
 use Rattle.sheet_lines.specs.Working.{putAt}
-use Rattle.sheet_lines.proofs.DigitLaws.{count-small, count-2}
+use Rattle.sheet_lines.proofs.DigitLaws.{count-small, count-2, count-three, count-few}
 use Rattle.sheet_lines.proofs.Puts.{put-two, behind-piece, behind-one, behind-three}
 
 -- numbers of refusals have two digits at most
@@ -42,6 +42,10 @@ number-small refusal.OutputTooShort = omega arith
 pub length-head : (p n a : ℕ) → length (headOf p n a) ≡ length (decimal p) + length (decimal n) + 4
 unfolding headOf
 length-head p n a = omega (arith, length-append (decimal p) (blank ∷ (decimal n ++ (blank ∷ a ∷ blank ∷ []))), length-append (decimal n) (blank ∷ a ∷ blank ∷ []))
+
+-- a point of three digits at most, and a splitting's number of five
+pub head-short : (p n a : ℕ) → p < 1000 → n < 100000 → length (headOf p n a) ≤ 12
+head-short p n a h i = omega (arith, length-head p n a, count-three p h, count-few n i)
 
 pub length-refused : (x : Refusal) → length (refusedLine x) ≡ length (decimal (numberOf x)) + 3
 unfolding refusedLine

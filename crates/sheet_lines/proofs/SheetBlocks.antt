@@ -4,8 +4,10 @@ use mathlib.Core.Path.{_≡_, refl, _∙_, ap}
 use mathlib.Core.List.{List}
 use native.Mathlib.Omega.{arith}
 use lib.ListN.{length, take, drop, length-take, length-drop}
+use lib.Seq.{take-all}
 use Rattle.hml.proofs.Tests.{apart}
 use Rattle.hml.specs.System.{steps}
+use Rattle.labels.specs.Refusals.{inFront}
 use Rattle.labels.specs.declared.refusal.Check.{Check}
 use Rattle.labels.specs.declared.refusal.Check.the-variants as check
 use Rattle.machines.specs.Joints.{jointOf}
@@ -16,7 +18,9 @@ use Rattle.splitting.specs.Splittings.{countOf}
 use Rattle.splitting.specs.declared.count.Counted.{Counted}
 use Rattle.splitting.specs.declared.count.Counted.the-variants as count
 use Rattle.sheet_lines.specs.Sheets.{partsLines, readLines, sheetOf, bytesOf, fitting, linesDue, checkRoom, writtenOr, blockAnswer}
-use Rattle.sheet_lines.specs.Working.{Asked, numberedLine}
+use Rattle.sheet_lines.specs.Blocks.{blockFrom, blockOf}
+use Rattle.sheet_lines.specs.Working.{Asked, numberedLine, fittedOf, fittedOutput}
+use Rattle.sheet_lines.specs.declared.lines.Fitted.{Fitted}
 use Rattle.sheet_lines.specs.declared.lines.Block.{Block}
 use Rattle.sheet_lines.specs.declared.lines.Lines.the-variants as answer
 use Rattle.sheet_lines.proofs.Filling.{length-listed}
@@ -55,3 +59,26 @@ block-within s first most room b e = go (checkRoom due room) e
         let z : _≡_ {A = Block} (record { lines = length (fitting room due); bytes = length (bytesOf (fitting room due)) }) b = cc in
         (omega (arith, ap (λ (x : Block). x .lines) z, fitting-few room due, length-take most (drop first (sheetOf s)), length-drop first (sheetOf s)), omega (arith, ap (λ (x : Block). x .bytes) z, fitting-room room due))
     go (check.Refused x) w = absurd (apart cc)
+
+-- all lines that are left are asked for
+all-due : (s : List ℕ) (first : ℕ) → linesDue s first 13172535 ≡ drop first (sheetOf s)
+unfolding linesDue
+all-due s first =
+    take-all 13172535 (drop first (sheetOf s)) (omega (arith, sheet-short s, length-drop first (sheetOf s)))
+
+-- so those that fit are a block
+module _ (s : List ℕ) (first : ℕ) (out : List ℕ) (size : length out ≡ 3145728) where
+  block-lines : fitting (length out) (linesDue s first 13172535) ≡ blockFrom s first
+  unfolding blockFrom
+  block-lines = rw (all-due s first, size)
+
+  pub block-answer : (f : Fitted) → f ≡ fittedOf (linesDue s first 13172535) (length out)
+      → record { lines = f .lines; bytes = f .bytes } ≡ blockOf (blockFrom s first)
+  unfolding fittedOf blockOf
+  block-answer f e =
+      ap (λ (x : Fitted). record { lines = x .lines; bytes = x .bytes }) e
+      ∙ ap (λ b. record { lines = length b; bytes = length (bytesOf b) }) block-lines
+
+  pub block-output : fittedOutput (linesDue s first 13172535) out ≡ inFront (bytesOf (blockFrom s first)) out
+  unfolding fittedOutput
+  block-output = ap (λ b. inFront (bytesOf b) out) block-lines

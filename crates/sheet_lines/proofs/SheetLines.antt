@@ -1,21 +1,33 @@
 -- The lines of a sheet by their numbers: line i is that of point i / c and splitting i % c. And blocks of them.
 use Prim.Native.Nat.{ℕ, zero, suc, _+_, _-_, _*_, _/_, _%_, _≤_, _<_, min}
 use mathlib.Core.Path.{_≡_, refl, sym, _∙_, ap, ap₂}
-use mathlib.Core.Bool.{Bool, true, false}
+use mathlib.Core.Bool.{Bool, true, false, false≢true}
 use mathlib.Core.List.{List, [], _∷_, _++_, append-nil}
 use native.Mathlib.Omega.{arith}
 use native.Mathlib.Nat.{zero-mul, suc-mul, mul-add-div-right, mul-add-mod-self-right, div-eq-of-lt, mod-eq-of-lt}
 use lib.ListN.{length, take, drop, length-append}
-use lib.Dec.{leb}
+use lib.Dec.{leb, ltb, eqb}
 use lib.Seq.{take-nil, drop-nil}
-use borrow.Author.Tests.{lt-ltb, le-ltb, leb-true, leb-false}
+use borrow.Author.Tests.{lt-ltb, le-ltb, ne-eqb, ltb-true, leb-true, leb-false}
 use Rattle.hml.specs.Lists.{each}
 use Rattle.hml.specs.System.{steps}
 use Rattle.machines.specs.Joints.{jointOf}
 use Rattle.labels.specs.Refusals.{inFront}
 use Rattle.labels.specs.declared.refusal.Refusal.the-variants.{OutputTooShort}
-use Rattle.sheet_lines.specs.Sheets.{lineOf, linesOf, listed, bytesOf, fitting, firstTooLong, checkRoom, writtenOr, blockAnswer, blockOutput}
-use Rattle.sheet_lines.specs.Working.{putAt, Full, numberedLine}
+use Rattle.sheet_lines.specs.Sheets.{
+  lineOf,
+  linesOf,
+  listed,
+  bytesOf,
+  fitting,
+  firstTooLong,
+  checkRoom,
+  writtenOr,
+  blockAnswer,
+  blockOutput,
+}
+use Rattle.sheet_lines.specs.Working.{putAt, Full, numberedLine, fittedOf, fittedOutput}
+use Rattle.sheet_lines.specs.declared.lines.Fitted.{Fitted}
 use Rattle.sheet_lines.specs.declared.lines.Lines.the-variants as answer
 use Rattle.sheet_lines.proofs.Puts.{put-first}
 use Rattle.sheet_lines.proofs.Filling.{listed-behind, listed-agree, fitting-first, fitting-none}
@@ -107,103 +119,80 @@ fitting-room room (x ∷ due) = go (leb (length x) room) refl (fitting-room (roo
 
 -- no lines are due
 module _ (due : List (List ℕ)) (e : due ≡ []) where
-  pub nothing-answer : (room : ℕ) → answer.Written (record { lines = 0; bytes = 0 }) ≡ blockAnswer due room
-  unfolding blockAnswer checkRoom firstTooLong writtenOr fitting bytesOf
-  nothing-answer room = rw e
+  pub nothing-fits : (room : ℕ) → record { lines = 0; bytes = 0; short = false } ≡ fittedOf due room
+  unfolding fittedOf firstTooLong fitting bytesOf
+  nothing-fits room = rw e
 
-  pub nothing-output : (out : List ℕ) → out ≡ blockOutput due out
-  unfolding blockOutput checkRoom firstTooLong fitting bytesOf inFront
+  pub nothing-output : (out : List ℕ) → out ≡ fittedOutput due out
+  unfolding fittedOutput fitting bytesOf inFront
   nothing-output out = rw e
 
--- lines are due, and the first does not fit
-module _ (x : List ℕ) (due : List (List ℕ)) where
-  module _ (room : ℕ) (h : room < length x) where
-    pub short-answer : answer.Refused OutputTooShort ≡ blockAnswer (x ∷ due) room
-    unfolding blockAnswer checkRoom firstTooLong writtenOr
-    short-answer = rw (lt-ltb room (length x) h)
+-- lines are due, and none fits if the first is too long
+module _ (room : ℕ) (x : List ℕ) (due : List (List ℕ)) where
+  none-if-short : firstTooLong room (x ∷ due) ≡ eqb (length (fitting room (x ∷ due))) 0
+  unfolding firstTooLong
+  none-if-short = go (leb (length x) room) refl
+    where
+      go : (b : Bool) → leb (length x) room ≡ b → ltb room (length x) ≡ eqb (length (fitting room (x ∷ due))) 0
+      go true t =
+          let h = leb-true (length x) room t in
+          rw (le-ltb room (length x) h, fitting-first room x due h, ne-eqb (suc (length (fitting (room - length x) due))) 0 (λ e. omega (arith, e)))
+      go false t = let h = leb-false (length x) room t in rw (lt-ltb room (length x) h, fitting-none room x due h)
 
-  pub short-output : (out : List ℕ) → length out < length x → out ≡ blockOutput (x ∷ due) out
-  unfolding blockOutput checkRoom firstTooLong
-  short-output out h = rw (lt-ltb (length out) (length x) h)
-
-  -- or fits
-  pub block-answer : (room n m : ℕ) → length x ≤ room → n ≡ length (fitting room (x ∷ due)) → m ≡ length (bytesOf (fitting room (x ∷ due))) → answer.Written (record { lines = n; bytes = m }) ≡ blockAnswer (x ∷ due) room
-  unfolding blockAnswer checkRoom firstTooLong writtenOr
-  block-answer room n m h p q = rw (le-ltb room (length x) h, p, q)
-
-  pub block-output : (out ys : List ℕ) → length x ≤ length out → ys ≡ putAt out 0 (bytesOf (fitting (length out) (x ∷ due))) → ys ≡ blockOutput (x ∷ due) out
-  unfolding blockOutput checkRoom firstTooLong
-  block-output out ys h e = rw (le-ltb (length out) (length x) h) (e ∙ put-first out _ (fitting-room (length out) (x ∷ due)))
-
-nothing-put : (xs : List ℕ) → putAt xs 0 (bytesOf []) ≡ xs
-unfolding putAt bytesOf
-nothing-put xs = refl
-
--- lines that were filled in: none, though some are due, or a block
-module _ (g : ℕ → List ℕ) (i m : ℕ) (some : 1 ≤ m) (xs ys : List ℕ) (at j : ℕ) (full : Full (fitting (length xs) (listed g i m)) xs 0 i ys at j) where
-  due-some : (x : List ℕ) × (due : List (List ℕ)) × (listed g i m ≡ x ∷ due)
+-- lines are due, and those that fit were filled in
+module _ (g : ℕ → List ℕ) (i m : ℕ) (some : 1 ≤ m) (xs ys : List ℕ) (at j : ℕ)
+    (full : Full (fitting (length xs) (listed g i m)) xs 0 i ys at j) where
+  short-listed : (n : ℕ) → 1 ≤ n → firstTooLong (length xs) (listed g i n) ≡ eqb (length (fitting (length xs) (listed g i n))) 0
   unfolding listed
-  due-some = go m some
-    where
-      go : (n : ℕ) → 1 ≤ n → (x : List ℕ) × (due : List (List ℕ)) × (listed g i n ≡ x ∷ due)
-      go zero h = absurd (omega arith)
-      go (suc n) h = (g i, listed g (suc i) n, refl)
+  short-listed zero h = absurd (omega arith)
+  short-listed (suc n) h = none-if-short (length xs) (g i) (listed g (suc i) n)
 
-  abbrev x : List ℕ
-  x = due-some .0
+  pub filled-fits : record { lines = j - i; bytes = at; short = eqb (j - i) 0 } ≡ fittedOf (listed g i m) (length xs)
+  unfolding fittedOf
+  filled-fits =
+      let n : j - i ≡ length (fitting (length xs) (listed g i m)) = omega (arith, full .counted) in
+      let a : at ≡ length (bytesOf (fitting (length xs) (listed g i m))) = omega (arith, full .place) in
+      rw (n, a, short-listed m some)
 
-  abbrev due : List (List ℕ)
-  due = due-some .1
-
-  counted : j ≡ i + length (fitting (length xs) (x ∷ due))
-  counted = rw (due-some .2) at (full .counted)
-
-  -- the first line does not fit if none was written, and fits if one was
-  too-long : j ≡ i → length xs < length x
-  too-long e = go (leb (length x) (length xs)) refl
-    where
-      go : (b : Bool) → leb (length x) (length xs) ≡ b → length xs < length x
-      go true t = absurd (omega (arith, counted, e, ap length (fitting-first (length xs) x due (leb-true (length x) (length xs) t))))
-      go false t = leb-false (length x) (length xs) t
-
-  fits : (j ≡ i → ⊥) → length x ≤ length xs
-  fits n = go (leb (length x) (length xs)) refl
-    where
-      go : (b : Bool) → leb (length x) (length xs) ≡ b → length x ≤ length xs
-      go true t = leb-true (length x) (length xs) t
-      go false t = absurd (n (omega (arith, counted, ap length (fitting-none (length xs) x due (leb-false (length x) (length xs) t)))))
-
-  pub unfilled-answer : j ≡ i → answer.Refused OutputTooShort ≡ blockAnswer (listed g i m) (length xs)
-  unfilled-answer e = rw (due-some .2) (short-answer x due (length xs) (too-long e))
-
-  pub unfilled-output : j ≡ i → ys ≡ blockOutput (listed g i m) xs
-  unfilled-output e =
-      let none : fitting (length xs) (listed g i m) ≡ [] = rw (due-some .2) (fitting-none (length xs) x due (too-long e)) in
-      let same : ys ≡ xs = full .written ∙ ap (λ b. putAt xs 0 (bytesOf b)) none ∙ nothing-put xs in
-      same ∙ rw (due-some .2) (short-output x due xs (too-long e))
-
-  pub filled-answer : (j ≡ i → ⊥) → answer.Written (record { lines = j - i; bytes = at }) ≡ blockAnswer (listed g i m) (length xs)
-  filled-answer n = rw (due-some .2) (block-answer x due (length xs) (j - i) at (fits n) (omega (arith, counted)) (rw (due-some .2) at (full .place) ∙ omega arith))
-
-  pub filled-output : (j ≡ i → ⊥) → ys ≡ blockOutput (listed g i m) xs
-  filled-output n = rw (due-some .2) (block-output x due xs ys (fits n) (rw (due-some .2) at (full .written)))
+  pub filled-output : ys ≡ fittedOutput (listed g i m) xs
+  unfolding fittedOutput
+  filled-output = full .written ∙ put-first xs _ (fitting-room (length xs) (listed g i m))
 
 -- one line is due: it does not fit, or it is the block
 module _ (due : List (List ℕ)) (x out : List ℕ) (e : due ≡ x ∷ []) where
-  pub refused-short : length out < length x → (answer.Refused OutputTooShort ≡ blockAnswer due (length out)) × (out ≡ blockOutput due out)
-  refused-short h = rw e (short-answer x [] (length out) h, short-output x [] out h)
+  pub refused-short : length out < length x
+      → (record { lines = 0; bytes = 0; short = true } ≡ fittedOf due (length out)) × (out ≡ fittedOutput due out)
+  unfolding fittedOf fittedOutput firstTooLong bytesOf inFront
+  refused-short h = rw (e, lt-ltb (length out) (length x) h, fitting-none (length out) x [] h) (refl, refl)
 
-module _ (due : List (List ℕ)) (x out ys : List ℕ) (n : ℕ) (e : due ≡ x ∷ []) (m : n ≡ length x) (h : n ≤ length out) (p : ys ≡ putAt out 0 x) where
-  alone : fitting (length out) (x ∷ []) ≡ x ∷ []
-  unfolding fitting
-  alone = fitting-first (length out) x [] (omega (arith, m, h))
+  pub refused-block : (ys : List ℕ) (n : ℕ) → n ≡ length x → n ≤ length out → ys ≡ putAt out 0 x
+      → (record { lines = 1; bytes = n; short = false } ≡ fittedOf due (length out)) × (ys ≡ fittedOutput due out)
+  unfolding fittedOf fittedOutput firstTooLong fitting bytesOf
+  refused-block ys n m h p =
+      let fits : length x ≤ length out = omega (arith, m, h) in
+      let alone : bytesOf (x ∷ []) ≡ x = append-nil x in
+      rw (e, le-ltb (length out) (length x) fits, fitting-first (length out) x [] fits, alone, m) (refl, p ∙ put-first out x fits)
 
-  alone-bytes : bytesOf (fitting (length out) (x ∷ [])) ≡ x
-  unfolding bytesOf
-  alone-bytes = ap bytesOf alone ∙ append-nil x
+-- the answer of a call for lines, from what fitted
+none-written : (due : List (List ℕ)) (out : List ℕ) → firstTooLong (length out) due ≡ true → fittedOutput due out ≡ out
+unfolding firstTooLong fittedOutput bytesOf inFront
+none-written [] out t = absurd (false≢true t)
+none-written (x ∷ due) out t = rw (fitting-none (length out) x due (ltb-true (length out) (length x) t))
 
-  pub refused-block : (answer.Written (record { lines = 1; bytes = n }) ≡ blockAnswer due (length out)) × (ys ≡ blockOutput due out)
-  refused-block = rw e (
-    block-answer x [] (length out) 1 n (omega (arith, m, h)) (ap length (sym alone)) (m ∙ ap length (sym alone-bytes)),
-    block-output x [] out ys (omega (arith, m, h)) (p ∙ ap (putAt out 0) (sym alone-bytes)),
-  )
+module _ (due : List (List ℕ)) (out : List ℕ) (f : Fitted) (e : f ≡ fittedOf due (length out)) where
+  short-is : f .short ≡ firstTooLong (length out) due
+  unfolding fittedOf
+  short-is = ap (λ (x : Fitted). x .short) e
+
+  pub short-answer : f .short ≡ true
+      → (answer.Refused OutputTooShort ≡ blockAnswer due (length out)) × (fittedOutput due out ≡ blockOutput due out)
+  unfolding blockAnswer blockOutput checkRoom writtenOr
+  short-answer t = let z = sym short-is ∙ t in rw z (refl, none-written due out z)
+
+  pub fits-answer : f .short ≡ false
+      → (answer.Written (record { lines = f .lines; bytes = f .bytes }) ≡ blockAnswer due (length out))
+      × (fittedOutput due out ≡ blockOutput due out)
+  unfolding blockAnswer blockOutput checkRoom writtenOr fittedOf fittedOutput
+  fits-answer t =
+      let z = sym short-is ∙ t in
+      rw z (ap (λ (x : Fitted). answer.Written (record { lines = x .lines; bytes = x .bytes })) e, refl)

@@ -1,3 +1,4 @@
+pub mod Blocks
 pub mod Digits
 pub mod Sheets
 pub mod Working

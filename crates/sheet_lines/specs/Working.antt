@@ -7,6 +7,7 @@ use mathlib.Core.List.{List, _++_}
 use lib.ListN.{length, getD, take, drop, set}
 use lib.Dec.{ltb, eqb}
 use lib.Seq.{sets}
+use Rattle.labels.specs.Refusals.{inFront}
 use Rattle.labels.specs.declared.refusal.Check.the-variants.{Sound}
 use Rattle.formulas.specs.Formulas.{questionLimit, checkFormula}
 use Rattle.splitting.specs.Splittings.{splittingsOf, splittingLimit, checkLog, rightHalf}
@@ -14,7 +15,18 @@ use Rattle.splitting.specs.declared.count.Counted.{Counted}
 use Rattle.splitting.specs.declared.count.Counted.the-variants as count
 use Rattle.sheet_lines.specs.declared.point.Point.{Point}
 use Rattle.sheet_lines.specs.declared.kept.Kept.{Kept}
-use Rattle.sheet_lines.specs.Sheets.{endingOf, headOf, lineOf, quotientAt, textAt, listed, bytesOf, fitting}
+use Rattle.sheet_lines.specs.declared.lines.Fitted.{Fitted}
+use Rattle.sheet_lines.specs.Sheets.{
+  endingOf,
+  headOf,
+  lineOf,
+  quotientAt,
+  textAt,
+  listed,
+  bytesOf,
+  fitting,
+  firstTooLong,
+}
 
 -- bytes written over those of a list, from a place on
 unfoldable pub putAt : List ℕ → ℕ → List ℕ → List ℕ
@@ -148,3 +160,15 @@ pub record Shared (k : ℕ) (l r w f : List ℕ) (p : Point) (halves : List ℕ)
   pub counted : p .ways ≡ length (splittingsOf k l r w)
   pub few : length (splittingsOf k l r w) ≤ splittingLimit
   pub halved : Halved k l r w (p .kept) halves
+
+-- lines that are due, as far as they fit into so many bytes, and whether the first of them is longer; the output afterwards
+unfoldable pub fittedOf : List (List ℕ) → ℕ → Fitted
+fittedOf due room =
+    record {
+      lines = length (fitting room due);
+      bytes = length (bytesOf (fitting room due));
+      short = firstTooLong room due;
+    }
+
+unfoldable pub fittedOutput : List (List ℕ) → List ℕ → List ℕ
+fittedOutput due out = inFront (bytesOf (fitting (length out) due)) out

@@ -17,7 +17,7 @@ ghost use lib.ListN.{length, take, drop};
 ghost use Rattle.hml.specs.System.{steps};
 ghost use Rattle.machines.specs.Joints.{jointOf};
 ghost use Rattle.sheet_lines.specs.Sheets.{refusedLine, partsLines, linesDue, listed, fitting, blockAnswer, blockOutput};
-ghost use Rattle.sheet_lines.specs.Working.{putAt, Asked, Numbered, numberedLine, Full};
+ghost use Rattle.sheet_lines.specs.Working.{putAt, Asked, Numbered, numberedLine, Full, fittedOf, fittedOutput};
 
 // How many lines were written, and how many bytes they are.
 pub struct Block {
@@ -31,10 +31,33 @@ pub enum Lines {
     Refused(Refusal),
 }
 
-// Writes lines of the sheet of any bytes: from line `first` on, at most so many, and no more than fit. Where a line is due and does not fit, 18.
+// The same for lines that may fit or not, and whether the output was too short for the first of them.
+pub(crate) struct Fitted {
+    pub lines: usize,
+    pub bytes: usize,
+    pub short: bool,
+}
+
+// Writes lines of the sheet of any bytes: from line `first` on, at most so many, and no more than fit. Where a line is
+// due and does not fit, 18.
 pub fn write_lines(casebook: &[u8], first: usize, most: usize, out: &mut [u8]) -> Lines
     ensures { λ r. ⌜ r ≡ blockAnswer (linesDue (now (casebook .entry)) first most) (length (now (out .entry))) ⌝ }
     ensures { λ r. ⌜ now (out .exit) ≡ blockOutput (linesDue (now (casebook .entry)) first most) (now (out .entry)) ⌝ }
+{
+    let fitted = fit_lines(casebook, first, most, out);
+    if fitted.short {
+        return Lines::Refused(Refusal::OutputTooShort);
+    }
+    Lines::Written(Block {
+        lines: fitted.lines,
+        bytes: fitted.bytes,
+    })
+}
+
+// The same without a refusal: where a line is due and does not fit, nothing is written.
+pub(crate) fn fit_lines(casebook: &[u8], first: usize, most: usize, out: &mut [u8]) -> Fitted
+    ensures { λ r. ⌜ r ≡ fittedOf (linesDue (now (casebook .entry)) first most) (length (now (out .entry))) ⌝ }
+    ensures { λ r. ⌜ now (out .exit) ≡ fittedOutput (linesDue (now (casebook .entry)) first most) (now (out .entry)) ⌝ }
 {
     match read(casebook) {
         Reading::Casebook(parts) => {
@@ -42,7 +65,7 @@ pub fn write_lines(casebook: &[u8], first: usize, most: usize, out: &mut [u8]) -
             let right = parts.right;
             let run = parts.run;
             let question = parts.question;
-            write_parts(
+            fit_parts(
                 parts.pairs,
                 left.body(casebook),
                 right.body(casebook),
@@ -53,12 +76,12 @@ pub fn write_lines(casebook: &[u8], first: usize, most: usize, out: &mut [u8]) -
                 out,
             )
         }
-        Reading::Refused(refusal) => write_refused(refusal, first, most, out),
+        Reading::Refused(refusal) => fit_refused(refusal, first, most, out),
     }
 }
 
 // The lines of a log and a question that no check refuses, unless the count does.
-fn write_parts<'a>(
+fn fit_parts<'a>(
     k: u8,
     left: &'a [u8],
     right: &'a [u8],
@@ -67,29 +90,41 @@ fn write_parts<'a>(
     first: usize,
     most: usize,
     out: &mut [u8],
-) -> Lines
+) -> Fitted
     requires { ⌜ Asked k (now left) (now right) (now run) (now question) ⌝ }
-    ensures { λ r. ⌜ r ≡ blockAnswer (take most (drop first (partsLines k (now (left .entry)) (now (right .entry)) (now (run .entry)) (now (question .entry))))) (length (now (out .entry))) ⌝ }
-    ensures { λ r. ⌜ now (out .exit) ≡ blockOutput (take most (drop first (partsLines k (now (left .entry)) (now (right .entry)) (now (run .entry)) (now (question .entry))))) (now (out .entry)) ⌝ }
+    ensures { λ r. ⌜ r ≡ fittedOf
+        (take most (drop first (partsLines k (now (left .entry)) (now (right .entry)) (now (run .entry)) (now (question .entry)))))
+        (length (now (out .entry))) ⌝ }
+    ensures { λ r. ⌜ now (out .exit) ≡ fittedOutput
+        (take most (drop first (partsLines k (now (left .entry)) (now (right .entry)) (now (run .entry)) (now (question .entry)))))
+        (now (out .entry)) ⌝ }
 {
     match count(k, left, right, run) {
         Counted::Splittings(splittings) => {
             let total = (run.len() / 3 + 1) * splittings;
             if total <= first {
-                return Lines::Written(Block { lines: 0, bytes: 0 });
+                return Fitted {
+                    lines: 0,
+                    bytes: 0,
+                    short: false,
+                };
             }
             if most == 0 {
-                return Lines::Written(Block { lines: 0, bytes: 0 });
+                return Fitted {
+                    lines: 0,
+                    bytes: 0,
+                    short: false,
+                };
             }
             let due = smaller(most, total - first);
-            write_sheet(k, left, right, run, question, splittings, first, due, out)
+            fit_sheet(k, left, right, run, question, splittings, first, due, out)
         }
-        Counted::Refused(refusal) => write_refused(refusal, first, most, out),
+        Counted::Refused(refusal) => fit_refused(refusal, first, most, out),
     }
 }
 
 // So many lines, from line `first` on, or as many of them as fit.
-fn write_sheet<'a>(
+fn fit_sheet<'a>(
     k: u8,
     left: &'a [u8],
     right: &'a [u8],
@@ -99,20 +134,23 @@ fn write_sheet<'a>(
     first: usize,
     due: usize,
     out: &mut [u8],
-) -> Lines
+) -> Fitted
     requires { ⌜ Numbered k (now left) (now right) (now run) (now question) splittings ⌝ }
     requires { ⌜ (1 ≤ due) × (first + due ≤ suc (steps (jointOf (now run))) * splittings) ⌝ }
-    ensures { λ r. ⌜ r ≡ blockAnswer (listed (numberedLine k (now (left .entry)) (now (right .entry)) (now (run .entry)) (now (question .entry)) splittings) first due) (length (now (out .entry))) ⌝ }
-    ensures { λ r. ⌜ now (out .exit) ≡ blockOutput (listed (numberedLine k (now (left .entry)) (now (right .entry)) (now (run .entry)) (now (question .entry)) splittings) first due) (now (out .entry)) ⌝ }
+    ensures { λ r. ⌜ r ≡ fittedOf
+        (listed (numberedLine k (now (left .entry)) (now (right .entry)) (now (run .entry)) (now (question .entry)) splittings) first due)
+        (length (now (out .entry))) ⌝ }
+    ensures { λ r. ⌜ now (out .exit) ≡ fittedOutput
+        (listed (numberedLine k (now (left .entry)) (now (right .entry)) (now (run .entry)) (now (question .entry)) splittings) first due)
+        (now (out .entry)) ⌝ }
 {
     let done = fill(k, left, right, run, question, splittings, first, due, out);
-    if done.number == first {
-        return Lines::Refused(Refusal::OutputTooShort);
-    }
-    Lines::Written(Block {
-        lines: done.number - first,
+    let lines = done.number - first;
+    Fitted {
+        lines,
         bytes: done.at,
-    })
+        short: lines == 0,
+    }
 }
 
 // Fills an output with lines, point by point: line i is that of point i / splittings and of splitting i % splittings. Gives the line that is due next, and
@@ -173,25 +211,38 @@ fn fill<'a>(
 }
 
 // The line of a refused casebook or count, if it is among the lines asked for.
-fn write_refused(refusal: Refusal, first: usize, most: usize, out: &mut [u8]) -> Lines
-    ensures { λ r. ⌜ r ≡ blockAnswer (take most (drop first (refusedLine refusal ∷ []))) (length (now (out .entry))) ⌝ }
-    ensures { λ r. ⌜ now (out .exit) ≡ blockOutput (take most (drop first (refusedLine refusal ∷ []))) (now (out .entry)) ⌝ }
+fn fit_refused(refusal: Refusal, first: usize, most: usize, out: &mut [u8]) -> Fitted
+    ensures { λ r. ⌜ r ≡ fittedOf (take most (drop first (refusedLine refusal ∷ []))) (length (now (out .entry))) ⌝ }
+    ensures { λ r. ⌜ now (out .exit) ≡ fittedOutput (take most (drop first (refusedLine refusal ∷ []))) (now (out .entry)) ⌝ }
 {
     if 0 < first {
-        return Lines::Written(Block { lines: 0, bytes: 0 });
+        return Fitted {
+            lines: 0,
+            bytes: 0,
+            short: false,
+        };
     }
     if most == 0 {
-        return Lines::Written(Block { lines: 0, bytes: 0 });
+        return Fitted {
+            lines: 0,
+            bytes: 0,
+            short: false,
+        };
     }
     let len = refused_length(refusal);
     if out.len() < len {
-        return Lines::Refused(Refusal::OutputTooShort);
+        return Fitted {
+            lines: 0,
+            bytes: 0,
+            short: true,
+        };
     }
     put_refused(refusal, out);
-    Lines::Written(Block {
+    Fitted {
         lines: 1,
         bytes: len,
-    })
+        short: false,
+    }
 }
 
 // How many bytes that line has.

@@ -1,68 +1,29 @@
 use borrow.Author.Needs.{needs}
 use Rattle.sheet_lines.proofs.lines.write_lines.Statement.{statement}
 use Rattle.sheet_lines.proofs.lines.write_lines.Tie as tie
-use mathlib.Core.Path.{sym, _∙_, ap}
-use lib.ListN.{length}
-use Rattle.sheet_lines.specs.Sheets.{blockAnswer, blockOutput}
-use Rattle.sheet_lines.proofs.PartsLines.{read-asked, read-due, refused-due}
+use mathlib.Core.Path.{_∙_}
+use Rattle.sheet_lines.proofs.SheetLines.{short-answer, fits-answer}
 
-read-requires : tie.Need-read-requires
-read-requires c κs = search needs
-
-enum-known-parts : tie.Need-enum-known-parts
-enum-known-parts c = search needs
-
-body-requires : tie.Need-body-requires
-body-requires c κs = search needs
-
-body-requires-2 : tie.Need-body-requires-2
-body-requires-2 c κs = search needs
-
-body-requires-3 : tie.Need-body-requires-3
-body-requires-3 c κs = search needs
-
-body-requires-4 : tie.Need-body-requires-4
-body-requires-4 c κs = search needs
-
-write-parts-requires : tie.Need-write-parts-requires
-write-parts-requires c κs = read-asked _ 0 0 _ (sym (c .before .before .before .before .before .before .before .before .before .before .before .before .read .ensures) ∙ c .before .before .before .before .before .before .before .before .before .before .parts .given .1) _ _ _ _ (c .before .before .before .before .body .ensures) (c .before .before .before .body2 .ensures) (c .before .before .body3 .ensures) (c .before .body4 .ensures)
-
-enum-known-refusal : tie.Need-enum-known-refusal
-enum-known-refusal c = search needs
-
-write-refused-requires : tie.Need-write-refused-requires
-write-refused-requires c κs = search needs
+fit-lines-requires : tie.Need-fit-lines-requires
+fit-lines-requires c κs = search needs
 
 same-length : tie.Need-same-length
 same-length c = search needs
 
 returns : tie.Need-returns
 returns c =
-    let e = read-due _ (c .before .before .before .before .before .before .before .before .before .before .before .before .before .before .before .before .before .before .args .first) (c .before .before .before .before .before .before .before .before .before .before .before .before .before .before .before .before .before .before .args .most) _ (sym (c .before .before .before .before .before .before .before .before .before .before .before .before .before .before .before .read .ensures) ∙ c .before .before .before .before .before .before .before .before .before .before .before .before .before .parts .given .1) _ _ _ _ (c .before .before .before .before .before .before .before .body .ensures) (c .before .before .before .before .before .before .body2 .ensures) (c .before .before .before .before .before .body3 .ensures) (c .before .before .before .before .body4 .ensures) in
-    (c .before .before .write-parts .ensures .0 ∙ ap (λ d. blockAnswer d (length (c .before .before .before .before .before .before .before .before .before .before .before .before .before .before .before .before .before .before .args .out .now))) (sym e), c .before .before .write-parts .ensures .1 ∙ ap (λ d. blockOutput d (c .before .before .before .before .before .before .before .before .before .before .before .before .before .before .before .before .before .before .args .out .now)) (sym e))
+    let call = c .before .before .before .fit-lines in
+    let (a, b) = short-answer _ _ _ (call .ensures .0) (c .if1 .taken) in
+    (a, call .ensures .1 ∙ b)
 
 same-length-2 : tie.Need-same-length-2
 same-length-2 c = search needs
 
 returns-2 : tie.Need-returns-2
 returns-2 c =
-    let e = refused-due _ (c .before .before .before .before .before .before .before .before .before .before .args .first) (c .before .before .before .before .before .before .before .before .before .before .args .most) _ (sym (c .before .before .before .before .before .before .before .read .ensures) ∙ c .before .before .before .before .before .refusal .given .1) in
-    (c .before .before .write-refused .ensures .0 ∙ ap (λ d. blockAnswer d (length (c .before .before .before .before .before .before .before .before .before .before .args .out .now))) (sym e), c .before .before .write-refused .ensures .1 ∙ ap (λ d. blockOutput d (c .before .before .before .before .before .before .before .before .before .before .args .out .now)) (sym e))
+    let call = c .before .before .before .fit-lines in
+    let (a, b) = fits-answer _ _ _ (call .ensures .0) (c .if1 .left) in
+    (a, call .ensures .1 ∙ b)
 
 pub write-lines-spec : {M : Type 1} → statement M
-write-lines-spec =
-    tie.close
-    (tie.spec
-    read-requires
-    enum-known-parts
-    body-requires
-    body-requires-2
-    body-requires-3
-    body-requires-4
-    write-parts-requires
-    enum-known-refusal
-    write-refused-requires
-    same-length
-    returns
-    same-length-2
-    returns-2)
+write-lines-spec = tie.close (tie.spec fit-lines-requires same-length returns same-length-2 returns-2)

@@ -1,12 +1,12 @@
 use borrow.Author.Needs.{needs}
-use Rattle.sheet_lines.proofs.lines.write_parts.Statement.{statement}
-use Rattle.sheet_lines.proofs.lines.write_parts.Tie as tie
+use Rattle.sheet_lines.proofs.lines.fit_parts.Statement.{statement}
+use Rattle.sheet_lines.proofs.lines.fit_parts.Tie as tie
 use mathlib.Core.Path.{refl, sym, _∙_, ap}
 use Prim.Native.Nat.{_*_}
 use native.Mathlib.Omega.{arith}
 use lib.ListN.{length}
-use Rattle.sheet_lines.specs.Sheets.{blockAnswer, blockOutput}
-use Rattle.sheet_lines.proofs.SheetLines.{nothing-answer, nothing-output}
+use Rattle.sheet_lines.specs.Working.{fittedOf, fittedOutput}
+use Rattle.sheet_lines.proofs.SheetLines.{nothing-fits, nothing-output}
 use Rattle.sheet_lines.proofs.FillLaws.{sheet-small}
 use Rattle.sheet_lines.proofs.PartsLines.{points-are, numbered-log, lines-over, lines-due, due-within, none-asked, refused-count}
 
@@ -27,12 +27,12 @@ mul-total c =
 returns : tie.Need-returns
 returns c =
     let e = lines-over _ _ _ _ _ (c .before .before .before .before .before .before .before .before .before .before .pre) _ (sym (c .before .before .before .before .count .ensures) ∙ c .before .before .splittings .given .1) (c .before .before .before .before .before .before .before .before .before .before .args .first) (c .before .before .before .before .before .before .before .before .before .before .args .most) _ refl (omega arith) in
-    (nothing-answer _ e _, nothing-output _ e _)
+    (nothing-fits _ e _, nothing-output _ e _)
 
 returns-2 : tie.Need-returns-2
 returns-2 c =
     let e = none-asked _ (c .before .before .before .before .before .before .before .before .before .before .before .args .most) (c .if2 .taken) in
-    (nothing-answer _ e _, nothing-output _ e _)
+    (nothing-fits _ e _, nothing-output _ e _)
 
 sub-smaller : tie.Need-sub-smaller
 sub-smaller c = search needs
@@ -40,16 +40,16 @@ sub-smaller c = search needs
 smaller-requires : tie.Need-smaller-requires
 smaller-requires c κs = search needs
 
-write-sheet-requires : tie.Need-write-sheet-requires
-write-sheet-requires c κs =
+fit-sheet-requires : tie.Need-fit-sheet-requires
+fit-sheet-requires c κs =
     let told = sym (c .before .before .before .before .before .before .before .count .ensures) ∙ c .before .before .before .before .before .splittings .given .1 in
     (numbered-log _ _ _ _ _ (c .before .before .before .before .before .before .before .before .before .before .before .before .before .pre) _ told, due-within _ _ _ _ _ (c .before .before .before .before .before .before .before .before .before .before .before .before .before .pre) _ told (c .before .before .before .before .before .before .before .before .before .before .before .before .before .args .first) (c .before .before .before .before .before .before .before .before .before .before .before .before .before .args .most) _ _ refl (omega arith) (c .before .before .if2 .left) (c .before .smaller .ensures))
 
 enum-known-refusal : tie.Need-enum-known-refusal
 enum-known-refusal c = search needs
 
-write-refused-requires : tie.Need-write-refused-requires
-write-refused-requires c κs = search needs
+fit-refused-requires : tie.Need-fit-refused-requires
+fit-refused-requires c κs = search needs
 
 same-length : tie.Need-same-length
 same-length c = search needs
@@ -58,7 +58,7 @@ returns-3 : tie.Need-returns-3
 returns-3 c =
     let told = sym (c .before .before .before .before .before .before .before .before .before .before .count .ensures) ∙ c .before .before .before .before .before .before .before .before .splittings .given .1 in
     let e = lines-due _ _ _ _ _ (c .before .before .before .before .before .before .before .before .before .before .before .before .before .before .before .before .pre) _ told (c .before .before .before .before .before .before .before .before .before .before .before .before .before .before .before .before .args .first) (c .before .before .before .before .before .before .before .before .before .before .before .before .before .before .before .before .args .most) _ _ refl (omega arith) (c .before .before .before .before .smaller .ensures) in
-    (c .before .before .write-sheet .ensures .0 ∙ ap (λ d. blockAnswer d (length (c .before .before .before .before .before .before .before .before .before .before .before .before .before .before .before .before .args .out .now))) (sym e), c .before .before .write-sheet .ensures .1 ∙ ap (λ d. blockOutput d (c .before .before .before .before .before .before .before .before .before .before .before .before .before .before .before .before .args .out .now)) (sym e))
+    (c .before .before .fit-sheet .ensures .0 ∙ ap (λ d. fittedOf d (length (c .before .before .before .before .before .before .before .before .before .before .before .before .before .before .before .before .args .out .now))) (sym e), c .before .before .fit-sheet .ensures .1 ∙ ap (λ d. fittedOutput d (c .before .before .before .before .before .before .before .before .before .before .before .before .before .before .before .before .args .out .now)) (sym e))
 
 same-length-2 : tie.Need-same-length-2
 same-length-2 c = search needs
@@ -66,10 +66,10 @@ same-length-2 c = search needs
 returns-4 : tie.Need-returns-4
 returns-4 c =
     let e = refused-count _ _ _ _ (c .before .before .before .before .before .before .before .before .before .before .before .before .before .args .question .now) _ (sym (c .before .before .before .before .before .before .before .count .ensures) ∙ c .before .before .before .before .before .refusal .given .1) in
-    rw (← e) at (c .before .before .write-refused .ensures)
+    rw (← e) at (c .before .before .fit-refused .ensures)
 
-pub write-parts-spec : {M : Type 1} → statement M
-write-parts-spec =
+pub fit-parts-spec : {M : Type 1} → statement M
+fit-parts-spec =
     tie.close
     (tie.spec
     count-requires
@@ -80,9 +80,9 @@ write-parts-spec =
     returns-2
     sub-smaller
     smaller-requires
-    write-sheet-requires
+    fit-sheet-requires
     enum-known-refusal
-    write-refused-requires
+    fit-refused-requires
     same-length
     returns-3
     same-length-2
