@@ -5,4 +5,3 @@ mod kept;
 mod line;
 pub mod lines;
 mod point;
-mod smaller;
