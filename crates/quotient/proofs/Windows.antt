@@ -8,13 +8,14 @@ use mathlib.Core.Option.{some}
 use native.Mathlib.Nat.{mod-lt}
 use native.Mathlib.Omega.{arith}
 use lib.ListN.{length, drop}
-use Rattle.hml.specs.Tests.{tested-ℕ}
+use Rattle.hml.proofs.Tests.{tested-ℕ}
 use Rattle.hml.specs.System.{Run, start, steps, stop, RunOf}
 use Rattle.hml.specs.Formula.{Formula}
 use Rattle.hml.specs.Compose.{paired}
-use Rattle.hml.specs.Joining.{join-steps}
-use Rattle.hml.specs.Window.{backs, Alike, quotient-alike}
-use Rattle.hml.specs.NewestSteps.{behind, window-cut, window-steps, run-undo, fewer-undone, fewer-behind, nth-window}
+use Rattle.hml.proofs.Joins.{join-steps}
+use Rattle.hml.specs.Working.{backs}
+use Rattle.hml.proofs.Window.{Alike, quotient-alike}
+use Rattle.hml.proofs.NewestSteps.{behind, window-cut, window-steps, run-undo, fewer-undone, fewer-behind, nth-window}
 use Rattle.hml.specs.Labels.{pairs}
 use Rattle.labels.specs.Refusals.{firstOf}
 use Rattle.labels.specs.declared.refusal.Check.the-variants.{Sound}

@@ -6,13 +6,14 @@ use mathlib.Core.List.{List, [], _∷_, _++_, append-nil, append-assoc}
 use native.Mathlib.Nat.{mod-lt, div-lt-iff-lt-mul}
 use native.Mathlib.Omega.{arith}
 use lib.ListN.{length, drop}
-use Rattle.hml.specs.Tests.{tested-ℕ}
-use Rattle.hml.specs.Lists.{each, each-append}
+use Rattle.hml.proofs.Tests.{tested-ℕ}
+use Rattle.hml.specs.Lists.{each}
+use Rattle.hml.proofs.Lists.{each-append}
 use Rattle.hml.specs.System.{Run, start, _▸_, move, idle, first, last, steps, undo, RunOf}
 use Rattle.hml.specs.Compose.{paired}
-use Rattle.hml.specs.Joining.{join-steps}
-use Rattle.hml.specs.Window.{Alike, alike-last, ends, begins, steps as alike-steps}
-use Rattle.hml.specs.NewestSteps.{behind, steps-from, count-parts, fewer-undone, fewer-behind, nth-undone, nth-alike}
+use Rattle.hml.proofs.Joins.{join-steps}
+use Rattle.hml.proofs.Window.{Alike, alike-last, ends, begins, steps as alike-steps}
+use Rattle.hml.proofs.NewestSteps.{behind, steps-from, count-parts, fewer-undone, fewer-behind, nth-undone, nth-alike}
 use Rattle.hml.specs.Labels.{pairs}
 use Rattle.labels.specs.Refusals.{firstOf}
 use Rattle.labels.specs.declared.refusal.Check.the-variants.{Sound}

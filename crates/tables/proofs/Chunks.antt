@@ -7,7 +7,8 @@ use native.Mathlib.Nat.{div-eq-of-lt}
 use native.Mathlib.Omega.{arith}
 use lib.ListN.{length, take, drop, length-append, length-take, length-drop}
 use lib.Seq.{take-nil, drop-nil, take-append-add, drop-append-add}
-use Rattle.hml.specs.Lists.{each, length-each}
+use Rattle.hml.specs.Lists.{each}
+use Rattle.hml.proofs.Lists.{length-each}
 use Rattle.hml.specs.Machine.{Row}
 use Rattle.labels.proofs.Slices.{no-bytes}
 use Rattle.tables.specs.Tables.{threes}

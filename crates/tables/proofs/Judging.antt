@@ -9,7 +9,7 @@ use lib.Seq.{drop-cons}
 use native.Mathlib.Numerals.{add-one}
 use lib.Dec.{leb, ltb}
 use borrow.Author.Tests.{eq-eqb, ne-eqb, lt-ltb, le-ltb, le-leb, lt-leb}
-use Rattle.hml.specs.Tests.{apart}
+use Rattle.hml.proofs.Tests.{apart}
 use Rattle.hml.specs.Machine.{Row}
 use Rattle.hml.specs.Labels.{count, positive}
 use Rattle.labels.specs.Refusals.{firstOf, thenOf, refusedIf}

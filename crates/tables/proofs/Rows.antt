@@ -9,8 +9,9 @@ use mathlib.Core.List.{List, [], _∷_, _++_, map, Memᴰ·cast as ∈-cast}
 use lib.ListN.{length, getD, take, drop, length-take, length-drop}
 use lib.Dec.{eqb, ltb}
 use borrow.Author.Tests.{lt-ltb, le-ltb, eq-eqb, ne-eqb, ltb-true, ltb-false, eqb-true}
-use Rattle.hml.specs.Tests.{apart, same, Decides, decided-iff, decided-and, decided-same}
-use Rattle.hml.specs.Lists.{_∈_, only, each, decided-any}
+use Rattle.hml.proofs.Tests.{apart, Decides, decided-iff, decided-and, decided-same}
+use Rattle.hml.specs.Lists.{same, _∈_, only, each}
+use Rattle.hml.proofs.Lists.{decided-any}
 use Rattle.hml.specs.System.{System}
 use Rattle.hml.specs.Machine.{Row, machine}
 use Rattle.tables.specs.Tables.{threes, rowsOf, rowOf, among, hasMove, rowsFrom, bytesOf, rowBelow, leaving}

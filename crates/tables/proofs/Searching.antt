@@ -5,7 +5,8 @@ use mathlib.Core.Bool.{Bool, true, false}
 use mathlib.Core.List.{List, [], _∷_}
 use lib.ListN.{length, getD}
 use native.Mathlib.Omega.{arith}
-use Rattle.hml.specs.Lists.{any, any-map}
+use Rattle.hml.specs.Lists.{any}
+use Rattle.hml.proofs.Lists.{any-map}
 use Rattle.hml.specs.Machine.{Row}
 use Rattle.labels.proofs.Slices.{rest, rest-of}
 use Rattle.tables.specs.Tables.{threes, rowsOf, rowsFrom, bytesOf, tableOf, movesIn, among, hasMove}

@@ -12,12 +12,13 @@ use lib.ListN.{length}
 use lib.Dec.{eqb, ltb}
 use borrow.Author.Tests.{eqb-true}
 use Rattle.labels.proofs.Refusals.{Judges, accepts, judges, judged-unless, judged-fault, judged-iff, judged-then}
-use Rattle.hml.specs.Tests.{same, Decides, decides, decided-lt, decided-le, decided-true, decided-iff, decided-and}
-use Rattle.hml.specs.Tests.{decided-or, decided-same, same-refl}
-use Rattle.hml.specs.Lists.{_∈_, only, ∈-only, each-∈}
+use Rattle.hml.specs.Lists.{same, _∈_, only}
+use Rattle.hml.proofs.Tests.{Decides, decides, decided-lt, decided-le, decided-true, decided-iff, decided-and}
+use Rattle.hml.proofs.Tests.{decided-or, decided-same, same-refl}
+use Rattle.hml.proofs.Lists.{∈-only, each-∈}
 use Rattle.hml.specs.Machine.{Row, machine}
 use Rattle.hml.specs.Labels.{count}
-use Rattle.hml.specs.Distinct.{Distinct, distinct-only, distinct-each}
+use Rattle.hml.proofs.Distinct.{Distinct, distinct-only, distinct-each}
 use Rattle.labels.specs.Refusals.{firstOf}
 use Rattle.labels.specs.declared.refusal.Refusal.the-variants.{WrongLength, OutOfRange, RowNotAbove, NinthRow}
 use Rattle.labels.specs.declared.refusal.Check.the-variants.{Sound}

@@ -9,9 +9,10 @@ use lib.ListN.{length, getD, take, drop, length-take}
 use lib.Seq.{getD-take, getD-drop}
 use lib.Dec.{ltb}
 use borrow.Author.Tests.{ltb-true, ltb-false, eq-eqb}
-use Rattle.hml.specs.Tests.{same, decides}
-use Rattle.hml.specs.Lists.{_∈_, only, each, ∈-each, ∈-only}
-use Rattle.hml.specs.Indexed.{element, number-of}
+use Rattle.hml.specs.Lists.{same, _∈_, only, each}
+use Rattle.hml.proofs.Tests.{decides}
+use Rattle.hml.proofs.Lists.{∈-each, ∈-only}
+use Rattle.hml.proofs.Indexed.{element, number-of}
 use Rattle.hml.specs.Machine.{Row, machine}
 use Rattle.tables.specs.Tables.{
   rowsOf,

@@ -6,8 +6,7 @@ use mathlib.Core.Bool.{Bool, true, cond, _&&_, _||_, not}
 use mathlib.Core.List.{List, [], _∷_, map}
 use lib.ListN.{length, getD, take, drop}
 use lib.Dec.{eqb, leb, ltb}
-use Rattle.hml.specs.Tests.{same}
-use Rattle.hml.specs.Lists.{_∈_, any, each, only}
+use Rattle.hml.specs.Lists.{same, _∈_, any, each, only}
 use Rattle.hml.specs.System.{System}
 use Rattle.hml.specs.Machine.{Row, machine}
 use Rattle.hml.specs.Labels.{count}

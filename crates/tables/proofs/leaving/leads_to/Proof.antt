@@ -6,7 +6,7 @@ use mathlib.Core.Path.{sym, _∙_}
 use mathlib.Core.Bool.{Bool, _&&_}
 use Prim.Native.Nat.{ℕ}
 use lib.ListN.{length}
-use Rattle.hml.specs.Tests.{same}
+use Rattle.hml.specs.Lists.{same}
 use Rattle.labels.proofs.Slices.{rest-fewer}
 use Rattle.tables.specs.Tables.{movesIn, among}
 use Rattle.tables.proofs.Searching.{Searching, search-rows, search-end, search-hit, search-miss}
