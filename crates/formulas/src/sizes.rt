@@ -1,8 +1,9 @@
 // The sizes of all trees of a formula, found once: with them a second operand is found without reading the first one.
 use crate::node::Node;
 use crate::node::read_node;
+use labels::number::smaller;
 ghost use mathlib.Core.Path.{_≡_};
-ghost use Prim.Native.Nat.{_≤_, min};
+ghost use Prim.Native.Nat.{_≤_};
 ghost use lib.ListN.{length, drop};
 ghost use Rattle.formulas.specs.Sizes.{treeSize, sizesOf, sizesOver};
 ghost use Rattle.formulas.specs.Working.{sizeBehind};
@@ -60,13 +61,4 @@ fn size_behind(sizes: &[usize], n: usize) -> usize
         return 0;
     }
     sizes[count - 1 - n]
-}
-
-fn smaller(a: usize, b: usize) -> usize
-    ensures { λ r. ⌜ r ≡ min a b ⌝ }
-{
-    if a < b {
-        return a;
-    }
-    b
 }

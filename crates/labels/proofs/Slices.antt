@@ -22,6 +22,11 @@ rest-length k l = ap length (rest-of k l) ∙ length-drop k l
 pub rest-fewer : (k : ℕ) (l : List ℕ) → 1 ≤ k → k ≤ length l → length (rest k l) < length l
 rest-fewer k l h i = simp (length-take, length-drop) (omega arith)
 
+-- a part of no bytes is empty
+pub no-bytes : (l : List ℕ) → length l ≡ 0 → l ≡ []
+no-bytes [] e = refl
+no-bytes (b ∷ l) e = absurd (omega arith)
+
 -- a front with two bytes more
 pub take-two : (l : List ℕ) (n : ℕ) → n + 2 ≤ length l → take (n + 2) l ≡ take n l ++ getD l n 0 ∷ getD l (n + 1) 0 ∷ []
 take-two l n h =

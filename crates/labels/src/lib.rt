@@ -1,3 +1,4 @@
-// The refusals of document 01, and its labels: the lowest crate with code.
+// The refusals of document 01, and its labels; the smaller of two numbers. The lowest crate with code.
 pub mod label;
+pub mod number;
 pub mod refusal;

@@ -2,8 +2,7 @@
 use Prim.Native.Nat.{ℕ, _/_, _≤_, _<_}
 use mathlib.Core.Path.{_≡_, refl, sym, _∙_, ap}
 use mathlib.Core.Bool.{Bool, true, false, not}
-use mathlib.Core.List.{List, [], _∷_}
-use native.Mathlib.Omega.{arith}
+use mathlib.Core.List.{List}
 use lib.ListN.{length}
 use borrow.Author.Tests.{lt-ltb, le-ltb}
 use Rattle.labels.specs.Refusals.{thenOf, firstOf, refusedIf}
@@ -18,16 +17,12 @@ use Rattle.halves.specs.Halves.{checkHalf}
 use Rattle.halves.specs.Cuts.{knownOf, knownPart, beyond, cutOf}
 use Rattle.halves.specs.declared.side.Side.{Side}
 use Rattle.halves.proofs.Cuts.{refused-empty}
+use Rattle.labels.proofs.Slices.{no-bytes}
 use Rattle.formulas.specs.Formulas.{questionLimit, checkFormula}
 use Rattle.joining.specs.Joinings.{halvesMatch, checkHalves}
 use Rattle.splitting.specs.Splittings.{checkLog}
 use Rattle.quotient.specs.Calls.{checkByHalf}
 use Rattle.quotient.specs.Working.{checkAsked, checkAskedRun, checkAskedLog}
-
--- a part of no bytes is empty
-no-bytes : (x : List ℕ) → length x ≡ 0 → x ≡ []
-no-bytes [] e = refl
-no-bytes (b ∷ x) e = absurd (omega (arith, e))
 
 module _ (k : ℕ) (a b f : List ℕ) (side : Side) (point : ℕ) where
   -- what is asked of two halves

@@ -30,7 +30,7 @@ use Rattle.machines.proofs.JointRuns.{Tables, tablesOf, joint-stop}
 use Rattle.machines.proofs.JointParts.{joint-until, joint-from, joint-later}
 use Rattle.formulas.specs.Formulas.{formulaOf}
 use Rattle.splitting.specs.Splittings.{splittingsOf, checkLog, leftHalf, rightHalf}
-use Rattle.splitting.proofs.LogRuns.{left-table, right-table, left-read, right-read, sound-log, nth, nth-joins}
+use Rattle.splitting.proofs.LogRuns.{sound-ready, left-read, right-read, sound-log, nth, nth-joins}
 use Rattle.splitting.proofs.AllSplittings.{count-some}
 use Rattle.dividing.specs.Quotients.{treeBy, quotientBy}
 use Rattle.quotient.specs.Calls.{treeByHalf, treeByNumber}
@@ -59,7 +59,7 @@ module _ (k : ℕ) (l r s : List ℕ) (p b : ℕ) (sound : checkLog k l r s ≡ 
   parts = log-parts k l r s sound
 
   tables : Tables k l r
-  tables = record { left = left-table (parts .machines); right = right-table (parts .machines) }
+  tables = sound-ready k l r s sound .tables
 
   run : RunOf (tablesOf k l r) (jointOf s)
   run = sound-log k l r s sound .run .run

@@ -26,7 +26,7 @@ use Rattle.machines.specs.Joints.{jointOf}
 use Rattle.machines.proofs.JointRuns.{Tables, tablesOf, joint-stop}
 use Rattle.machines.proofs.JointParts.{joint-until, joint-from, joint-later}
 use Rattle.splitting.specs.Splittings.{splittingsOf, checkLog, rightHalf}
-use Rattle.splitting.proofs.LogRuns.{left-table, right-table, sound-log, nth, nth-joins}
+use Rattle.splitting.proofs.LogRuns.{sound-ready, sound-log, nth, nth-joins}
 use Rattle.splitting.proofs.AllSplittings.{count-some}
 use Rattle.quotient.proofs.SplitRuns.{LogParts, log-parts}
 use Rattle.sheet_lines.specs.Working.{olderPart, newerPart}
@@ -84,7 +84,7 @@ module _ (k : ℕ) (l r w : List ℕ) (m : ℕ) (sound : checkLog k l r w ≡ So
   parts = log-parts k l r w sound
 
   tables : Tables k l r
-  tables = record { left = left-table (parts .machines); right = right-table (parts .machines) }
+  tables = sound-ready k l r w sound .tables
 
   run : RunOf (tablesOf k l r) (jointOf w)
   run = sound-log k l r w sound .run .run

@@ -1,12 +1,13 @@
 -- The lines of a casebook's parts, and of any bytes.
-use Prim.Native.Nat.{ℕ, zero, suc, _+_, _-_, _*_, _/_, _≤_, _<_, min}
-use mathlib.Core.Path.{_≡_, refl, sym, _∙_, ap}
+use Prim.Native.Nat.{ℕ, suc, _+_, _-_, _*_, _/_, _≤_, _<_, min}
+use mathlib.Core.Path.{_≡_, sym, _∙_, ap}
 use mathlib.Core.List.{List, [], _∷_}
 use native.Mathlib.Omega.{arith}
 use lib.ListN.{length, take, drop}
 use lib.Dec.{ltb}
 use borrow.Author.Tests.{ltb-false}
 use Rattle.hml.specs.System.{steps}
+use Rattle.hml.specs.Labels.{positive}
 use Rattle.labels.specs.Refusals.{refusedIf, firstOf}
 use Rattle.labels.specs.declared.refusal.Refusal.{Refusal}
 use Rattle.labels.specs.declared.refusal.Check.the-variants.{Sound}
@@ -68,12 +69,7 @@ module _ (k : ℕ) (l r s f : List ℕ) (asked : Asked k l r s f) where
     pub due-within : (first most total due : ℕ) → total ≡ (length s / 3 + 1) * c → first < total → (most ≡ 0 → ⊥) → due ≡ min most (total - first) → (1 ≤ due) × (first + due ≤ suc (steps (jointOf s)) * c)
     due-within first most total due e h n d =
         let z : suc (steps (jointOf s)) * c ≡ total = ap (_* c) points-are ∙ sym e in
-        let m : 1 ≤ most = some-most most n in
-        (omega (arith, d, m, h), omega (arith, d, z, h))
-      where
-        some-most : (m : ℕ) → (m ≡ 0 → ⊥) → 1 ≤ m
-        some-most zero n = absurd (n refl)
-        some-most (suc m) n = omega arith
+        (omega (arith, d, positive most n, h), omega (arith, d, z, h))
 
 -- none is asked for
 pub none-asked : (xs : List (List ℕ)) (most : ℕ) → most ≡ 0 → take most xs ≡ []

@@ -2,13 +2,13 @@
 use Prim.Native.Nat.{ℕ, zero, suc, _+_, _-_, _*_, _/_, _%_, _≤_, _<_}
 use mathlib.Core.Path.{_≡_, refl, sym, _∙_, ap}
 use mathlib.Core.Bool.{Bool, true, false, cond}
-use mathlib.Core.List.{List, [], _∷_, _++_, append-assoc, append-nil}
+use mathlib.Core.List.{List, _∷_, _++_, append-assoc, append-nil}
 use native.Mathlib.Omega.{arith}
 use native.Mathlib.Nat.{mod-lt, div-add-mod', mul-add-div-right, div-eq-of-lt}
 use lib.ListN.{length, getD, set, take, drop, length-append, length-set}
 use lib.Dec.{eqb, leb, ltb}
 use lib.Seq.{take-at}
-use borrow.Author.Tests.{eq-eqb, ne-eqb, lt-ltb, le-ltb, eqb-false, ltb-true, leb-true}
+use borrow.Author.Tests.{eq-eqb, ne-eqb, lt-ltb, le-ltb, eqb-false, ltb-true}
 use borrow.Rule.Slice.PartMut.{putMid}
 use Rattle.labels.proofs.Slices.{rest}
 use Rattle.sheet_lines.specs.Sheets.{headOf, listed, fitting, bytesOf}
@@ -17,6 +17,7 @@ use Rattle.sheet_lines.specs.declared.point.Point.{Point}
 use Rattle.sheet_lines.proofs.Puts.{drop-put, rest-copied, rest-back}
 use Rattle.sheet_lines.proofs.Filling.{length-listed, listed-behind, bytes-behind, filled-point, full-point}
 use Rattle.sheet_lines.proofs.FillLaws.{fitting-few}
+use Rattle.sheet_lines.proofs.SheetLines.{fitting-room}
 use Rattle.sheet_lines.proofs.Standing.{known-put, known-read, known-new}
 
 -- an ending that stands in the output
@@ -55,16 +56,6 @@ fitting-listed g room n (suc m) = go (leb (length (g n)) room) refl (fitting-lis
         → fitting room (g n ∷ listed g (suc n) m) ≡ listed g n (length (fitting room (g n ∷ listed g (suc n) m)))
     go true e r = rw e (ap (g n ∷_) r)
     go false e r = rw e
-
--- and have room
-fitting-room : (room : ℕ) (xs : List (List ℕ)) → length (bytesOf (fitting room xs)) ≤ room
-unfolding fitting bytesOf
-fitting-room room [] = omega arith
-fitting-room room (x ∷ xs) = go (leb (length x) room) refl (fitting-room (room - length x) xs)
-  where
-    go : (b : Bool) → leb (length x) room ≡ b → length (bytesOf (fitting (room - length x) xs)) ≤ room - length x → length (bytesOf (fitting room (x ∷ xs))) ≤ room
-    go true e h = rw e (omega (arith, leb-true (length x) room e, length-append x (bytesOf (fitting (room - length x) xs)), h))
-    go false e h = rw e (omega arith)
 
 -- the last of some lines ends as all do
 last-ends : (p : Point) (b : List ℕ) (n m : ℕ) → bytesOf (listed (lineWith p b) n (suc m)) ≡ (bytesOf (listed (lineWith p b) n m) ++ headOf (p .number) (n + m) (p .letter)) ++ b

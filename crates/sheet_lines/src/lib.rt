@@ -6,4 +6,3 @@ mod kept;
 mod line;
 pub mod lines;
 mod point;
-mod smaller;

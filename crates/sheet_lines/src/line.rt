@@ -3,7 +3,7 @@ use crate::digits::digit_count;
 use crate::digits::put_decimal;
 use crate::point::Point;
 use crate::point::Progress;
-use crate::smaller::smaller;
+use labels::number::smaller;
 ghost use mathlib.Core.Path.{_≡_};
 ghost use Prim.Native.Nat.{_+_, _-_, _≤_, _<_};
 ghost use lib.ListN.{length, take, drop, set};

@@ -3,7 +3,7 @@ use crate::ending::find_ending;
 use crate::kept::Kept;
 use crate::kept::keep_halves;
 use crate::line::write_turn;
-use crate::smaller::smaller;
+use labels::number::smaller;
 use splitting::count::Counted;
 use splitting::count::count;
 use verdict::answer::Verdict;

@@ -10,6 +10,7 @@ use lib.Seq.{take-nil, drop-nil, take-append-add, drop-append-add}
 use Rattle.hml.specs.Lists.{each}
 use Rattle.hml.proofs.Lists.{length-each}
 use Rattle.hml.specs.Machine.{Row}
+use Rattle.labels.proofs.Slices.{no-bytes}
 use Rattle.tables.specs.Tables.{threes}
 
 -- bytes that are chunks of k, with g for the bytes of each, and fewer than k at the end
@@ -24,10 +25,6 @@ pub record Chunks {B : Type 0} (k : ℕ) (g : B → List ℕ) (f : List ℕ → 
   pub none : (bs : List ℕ) → length bs < k → f bs ≡ []
   pub one : (e : B) (bs : List ℕ) → f (g e ++ bs) ≡ e ∷ f bs
   pub every : (bs : List ℕ) → Chunked k g bs
-
-no-bytes : (l : List ℕ) → length l ≡ 0 → l ≡ []
-no-bytes [] e = refl
-no-bytes (b ∷ l) e = absurd (omega arith)
 
 module _ {B : Type 0} {k : ℕ} {g : B → List ℕ} {f : List ℕ → List B} (c : Chunks k g f) where
   -- bytes are the chunks that are read, and fewer than k
