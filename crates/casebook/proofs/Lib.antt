@@ -4,3 +4,4 @@ pub mod Reading
 pub mod RoundTrip
 pub mod Enough
 pub mod Writing
+pub mod Values

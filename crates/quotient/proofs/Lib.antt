@@ -7,3 +7,4 @@ pub mod Judging
 pub mod QuotientCalls
 pub mod LineOffice
 pub mod Published
+pub mod Values

@@ -5,3 +5,4 @@ pub mod SplitCalls
 pub mod Unrolling
 pub mod AllSplittings
 pub mod Published
+pub mod Values
