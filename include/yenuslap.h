@@ -25,8 +25,9 @@
  * The stack. Each call works on the stack of its thread alone. The most that was measured, on x86-64, is 0.7 MiB
  * for a verdict on a formula of 4,096 nodes, and 1.1 MiB for yenuslap_sheet_lines.
  *
- * Answers. A call answers one number: take it apart by yenuslap_refusal and yenuslap_value below. Only
- * yenuslap_sheet_lines answers a struct.
+ * Answers. A call answers one uint64_t: take it apart by yenuslap_refusal and yenuslap_value below, which is
+ * proved to give number and value of every answer. Two calls answer otherwise: yenuslap_cut a length alone, since
+ * a half that is cut may have any length, and yenuslap_sheet_lines a struct.
  *
  *   uint64_t answer = yenuslap_count_splittings(k, left, left_len, right, right_len, run, run_len);
  *   if (yenuslap_refusal(answer) == YENUSLAP_NOT_REFUSED)
@@ -73,13 +74,13 @@ enum yenuslap_refusal_number {
     YENUSLAP_REFUSED_OUTPUT_TOO_SHORT = 18     /* an output shorter than the answer; judged last */
 };
 
-/* The refusal's number in an answer, YENUSLAP_NOT_REFUSED if there is none. */
+/* The refusal's number in an answer of one uint64_t, YENUSLAP_NOT_REFUSED if there is none. */
 static inline uint32_t yenuslap_refusal(uint64_t answer)
 {
     return (uint32_t)(answer >> 32);
 }
 
-/* The value in an answer, 0 when refused. */
+/* The value in such an answer, 0 when refused. */
 static inline uint32_t yenuslap_value(uint64_t answer)
 {
     return (uint32_t)(answer & 0xffffffffu);
@@ -183,13 +184,13 @@ uint64_t yenuslap_join(uint8_t k,
                        uint8_t *out, size_t out_len);
 
 /* Cuts the known half at a point: the part is that half's beginning, where it lies. Looks at the known half's
- * length alone.
- *   value    the part's length, at least 1
- *   refused  12 (at every point if the known half has an even length)
+ * length alone, whatever it is. Answers the part's length itself: do not take it apart.
+ *   length   of the part, at least 1; 0 when refused
+ *   refused  12 (at every point if the known half has an even length), its only refusal
  *   lent     all is only read */
-uint64_t yenuslap_cut(const uint8_t *left_half, size_t left_half_len,
-                      const uint8_t *right_half, size_t right_half_len,
-                      uint8_t side, size_t point);
+size_t yenuslap_cut(const uint8_t *left_half, size_t left_half_len,
+                    const uint8_t *right_half, size_t right_half_len,
+                    uint8_t side, size_t point);
 
 /* Writes the quotient of a question of 1 to 64 nodes by the known half stopped at a point into out: what the
  * question demands of the other half.

@@ -44,6 +44,12 @@ void check_answer(const char *file, int line, uint64_t refusal, uint64_t value, 
                (unsigned long)number, (unsigned long)given, (unsigned long)refusal, (unsigned long)value);
 }
 
+void check_length(const char *file, int line, size_t expected, size_t length)
+{
+    if (fails(file, line, length == expected))
+        printf("length %lu, expected length %lu\n", (unsigned long)length, (unsigned long)expected);
+}
+
 void check_output(const char *file, int line, const struct output *output, const uint8_t *expected, size_t len)
 {
     size_t at = 0;

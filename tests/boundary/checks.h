@@ -17,6 +17,8 @@ extern "C" {
 #define GIVES(value, answer) check_answer(__FILE__, __LINE__, YENUSLAP_NOT_REFUSED, value, answer)
 /* Expects a refusal under this number, with the value 0. */
 #define REFUSES(number, answer) check_answer(__FILE__, __LINE__, number, 0, answer)
+/* Expects a part of this length. */
+#define IS_LONG(expected, length) check_length(__FILE__, __LINE__, expected, length)
 
 /* Expects these bytes at the front of an output, and its pattern everywhere else. */
 #define HOLDS(output, array) check_output(__FILE__, __LINE__, output, array, sizeof(array))
@@ -35,6 +37,7 @@ struct output {
 uint8_t *lend(struct output *output, size_t len);
 
 void check_answer(const char *file, int line, uint64_t refusal, uint64_t value, uint64_t answer);
+void check_length(const char *file, int line, size_t expected, size_t length);
 void check_output(const char *file, int line, const struct output *output, const uint8_t *expected, size_t len);
 void check_lines(const char *file, int line, struct yenuslap_lines expected, struct yenuslap_lines answer);
 

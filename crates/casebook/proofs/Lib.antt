@@ -5,3 +5,4 @@ pub mod RoundTrip
 pub mod Registrar
 pub mod Enough
 pub mod Writing
+pub mod Values

@@ -1,10 +1,10 @@
 -- Reading a casebook: document 01, "The casebook" and "Who can cause a refusal": "Checked record by record, in the
 -- order 1 (header), 2, 3, 1 (body), then contents from left to right."
 use Prim.Native.Nat.{ℕ}
-use mathlib.Core.List.{List}
+use mathlib.Core.List.{List, [], _∷_}
 use lib.ListN.{length, getD}
 use lib.Dec.{ltb}
-use Rattle.labels.specs.Refusals.{refusedIf}
+use Rattle.labels.specs.Refusals.{refusedIf, Answer, refusedAs, giving}
 use Rattle.labels.specs.Labels.{checkPairs}
 use Rattle.labels.specs.declared.refusal.Check.{Check}
 use Rattle.labels.specs.declared.refusal.Check.the-variants as check
@@ -17,6 +17,7 @@ use Rattle.casebook.specs.declared.record.Cursor.{Cursor}
 use Rattle.casebook.specs.declared.record.Record.{Record}
 use Rattle.casebook.specs.declared.record.Next.{Next}
 use Rattle.casebook.specs.declared.record.Next.the-variants as next
+use Rattle.casebook.specs.declared.read.Parts.{Parts}
 use Rattle.casebook.specs.declared.read.Reading.{Reading}
 use Rattle.casebook.specs.declared.read.Reading.the-variants as reading
 
@@ -52,3 +53,18 @@ readLeft s k at = after (nextAt s at 2) (λ l c. ifSound (checkTable k (bodyOf s
 unfoldable pub readOf : List ℕ → Reading
 readOf s =
     after (nextAt s 0 1) (λ h c. ifSound (checkPairs (getD s (h .start) 0)) (readLeft s (getD s (h .start) 0) (c .at)))
+
+-- the number of a reading, and its values: k, then start and length of the bodies of the four other records
+unfoldable pub readAnswer : Reading → Answer
+readAnswer (reading.Casebook p) = giving
+    (p .pairs
+    ∷ p .left .start
+    ∷ p .left .len
+    ∷ p .right .start
+    ∷ p .right .len
+    ∷ p .run .start
+    ∷ p .run .len
+    ∷ p .question .start
+    ∷ p .question .len
+    ∷ [])
+readAnswer (reading.Refused x) = refusedAs x

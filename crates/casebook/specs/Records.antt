@@ -6,6 +6,7 @@ use mathlib.Core.Bool.{Bool, false, cond, _&&_, _||_, not}
 use mathlib.Core.List.{List, [], _∷_, _++_}
 use lib.ListN.{length, getD, take, drop}
 use lib.Dec.{eqb, leb, ltb}
+use Rattle.labels.specs.Refusals.{Answer, refusedAs, giving}
 use Rattle.labels.specs.declared.refusal.Refusal.the-variants.{Truncated, WrongKind, WrongLength}
 use Rattle.casebook.specs.declared.record.Record.{Record}
 use Rattle.casebook.specs.declared.record.Next.{Next}
@@ -44,6 +45,11 @@ nextAt s at kind =
     (cond (ltb (length s) (at + 2 + wordAt s at)) (next.Refused Truncated)
     (next.Found (record { kind = kind; start = at + 4; len = wordAt s at - 2 })
     (record { at = at + 2 + wordAt s at })))))
+
+-- the number of such a step, and its values: kind, start and length of the record's body, and the next position
+unfoldable pub nextAnswer : Next → Answer
+nextAnswer (next.Found r c) = giving (r .kind ∷ r .start ∷ r .len ∷ c .at ∷ [])
+nextAnswer (next.Refused x) = refusedAs x
 
 -- the body of a record
 unfoldable pub bodyOf : List ℕ → Record → List ℕ

@@ -3,7 +3,7 @@ use Prim.Native.Nat.{ℕ}
 use mathlib.Core.List.{List, [], _∷_, _++_}
 use lib.ListN.{length}
 use lib.Dec.{ltb}
-use Rattle.labels.specs.Refusals.{refusedIf, firstOf, outputOf}
+use Rattle.labels.specs.Refusals.{refusedIf, firstOf, outputOf, Answer, refusedAs, giving}
 use Rattle.labels.specs.Labels.{checkPairs}
 use Rattle.labels.specs.declared.refusal.Check.{Check}
 use Rattle.labels.specs.declared.refusal.Check.the-variants as check
@@ -37,6 +37,11 @@ answered (check.Refused x) n = writing.Refused x
 
 unfoldable pub writeOf : ℕ → List ℕ → List ℕ → List ℕ → List ℕ → ℕ → Writing
 writeOf k l r j q room = answered (checkWrite k l r j q room) (length (casebookBytes k l r j q))
+
+-- the number of a writing, and its value: how many bytes were written
+unfoldable pub writeAnswer : Writing → Answer
+writeAnswer (writing.Written n) = giving (n ∷ [])
+writeAnswer (writing.Refused x) = refusedAs x
 
 -- the lent output afterwards
 unfoldable pub writtenOf : ℕ → List ℕ → List ℕ → List ℕ → List ℕ → List ℕ → List ℕ

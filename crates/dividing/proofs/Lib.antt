@@ -8,3 +8,4 @@ pub mod Forwards
 pub mod QuotientSize
 pub mod Answers
 pub mod Division
+pub mod Values

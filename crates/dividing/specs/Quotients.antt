@@ -11,7 +11,7 @@ use Rattle.hml.specs.Formula.{Formula, size}
 use Rattle.hml.specs.Spell.{spell}
 use Rattle.hml.specs.Quotient.{quotient}
 use Rattle.hml.specs.Labels.{pairs}
-use Rattle.labels.specs.Refusals.{refusedIf, firstOf, outputOf}
+use Rattle.labels.specs.Refusals.{refusedIf, firstOf, outputOf, Answer, refusedAs, giving}
 use Rattle.labels.specs.Labels.{checkPairs}
 use Rattle.labels.specs.declared.refusal.Check.{Check}
 use Rattle.labels.specs.declared.refusal.Check.the-variants as check
@@ -54,6 +54,11 @@ written (check.Refused x) n = answer.Refused x
 
 unfoldable pub answerOf : Check → Option Formula → ℕ → Quotient
 answerOf parts tree room = written (checkTree parts tree room) (2 * nodesOf tree)
+
+-- the number of a quotient, and its value: how many bytes were written
+unfoldable pub quotientAnswer : Quotient → Answer
+quotientAnswer (answer.Written n) = giving (n ∷ [])
+quotientAnswer (answer.Refused x) = refusedAs x
 
 -- the lent output afterwards
 unfoldable pub outputAfter : Check → Option Formula → List ℕ → List ℕ

@@ -1,6 +1,13 @@
 -- What functions inside the crate promise each other. No public promise cites this file.
-use Prim.Native.Nat.{_+_, _≤_}
+use Prim.Native.Nat.{ℕ, _+_, _≤_}
+use mathlib.Core.List.{List}
+use Rattle.casebook.specs.Reading.{readAnswer}
 use Rattle.casebook.specs.declared.read.Parts.{Parts}
+use Rattle.casebook.specs.declared.read.Reading.the-variants.{Casebook}
+
+-- the values of a casebook that was read
+abbrev pub placesOf : Parts → List ℕ
+placesOf p = readAnswer (Casebook p) .values
 
 -- records that lie in a sound casebook
 pub record Placed (p : Parts) : Type 0 where

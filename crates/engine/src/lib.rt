@@ -1,5 +1,5 @@
-// The calls for C and Rust: numbers as themselves, slices as pointer and length. Each answers one number: the refusal's number
-// times 2^32, plus the value (0 when refused); lines of the sheet have an answer of their own (sheet).
+// The calls for C and Rust: numbers as themselves, slices as pointer and length. Each answers one number: the refusal's
+// number times 2^32, plus the value (0 when refused). Only a cut answers a length, and lines of the sheet a struct.
 pub mod sheet;
 
 use casebook::read::Parts;
@@ -26,19 +26,23 @@ use verdict::answer::Verdict;
 use verdict::half::half;
 use verdict::joint::joint;
 ghost use mathlib.Core.Path.{_≡_};
-ghost use Prim.Native.Nat.{_+_, _≤_};
+ghost use Prim.Native.Nat.{_+_, _*_, _≤_};
 ghost use lib.ListN.{length};
-ghost use Rattle.casebook.specs.Reading.{readOf};
-ghost use Rattle.casebook.specs.Writing.{writeOf, writtenOf};
-ghost use Rattle.verdict.specs.Verdicts.{jointVerdict, halfVerdict};
-ghost use Rattle.splitting.specs.Splittings.{countOf, splitOf, leftOutput, rightOutput};
-ghost use Rattle.joining.specs.Joinings.{joiningOf, joinOutput};
-ghost use Rattle.quotient.specs.Calls.{byHalf, byHalfOutput, byNumber, byNumberOutput, officeOf};
-ghost use Rattle.engine.specs.Answers.{refusedAs, readAnswer, placeOf, placeIn, partAnswer, writeAnswer, sideOf, cutAnswer, verdictAnswer, countAnswer, splitAnswer, joinAnswer, quotientAnswer, bitOf, lineAnswer};
-ghost use Rattle.engine.specs.Working.{Placed};
+ghost use Rattle.labels.specs.Refusals.{refusedAs};
+ghost use Rattle.halves.specs.Cuts.{cutOf};
+ghost use Rattle.casebook.specs.Reading.{readOf, readAnswer};
+ghost use Rattle.casebook.specs.Writing.{writeOf, writtenOf, writeAnswer};
+ghost use Rattle.verdict.specs.Verdicts.{jointVerdict, halfVerdict, verdictAnswer, bitOf};
+ghost use Rattle.splitting.specs.Splittings.{countOf, countAnswer, splitOf, splitAnswer, leftOutput, rightOutput};
+ghost use Rattle.joining.specs.Joinings.{joiningOf, joinOutput, joinAnswer};
+ghost use Rattle.dividing.specs.Quotients.{quotientAnswer};
+ghost use Rattle.quotient.specs.Calls.{byHalf, byHalfOutput, byNumber, byNumberOutput, officeOf, lineAnswer};
+ghost use Rattle.engine.specs.Answers.{packed, nothing, only, twoBits, placeIn, sideOf};
+ghost use Rattle.engine.specs.Working.{Placed, placesOf};
 
+// A refusal as a number.
 fn refused(refusal: Refusal) -> u64
-    ensures { λ r. ⌜ r ≡ refusedAs refusal ⌝ }
+    ensures { λ r. ⌜ r ≡ packed only (refusedAs refusal) ⌝ }
 {
     let number = refusal.number();
     number as u64 * 4294967296
@@ -47,7 +51,7 @@ fn refused(refusal: Refusal) -> u64
 // Reads a casebook: value 0.
 #[no_mangle]
 pub extern "C" fn yenuslap_casebook_read(bytes: &[u8]) -> u64
-    ensures { λ r. ⌜ r ≡ readAnswer (readOf (now (bytes .entry))) ⌝ }
+    ensures { λ r. ⌜ r ≡ packed nothing (readAnswer (readOf (now (bytes .entry)))) ⌝ }
 {
     match read(bytes) {
         Reading::Casebook(_) => 0,
@@ -58,7 +62,7 @@ pub extern "C" fn yenuslap_casebook_read(bytes: &[u8]) -> u64
 // Where the body of the record of a kind lies: value start * 65536 + length.
 #[no_mangle]
 pub extern "C" fn yenuslap_casebook_part(bytes: &[u8], kind: u8) -> u64
-    ensures { λ r. ⌜ r ≡ partAnswer (readOf (now (bytes .entry))) kind ⌝ }
+    ensures { λ r. ⌜ r ≡ packed (placeIn kind) (readAnswer (readOf (now (bytes .entry)))) ⌝ }
 {
     match read(bytes) {
         Reading::Casebook(parts) => place_in(parts, kind),
@@ -68,7 +72,7 @@ pub extern "C" fn yenuslap_casebook_part(bytes: &[u8], kind: u8) -> u64
 
 fn place_in(parts: Parts, kind: u8) -> u64
     requires { ⌜ Placed parts ⌝ }
-    ensures { λ r. ⌜ r ≡ placeIn parts kind ⌝ }
+    ensures { λ r. ⌜ r ≡ placeIn kind (placesOf parts) ⌝ }
 {
     if kind == 1 {
         return 262145;
@@ -90,7 +94,7 @@ fn place_in(parts: Parts, kind: u8) -> u64
 
 fn place(record: Record) -> u64
     requires { ⌜ «record» .start + «record» .len ≤ 3825 ⌝ }
-    ensures { λ r. ⌜ r ≡ placeOf «record» ⌝ }
+    ensures { λ r. ⌜ r ≡ «record» .start * 65536 + «record» .len ⌝ }
 {
     let start = record.start;
     let len = record.len;
@@ -107,8 +111,12 @@ pub extern "C" fn yenuslap_casebook_write(
     question: &[u8],
     out: &mut [u8],
 ) -> u64
-    ensures { λ r. ⌜ r ≡ writeAnswer (writeOf k (now (left .entry)) (now (right .entry)) (now (run .entry)) (now (question .entry)) (length (now (out .entry)))) ⌝ }
-    ensures { λ r. ⌜ now (out .exit) ≡ writtenOf k (now (left .entry)) (now (right .entry)) (now (run .entry)) (now (question .entry)) (now (out .entry)) ⌝ }
+    ensures { λ r. ⌜ r ≡ packed only (writeAnswer
+        (writeOf k (now (left .entry)) (now (right .entry)) (now (run .entry)) (now (question .entry))
+        (length (now (out .entry))))) ⌝ }
+    ensures { λ r. ⌜ now (out .exit) ≡
+        writtenOf k (now (left .entry)) (now (right .entry)) (now (run .entry)) (now (question .entry))
+        (now (out .entry)) ⌝ }
 {
     match write(k, left, right, run, question, out) {
         Writing::Written(n) => n as u64,
@@ -129,21 +137,18 @@ fn side_of(side: u8) -> Side
     Side::Unnamed
 }
 
-// Cuts the known half at a point: value length of the part.
+// Cuts the known half at a point: the length of the part, 0 where it is refused (12).
 #[no_mangle]
-pub extern "C" fn yenuslap_cut<'a>(left: &'a [u8], right: &'a [u8], side: u8, point: usize) -> u64
-    ensures { λ r. ⌜ r ≡ cutAnswer (now (left .entry)) (now (right .entry)) side point ⌝ }
+pub extern "C" fn yenuslap_cut<'a>(left: &'a [u8], right: &'a [u8], side: u8, point: usize) -> usize
+    ensures { λ r. ⌜ r ≡ length (cutOf (now (left .entry)) (now (right .entry)) (sideOf side) point) ⌝ }
 {
     let part = cut(left, right, side_of(side), point);
-    if part.len() == 0 {
-        return refused(Refusal::PointBeyond);
-    }
-    part.len() as u64
+    part.len()
 }
 
 // A verdict as a number: 1 holds, 0 fails.
 fn verdict_value(verdict: Verdict) -> u64
-    ensures { λ r. ⌜ r ≡ verdictAnswer verdict ⌝ }
+    ensures { λ r. ⌜ r ≡ packed only (verdictAnswer verdict) ⌝ }
 {
     match verdict {
         Verdict::Holds => 1,
@@ -162,7 +167,8 @@ pub extern "C" fn yenuslap_joint_verdict(
     formula: &[u8],
     point: usize,
 ) -> u64
-    ensures { λ r. ⌜ r ≡ verdictAnswer (jointVerdict k (now (left .entry)) (now (right .entry)) (now (run .entry)) (now (formula .entry)) point) ⌝ }
+    ensures { λ r. ⌜ r ≡ packed only (verdictAnswer
+        (jointVerdict k (now (left .entry)) (now (right .entry)) (now (run .entry)) (now (formula .entry)) point)) ⌝ }
 {
     verdict_value(joint(k, left, right, run, formula, point))
 }
@@ -176,7 +182,8 @@ pub extern "C" fn yenuslap_half_verdict(
     formula: &[u8],
     point: usize,
 ) -> u64
-    ensures { λ r. ⌜ r ≡ verdictAnswer (halfVerdict k (now (table .entry)) (now («half_run» .entry)) (now (formula .entry)) point) ⌝ }
+    ensures { λ r. ⌜ r ≡ packed only (verdictAnswer
+        (halfVerdict k (now (table .entry)) (now («half_run» .entry)) (now (formula .entry)) point)) ⌝ }
 {
     verdict_value(half(k, table, half_run, formula, point))
 }
@@ -184,7 +191,8 @@ pub extern "C" fn yenuslap_half_verdict(
 // How many splittings a joint run has: value count.
 #[no_mangle]
 pub extern "C" fn yenuslap_count_splittings(k: u8, left: &[u8], right: &[u8], run: &[u8]) -> u64
-    ensures { λ r. ⌜ r ≡ countAnswer (countOf k (now (left .entry)) (now (right .entry)) (now (run .entry))) ⌝ }
+    ensures { λ r. ⌜ r ≡ packed only (countAnswer
+        (countOf k (now (left .entry)) (now (right .entry)) (now (run .entry)))) ⌝ }
 {
     match count(k, left, right, run) {
         Counted::Splittings(n) => n as u64,
@@ -203,9 +211,15 @@ pub extern "C" fn yenuslap_split(
     left_out: &mut [u8],
     right_out: &mut [u8],
 ) -> u64
-    ensures { λ r. ⌜ r ≡ splitAnswer (splitOf k (now (left .entry)) (now (right .entry)) (now (run .entry)) number (length (now («left_out» .entry))) (length (now («right_out» .entry)))) ⌝ }
-    ensures { λ r. ⌜ now («left_out» .exit) ≡ leftOutput k (now (left .entry)) (now (right .entry)) (now (run .entry)) number (now («left_out» .entry)) (length (now («right_out» .entry))) ⌝ }
-    ensures { λ r. ⌜ now («right_out» .exit) ≡ rightOutput k (now (left .entry)) (now (right .entry)) (now (run .entry)) number (length (now («left_out» .entry))) (now («right_out» .entry)) ⌝ }
+    ensures { λ r. ⌜ r ≡ packed only (splitAnswer
+        (splitOf k (now (left .entry)) (now (right .entry)) (now (run .entry)) number
+        (length (now («left_out» .entry))) (length (now («right_out» .entry))))) ⌝ }
+    ensures { λ r. ⌜ now («left_out» .exit) ≡
+        leftOutput k (now (left .entry)) (now (right .entry)) (now (run .entry)) number
+        (now («left_out» .entry)) (length (now («right_out» .entry))) ⌝ }
+    ensures { λ r. ⌜ now («right_out» .exit) ≡
+        rightOutput k (now (left .entry)) (now (right .entry)) (now (run .entry)) number
+        (length (now («left_out» .entry))) (now («right_out» .entry)) ⌝ }
 {
     match split(k, left, right, run, number, left_out, right_out) {
         Splitting::Halves(n) => n as u64,
@@ -223,8 +237,12 @@ pub extern "C" fn yenuslap_join(
     right_half: &[u8],
     out: &mut [u8],
 ) -> u64
-    ensures { λ r. ⌜ r ≡ joinAnswer (joiningOf k (now (left .entry)) (now (right .entry)) (now («left_half» .entry)) (now («right_half» .entry)) (length (now (out .entry)))) ⌝ }
-    ensures { λ r. ⌜ now (out .exit) ≡ joinOutput k (now (left .entry)) (now (right .entry)) (now («left_half» .entry)) (now («right_half» .entry)) (now (out .entry)) ⌝ }
+    ensures { λ r. ⌜ r ≡ packed only (joinAnswer
+        (joiningOf k (now (left .entry)) (now (right .entry))
+        (now («left_half» .entry)) (now («right_half» .entry)) (length (now (out .entry))))) ⌝ }
+    ensures { λ r. ⌜ now (out .exit) ≡
+        joinOutput k (now (left .entry)) (now (right .entry))
+        (now («left_half» .entry)) (now («right_half» .entry)) (now (out .entry)) ⌝ }
 {
     match join(k, left, right, left_half, right_half, out) {
         Joining::Joined(n) => n as u64,
@@ -234,7 +252,7 @@ pub extern "C" fn yenuslap_join(
 
 // A quotient that was written, as a number: its length in bytes.
 fn quotient_value(quotient: Quotient) -> u64
-    ensures { λ r. ⌜ r ≡ quotientAnswer quotient ⌝ }
+    ensures { λ r. ⌜ r ≡ packed only (quotientAnswer quotient) ⌝ }
 {
     match quotient {
         Quotient::Written(n) => n as u64,
@@ -255,8 +273,12 @@ pub extern "C" fn yenuslap_quotient<'a>(
     point: usize,
     out: &mut [u8],
 ) -> u64
-    ensures { λ r. ⌜ r ≡ quotientAnswer (byHalf k (now (left .entry)) (now (right .entry)) (now («left_half» .entry)) (now («right_half» .entry)) (now (question .entry)) (sideOf side) point (length (now (out .entry)))) ⌝ }
-    ensures { λ r. ⌜ now (out .exit) ≡ byHalfOutput k (now (left .entry)) (now (right .entry)) (now («left_half» .entry)) (now («right_half» .entry)) (now (question .entry)) (sideOf side) point (now (out .entry)) ⌝ }
+    ensures { λ r. ⌜ r ≡ packed only (quotientAnswer
+        (byHalf k (now (left .entry)) (now (right .entry)) (now («left_half» .entry)) (now («right_half» .entry))
+        (now (question .entry)) (sideOf side) point (length (now (out .entry))))) ⌝ }
+    ensures { λ r. ⌜ now (out .exit) ≡
+        byHalfOutput k (now (left .entry)) (now (right .entry)) (now («left_half» .entry)) (now («right_half» .entry))
+        (now (question .entry)) (sideOf side) point (now (out .entry)) ⌝ }
 {
     let side = side_of(side);
     quotient_value(by_half(
@@ -272,7 +294,8 @@ pub extern "C" fn yenuslap_quotient<'a>(
     ))
 }
 
-// Writes the quotient of a question by the known half of the splitting of a number, stopped at a point: value bytes written.
+// Writes the quotient of a question by the known half of the splitting of a number, stopped at a point: value bytes
+// written.
 #[no_mangle]
 pub extern "C" fn yenuslap_quotient_of_splitting<'a>(
     k: u8,
@@ -285,8 +308,12 @@ pub extern "C" fn yenuslap_quotient_of_splitting<'a>(
     point: usize,
     out: &mut [u8],
 ) -> u64
-    ensures { λ r. ⌜ r ≡ quotientAnswer (byNumber k (now (left .entry)) (now (right .entry)) (now (run .entry)) (now (question .entry)) number (sideOf side) point (length (now (out .entry)))) ⌝ }
-    ensures { λ r. ⌜ now (out .exit) ≡ byNumberOutput k (now (left .entry)) (now (right .entry)) (now (run .entry)) (now (question .entry)) number (sideOf side) point (now (out .entry)) ⌝ }
+    ensures { λ r. ⌜ r ≡ packed only (quotientAnswer
+        (byNumber k (now (left .entry)) (now (right .entry)) (now (run .entry)) (now (question .entry)) number
+        (sideOf side) point (length (now (out .entry))))) ⌝ }
+    ensures { λ r. ⌜ now (out .exit) ≡
+        byNumberOutput k (now (left .entry)) (now (right .entry)) (now (run .entry)) (now (question .entry)) number
+        (sideOf side) point (now (out .entry)) ⌝ }
 {
     let side = side_of(side);
     quotient_value(by_number(k, left, right, run, question, number, side, point, out))
@@ -314,7 +341,9 @@ pub extern "C" fn yenuslap_line_office<'a>(
     side: u8,
     point: usize,
 ) -> u64
-    ensures { λ r. ⌜ r ≡ lineAnswer (officeOf k (now (left .entry)) (now (right .entry)) (now («left_half» .entry)) (now («right_half» .entry)) (now (question .entry)) (sideOf side) point) ⌝ }
+    ensures { λ r. ⌜ r ≡ packed twoBits (lineAnswer
+        (officeOf k (now (left .entry)) (now (right .entry)) (now («left_half» .entry)) (now («right_half» .entry))
+        (now (question .entry)) (sideOf side) point)) ⌝ }
 {
     let side = side_of(side);
     match line_office(k, left, right, left_half, right_half, question, side, point) {

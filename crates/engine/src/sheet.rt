@@ -3,8 +3,8 @@ use sheet_lines::lines::Lines;
 use sheet_lines::lines::write_lines;
 ghost use mathlib.Core.Path.{_≡_};
 ghost use lib.ListN.{length};
-ghost use Rattle.sheet_lines.specs.Sheets.{linesDue, blockAnswer, blockOutput};
-ghost use Rattle.engine.specs.Answers.{linesAnswer};
+ghost use Rattle.sheet_lines.specs.Sheets.{linesDue, blockAnswer, blockOutput, linesAnswer};
+ghost use Rattle.engine.specs.Answers.{linesTold};
 
 // The refusal's number, or 0; how many lines were written, and how many bytes they are.
 #[repr(C)]
@@ -22,7 +22,8 @@ pub extern "C" fn yenuslap_sheet_lines(
     most: usize,
     out: &mut [u8],
 ) -> LinesAnswer
-    ensures { λ r. ⌜ r ≡ linesAnswer (blockAnswer (linesDue (now (casebook .entry)) first most) (length (now (out .entry)))) ⌝ }
+    ensures { λ r. ⌜ r ≡ linesTold (linesAnswer
+        (blockAnswer (linesDue (now (casebook .entry)) first most) (length (now (out .entry))))) ⌝ }
     ensures { λ r. ⌜ now (out .exit) ≡ blockOutput (linesDue (now (casebook .entry)) first most) (now (out .entry)) ⌝ }
 {
     match write_lines(casebook, first, most, out) {

@@ -12,7 +12,7 @@ use Rattle.hml.specs.System.{Run}
 use Rattle.hml.specs.Compose.{paired}
 use Rattle.hml.specs.Joining.{join}
 use Rattle.hml.specs.Labels.{pairs}
-use Rattle.labels.specs.Refusals.{refusedIf, firstOf, outputOf}
+use Rattle.labels.specs.Refusals.{refusedIf, firstOf, outputOf, Answer, refusedAs, giving}
 use Rattle.labels.specs.Labels.{checkPairs}
 use Rattle.labels.specs.declared.refusal.Check.{Check}
 use Rattle.labels.specs.declared.refusal.Check.the-variants as check
@@ -61,6 +61,11 @@ joined (check.Refused x) n = joining.Refused x
 
 unfoldable pub joiningOf : ℕ → List ℕ → List ℕ → List ℕ → List ℕ → ℕ → Joining
 joiningOf k l r a b room = joined (checkJoin k l r a b room) (length (joinBytes k a b))
+
+-- the number of a join, and its value: the length of the joint run, in bytes
+unfoldable pub joinAnswer : Joining → Answer
+joinAnswer (joining.Joined n) = giving (n ∷ [])
+joinAnswer (joining.Refused x) = refusedAs x
 
 -- the lent output afterwards
 unfoldable pub joinOutput : ℕ → List ℕ → List ℕ → List ℕ → List ℕ → List ℕ → List ℕ

@@ -2,3 +2,4 @@ pub mod Slices
 pub mod Outputs
 pub mod Refusals
 pub mod Labels
+pub mod Answers

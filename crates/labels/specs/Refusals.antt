@@ -52,3 +52,20 @@ inFront b xs = b ++ drop (length b) xs
 abbrev pub outputOf : Check → List ℕ → List ℕ → List ℕ
 outputOf Sound bytes out = inFront bytes out
 outputOf (Refused r) bytes out = out
+
+-- what a call answers, in document 01's terms: its number, 0 where nothing is refused, and its values, none where it is
+pub record Answer : Type 0 where
+  pub number : ℕ
+  pub values : List ℕ
+
+-- "A refusal is its number only"
+abbrev pub refusedAs : Refusal → Answer
+refusedAs r = record { number = numberOf r; values = [] }
+
+abbrev pub giving : List ℕ → Answer
+giving ns = record { number = 0; values = ns }
+
+-- a check: its number alone
+unfoldable pub checkAnswer : Check → Answer
+checkAnswer Sound = giving []
+checkAnswer (Refused r) = refusedAs r

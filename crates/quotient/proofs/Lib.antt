@@ -6,3 +6,4 @@ pub mod Windows
 pub mod Judging
 pub mod QuotientCalls
 pub mod LineOffice
+pub mod Values

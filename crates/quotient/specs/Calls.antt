@@ -9,7 +9,7 @@ use lib.ListN.{length}
 use lib.Dec.{leb, ltb}
 use Rattle.hml.specs.System.{steps, stop}
 use Rattle.hml.specs.Formula.{Formula}
-use Rattle.labels.specs.Refusals.{refusedIf, firstOf}
+use Rattle.labels.specs.Refusals.{refusedIf, firstOf, Answer, refusedAs, giving}
 use Rattle.labels.specs.Labels.{checkPairs}
 use Rattle.labels.specs.declared.refusal.Check.{Check}
 use Rattle.labels.specs.declared.refusal.Check.the-variants as check
@@ -20,7 +20,7 @@ use Rattle.halves.specs.Cuts.{knownOf, knownPart, otherPart, beyond}
 use Rattle.halves.specs.declared.side.Side.{Side}
 use Rattle.machines.specs.Joints.{jointOf, checkJoint}
 use Rattle.formulas.specs.Formulas.{questionLimit, checkFormula}
-use Rattle.verdict.specs.Verdicts.{jointHolds, halfHolds}
+use Rattle.verdict.specs.Verdicts.{jointHolds, halfHolds, bitOf}
 use Rattle.joining.specs.Joinings.{halvesMatch, joinBytes}
 use Rattle.splitting.specs.Splittings.{splittingsOf, splittingLimit, leftHalf, rightHalf}
 use Rattle.dividing.specs.Quotients.{quotientBy, textOf, checkSize, answerOf, outputAfter}
@@ -95,6 +95,11 @@ verdictsOf (check.Refused x) j h = line.Refused x
 
 unfoldable pub officeOf : ℕ → List ℕ → List ℕ → List ℕ → List ℕ → List ℕ → Side → ℕ → LineOffice
 officeOf k l r a b f side point = verdictsOf (checkLine k l r a b f side point) (lineHolds k l r a b f point) (machineHolds k l r a b f side point)
+
+-- the number of the line office, and its values: the line's verdict and the machine's
+unfoldable pub lineAnswer : LineOffice → Answer
+lineAnswer (line.Verdicts j h) = giving (bitOf j ∷ bitOf h ∷ [])
+lineAnswer (line.Refused x) = refusedAs x
 
 -- where both are given they are the same
 unfoldable pub Same : LineOffice → Type 0

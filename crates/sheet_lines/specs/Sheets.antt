@@ -7,7 +7,7 @@ use lib.ListN.{length, take, drop}
 use lib.Dec.{leb, ltb}
 use Rattle.hml.specs.Lists.{each}
 use Rattle.hml.specs.System.{steps}
-use Rattle.labels.specs.Refusals.{numberOf, refusedIf, outputOf}
+use Rattle.labels.specs.Refusals.{numberOf, refusedIf, outputOf, Answer, refusedAs, giving}
 use Rattle.labels.specs.declared.refusal.Refusal.{Refusal}
 use Rattle.labels.specs.declared.refusal.Refusal.the-variants.{OutputTooShort}
 use Rattle.labels.specs.declared.refusal.Check.{Check}
@@ -134,3 +134,8 @@ blockAnswer due room = writtenOr (checkRoom due room) (fitting room due)
 
 unfoldable pub blockOutput : List (List ℕ) → List ℕ → List ℕ
 blockOutput due out = outputOf (checkRoom due (length out)) (bytesOf (fitting (length out) due)) out
+
+-- the number of a call for lines, and its values: how many lines were written, and how many bytes they are
+unfoldable pub linesAnswer : Lines → Answer
+linesAnswer (answer.Written b) = giving (b .lines ∷ b .bytes ∷ [])
+linesAnswer (answer.Refused x) = refusedAs x

@@ -4,3 +4,4 @@ pub mod Outcomes
 pub mod SplitCalls
 pub mod Unrolling
 pub mod AllSplittings
+pub mod Values

@@ -10,7 +10,7 @@ use Rattle.hml.specs.System.{Run, start, steps}
 use Rattle.hml.specs.Split.{splits}
 use Rattle.hml.specs.Labels.{pairs}
 use Rattle.hml.specs.Lists.{same}
-use Rattle.labels.specs.Refusals.{refusedIf, firstOf, outputOf}
+use Rattle.labels.specs.Refusals.{refusedIf, firstOf, outputOf, Answer, refusedAs, giving}
 use Rattle.labels.specs.Labels.{checkPairs}
 use Rattle.labels.specs.declared.refusal.Check.{Check}
 use Rattle.labels.specs.declared.refusal.Check.the-variants as check
@@ -65,6 +65,11 @@ counted (check.Refused x) n = count.Refused x
 unfoldable pub countOf : ℕ → List ℕ → List ℕ → List ℕ → Counted
 countOf k l r s = counted (checkCount k l r s) (length (splittingsOf k l r s))
 
+-- the number of a count, and its value: how many splittings there are
+unfoldable pub countAnswer : Counted → Answer
+countAnswer (count.Splittings n) = giving (n ∷ [])
+countAnswer (count.Refused x) = refusedAs x
+
 -- the answer of a split: the length of each half
 abbrev pub halved : Check → ℕ → Splitting
 halved check.Sound n = splitting.Halves n
@@ -72,6 +77,11 @@ halved (check.Refused x) n = splitting.Refused x
 
 unfoldable pub splitOf : ℕ → List ℕ → List ℕ → List ℕ → ℕ → ℕ → ℕ → Splitting
 splitOf k l r s n a b = halved (checkSplit k l r s n a b) (halfLength s)
+
+-- the number of a split, and its value: the length of each half
+unfoldable pub splitAnswer : Splitting → Answer
+splitAnswer (splitting.Halves n) = giving (n ∷ [])
+splitAnswer (splitting.Refused x) = refusedAs x
 
 -- the lent outputs afterwards: if either is too short, neither is touched
 unfoldable pub leftOutput : ℕ → List ℕ → List ℕ → List ℕ → ℕ → List ℕ → ℕ → List ℕ

@@ -10,7 +10,7 @@ use Rattle.hml.specs.System.{steps, stop}
 use Rattle.hml.specs.Formula.{holds}
 use Rattle.hml.specs.Compose.{beside}
 use Rattle.hml.specs.Labels.{pairs}
-use Rattle.labels.specs.Refusals.{refusedIf, firstOf}
+use Rattle.labels.specs.Refusals.{refusedIf, firstOf, Answer, refusedAs, giving}
 use Rattle.labels.specs.Labels.{checkPairs}
 use Rattle.labels.specs.declared.refusal.Check.{Check}
 use Rattle.labels.specs.declared.refusal.Check.the-variants as check
@@ -67,3 +67,13 @@ jointVerdict k l r s f point = answered (checkJointCall k l r s f point) (jointH
 
 unfoldable pub halfVerdict : ℕ → List ℕ → List ℕ → List ℕ → ℕ → Verdict
 halfVerdict k t s f point = answered (checkHalfCall k t s f point) (halfHolds t s f point)
+
+-- the number of a verdict, and its value: 1 where it holds, 0 where it fails
+unfoldable pub bitOf : Bool → ℕ
+bitOf true = 1
+bitOf false = 0
+
+unfoldable pub verdictAnswer : Verdict → Answer
+verdictAnswer verdict.Holds = giving (bitOf true ∷ [])
+verdictAnswer verdict.Fails = giving (bitOf false ∷ [])
+verdictAnswer (verdict.Refused x) = refusedAs x

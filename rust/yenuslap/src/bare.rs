@@ -1,5 +1,6 @@
 //! The engine's calls with their bare answers: the refusal's number of document 01 times 2^32 (0 if not refused), plus
-//! the value, which is 0 when refused. [`sheet_lines`] alone answers a struct.
+//! the value, which is 0 when refused. Only [`cut`] answers a length, which is 0 when refused, and [`sheet_lines`] a
+//! struct.
 //!
 //! They are as safe as the wrapped calls, and take the same bytes: sides as 1 (left), 2 (right) or any other byte
 //! (unnamed), parts as in the casebook's records.
@@ -104,7 +105,7 @@ extern "C" {
         right_half_len: usize,
         side: u8,
         point: usize,
-    ) -> u64;
+    ) -> usize;
     fn yenuslap_quotient(
         k: u8,
         left: *const u8,
@@ -318,8 +319,8 @@ pub fn join(
     }
 }
 
-/// Cuts the known half (side 1 left, 2 right, else unnamed) at a point: value the part's length, or refusal 12.
-pub fn cut(left_half: &[u8], right_half: &[u8], side: u8, point: usize) -> u64 {
+/// Cuts the known half (side 1 left, 2 right, else unnamed) at a point: the part's length, or 0, which is refusal 12.
+pub fn cut(left_half: &[u8], right_half: &[u8], side: u8, point: usize) -> usize {
     // SAFETY: each pointer and length are one live slice, which the engine only reads.
     unsafe {
         yenuslap_cut(

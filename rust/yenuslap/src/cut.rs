@@ -1,7 +1,7 @@
 //! Cutting the known half at a point.
 
 use crate::bare;
-use crate::refusal::{value_or_refusal, Refusal};
+use crate::refusal::{length_or_refusal, Refusal};
 
 /// Which half is the known one.
 #[derive(Clone, Copy, PartialEq, Eq, Debug)]
@@ -42,7 +42,7 @@ pub fn cut<'a>(
     side: Side,
     point: usize,
 ) -> Result<&'a [u8], Refusal> {
-    let length = value_or_refusal(bare::cut(left, right, side.byte(), point))?;
+    let length = length_or_refusal(bare::cut(left, right, side.byte(), point))?;
     let known = if takes_left(side) { left } else { right };
     Ok(&known[..length])
 }
@@ -50,5 +50,5 @@ pub fn cut<'a>(
 /// Does the engine take the left half for this side? It answers a cut by a length only, so it is asked for one that
 /// has a point in the left half alone: what an unnamed side means is known to the engine and not here.
 fn takes_left(side: Side) -> bool {
-    value_or_refusal(bare::cut(&[0], &[], side.byte(), 0)).is_ok()
+    length_or_refusal(bare::cut(&[0], &[], side.byte(), 0)).is_ok()
 }

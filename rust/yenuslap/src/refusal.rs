@@ -62,6 +62,14 @@ pub(crate) fn value_or_refusal(answer: u64) -> Result<usize, Refusal> {
     }
 }
 
+/// The same of the answer of a cut: a part that is empty is refusal 12, its only one.
+pub(crate) fn length_or_refusal(length: usize) -> Result<usize, Refusal> {
+    match length {
+        0 => Err(Refusal(12)),
+        length => Ok(length),
+    }
+}
+
 /// The same of the answer for lines: how many, and how many bytes.
 pub(crate) fn lines_or_refusal(answer: LinesAnswer) -> Result<[usize; 2], Refusal> {
     match answer.refusal {
@@ -96,6 +104,14 @@ mod tests {
         assert_eq!(value_or_refusal(0), Ok(0));
         assert_eq!(value_or_refusal(0xffff_ffff), Ok(0xffff_ffff));
         assert_eq!(value_or_refusal(18 << 32), Err(Refusal(18)));
+    }
+
+    /// An empty part is refused, and no other: not even one whose length is a refusal in other answers.
+    #[test]
+    fn answers_of_cuts_are_taken_apart() {
+        assert_eq!(length_or_refusal(0), Err(Refusal(12)));
+        assert_eq!(length_or_refusal(1), Ok(1));
+        assert_eq!(length_or_refusal((1 << 32) + 1), Ok((1 << 32) + 1));
     }
 
     /// Lines come before bytes, and a number hides both.

@@ -1,7 +1,7 @@
 -- A verdict's bit, by its case.
 use Rattle.engine.proofs.bit.Statement.{statement}
 use Rattle.engine.proofs.bit.Tie as tie
-use Rattle.engine.specs.Answers.{bitOf}
+use Rattle.verdict.specs.Verdicts.{bitOf}
 
 returns : tie.Need-returns
 unfolding bitOf

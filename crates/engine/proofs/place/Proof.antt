@@ -1,6 +1,5 @@
 -- Both numbers are small, so nothing wraps.
 use mathlib.Core.Path.{refl}
-use Rattle.engine.specs.Answers.{placeOf}
 use borrow.Author.Needs.{needs}
 use Rattle.engine.proofs.place.Statement.{statement}
 use Rattle.engine.proofs.place.Tie as tie
@@ -12,7 +11,6 @@ add-result : tie.Need-add-result
 add-result c = search needs
 
 returns : tie.Need-returns
-unfolding placeOf
 returns c = refl
 
 pub place-spec : {M : Type 1} → statement M

@@ -32,7 +32,9 @@ returns-5 : tie.Need-returns-5
 returns-5 c = place-5 _ _ (c .before .if5 .taken) (c .place4 .ensures)
 
 returns-6 : tie.Need-returns-6
-returns-6 c = no-place _ _ (c .before .before .before .before .if1 .left) (c .before .before .before .if2 .left) (c .before .before .if3 .left) (c .before .if4 .left) (c .if5 .left)
+returns-6 c =
+    let s = c .before .before in
+    no-place _ _ (s .before .before .if1 .left) (s .before .if2 .left) (s .if3 .left) (c .before .if4 .left) (c .if5 .left)
 
 pub place-in-spec : {M : Type 1} → statement M
 place-in-spec =

@@ -1,7 +1,6 @@
 -- The number, times 2^32.
-use mathlib.Core.Path.{ap}
-use Prim.Native.Nat.{_*_}
-use Rattle.engine.specs.Answers.{refusedAs}
+use native.Mathlib.Omega.{arith}
+use Rattle.engine.specs.Answers.{packed, only}
 use borrow.Author.Needs.{needs}
 use Rattle.engine.proofs.refused.Statement.{statement}
 use Rattle.engine.proofs.refused.Tie as tie
@@ -16,8 +15,8 @@ mul-result : tie.Need-mul-result
 mul-result c = search needs
 
 returns : tie.Need-returns
-unfolding refusedAs
-returns c = ap (λ n. n * 4294967296) (c .number .ensures)
+unfolding packed only
+returns c = omega (arith, c .number .ensures)
 
 pub refused-spec : {M : Type 1} → statement M
 refused-spec = tie.close (tie.spec number-requires cast-result mul-result returns)

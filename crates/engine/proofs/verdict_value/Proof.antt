@@ -2,7 +2,8 @@
 use borrow.Author.Needs.{needs}
 use Rattle.engine.proofs.verdict_value.Statement.{statement}
 use Rattle.engine.proofs.verdict_value.Tie as tie
-use Rattle.engine.specs.Answers.{verdictAnswer}
+use Rattle.verdict.specs.Verdicts.{verdictAnswer, bitOf}
+use Rattle.engine.specs.Answers.{packed, only}
 
 enum-told : tie.Need-enum-told
 enum-told c = search needs
@@ -17,15 +18,15 @@ refused-requires : tie.Need-refused-requires
 refused-requires c κs = search needs
 
 returns : tie.Need-returns
-unfolding verdictAnswer
+unfolding packed only verdictAnswer bitOf
 returns c = rw (c .enum-told .given .1)
 
 returns-2 : tie.Need-returns-2
-unfolding verdictAnswer
+unfolding packed only verdictAnswer bitOf
 returns-2 c = rw (c .enum-told2 .given .1)
 
 returns-3 : tie.Need-returns-3
-unfolding verdictAnswer
+unfolding packed only verdictAnswer bitOf
 returns-3 c = rw (c .before .before .verdict .given .1) (c .refused .ensures)
 
 pub verdict-value-spec : {M : Type 1} → statement M

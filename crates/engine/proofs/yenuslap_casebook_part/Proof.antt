@@ -1,6 +1,9 @@
 -- The reading's two cases; a casebook that was read is short, so its places fit.
 use native.Mathlib.Omega.{arith}
-use Rattle.engine.proofs.Answers.{placed, part-found, part-refused}
+use mathlib.Core.Path.{refl}
+use Rattle.casebook.specs.Reading.{readAnswer}
+use Rattle.engine.specs.Answers.{placeIn}
+use Rattle.engine.proofs.Answers.{placed, gives, refuses}
 use borrow.Author.Needs.{needs}
 use Rattle.engine.proofs.yenuslap_casebook_part.Statement.{statement}
 use Rattle.engine.proofs.yenuslap_casebook_part.Tie as tie
@@ -12,7 +15,9 @@ enum-known-parts : tie.Need-enum-known-parts
 enum-known-parts c = search needs
 
 place-in-requires : tie.Need-place-in-requires
-place-in-requires c κs = placed _ (λ i. omega (arith, c .before .before .before .before .shared-slice-known .given i)) _ _ (c .before .before .before .read .ensures) (c .before .parts .given .1)
+place-in-requires c κs =
+    let bytes = c .before .before .before .before .shared-slice-known .given in
+    placed _ (λ i. omega (arith, bytes i)) _ _ (c .before .before .before .read .ensures) (c .before .parts .given .1)
 
 enum-known-refusal : tie.Need-enum-known-refusal
 enum-known-refusal c = search needs
@@ -21,10 +26,17 @@ refused-requires : tie.Need-refused-requires
 refused-requires c κs = search needs
 
 returns : tie.Need-returns
-returns c = part-found _ _ (c .before .before .before .before .read .ensures) _ _ _ (c .before .before .parts .given .1) (c .place-in .ensures)
+unfolding readAnswer
+returns c =
+    let e = c .before .before .before .before .read .ensures in
+    gives readAnswer e (c .before .before .parts .given .1) (placeIn _) _ refl (c .place-in .ensures)
 
 returns-2 : tie.Need-returns-2
-returns-2 c = part-refused _ _ (c .before .before .before .before .read .ensures) _ _ _ (c .before .before .refusal .given .1) (c .refused .ensures)
+unfolding readAnswer placeIn
+returns-2 c =
+    let x = c .before .before .refusal .given in
+    let e = c .before .before .before .before .read .ensures in
+    refuses readAnswer e (x .1) (placeIn _) (x .0 .0) refl refl (c .refused .ensures)
 
 pub yenuslap-casebook-part-spec : {M : Type 1} → statement M
 yenuslap-casebook-part-spec =

@@ -1,5 +1,9 @@
 -- The writing's two cases; the lent output is what it left.
-use Rattle.engine.proofs.Answers.{write-done, write-refused}
+use mathlib.Core.Path.{refl}
+use mathlib.Core.List.{[], _∷_}
+use Rattle.casebook.specs.Writing.{writeAnswer}
+use Rattle.engine.specs.Answers.{only}
+use Rattle.engine.proofs.Answers.{gives, refuses}
 use borrow.Author.Needs.{needs}
 use Rattle.engine.proofs.yenuslap_casebook_write.Statement.{statement}
 use Rattle.engine.proofs.yenuslap_casebook_write.Tie as tie
@@ -20,13 +24,20 @@ same-length : tie.Need-same-length
 same-length c = search needs
 
 returns : tie.Need-returns
-returns c = (write-done _ _ (c .before .before .before .before .before .write .ensures .0) _ (c .before .n .given .1), c .before .before .before .before .before .write .ensures .1)
+unfolding writeAnswer only
+returns c =
+    let e = c .before .before .before .before .before .write .ensures in
+    (gives writeAnswer (e .0) (c .before .n .given .1) only (_ ∷ []) refl refl, e .1)
 
 same-length-2 : tie.Need-same-length-2
 same-length-2 c = search needs
 
 returns-2 : tie.Need-returns-2
-returns-2 c = (write-refused _ _ (c .before .before .before .before .before .before .write .ensures .0) _ _ (c .before .before .refusal .given .1) (c .refused .ensures), c .before .before .before .before .before .before .write .ensures .1)
+unfolding writeAnswer only
+returns-2 c =
+    let x = c .before .before .refusal .given in
+    let e = c .before .before .before .before .before .before .write .ensures in
+    (refuses writeAnswer (e .0) (x .1) only (x .0 .0) refl refl (c .refused .ensures), e .1)
 
 pub yenuslap-casebook-write-spec : {M : Type 1} → statement M
 yenuslap-casebook-write-spec =

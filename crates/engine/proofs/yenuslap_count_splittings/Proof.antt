@@ -1,8 +1,12 @@
 -- The count's two cases.
+use mathlib.Core.Path.{refl}
+use mathlib.Core.List.{[], _∷_}
+use Rattle.splitting.specs.Splittings.{countAnswer}
+use Rattle.engine.specs.Answers.{only}
+use Rattle.engine.proofs.Answers.{gives, refuses}
 use borrow.Author.Needs.{needs}
 use Rattle.engine.proofs.yenuslap_count_splittings.Statement.{statement}
 use Rattle.engine.proofs.yenuslap_count_splittings.Tie as tie
-use Rattle.engine.proofs.Answers.{count-done, count-refused}
 
 count-requires : tie.Need-count-requires
 count-requires c κs = search needs
@@ -17,10 +21,16 @@ refused-requires : tie.Need-refused-requires
 refused-requires c κs = search needs
 
 returns : tie.Need-returns
-returns c = count-done _ _ (c .before .before .before .count .ensures) _ (c .before .n .given .1)
+unfolding countAnswer only
+returns c =
+    gives countAnswer (c .before .before .before .count .ensures) (c .before .n .given .1) only (_ ∷ []) refl refl
 
 returns-2 : tie.Need-returns-2
-returns-2 c = count-refused _ _ (c .before .before .before .before .count .ensures) _ _ (c .before .before .refusal .given .1) (c .refused .ensures)
+unfolding countAnswer only
+returns-2 c =
+    let x = c .before .before .refusal .given in
+    let e = c .before .before .before .before .count .ensures in
+    refuses countAnswer e (x .1) only (x .0 .0) refl refl (c .refused .ensures)
 
 pub yenuslap-count-splittings-spec : {M : Type 1} → statement M
 yenuslap-count-splittings-spec =

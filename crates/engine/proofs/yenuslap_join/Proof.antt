@@ -1,8 +1,12 @@
 -- The join's two cases; the lent output is what it left.
+use mathlib.Core.Path.{refl}
+use mathlib.Core.List.{[], _∷_}
+use Rattle.joining.specs.Joinings.{joinAnswer}
+use Rattle.engine.specs.Answers.{only}
+use Rattle.engine.proofs.Answers.{gives, refuses}
 use borrow.Author.Needs.{needs}
 use Rattle.engine.proofs.yenuslap_join.Statement.{statement}
 use Rattle.engine.proofs.yenuslap_join.Tie as tie
-use Rattle.engine.proofs.Answers.{join-done, join-refused}
 
 join-requires : tie.Need-join-requires
 join-requires c κs = search needs
@@ -20,13 +24,20 @@ same-length : tie.Need-same-length
 same-length c = search needs
 
 returns : tie.Need-returns
-returns c = (join-done _ _ (c .before .before .before .before .before .join .ensures .0) _ (c .before .n .given .1), c .before .before .before .before .before .join .ensures .1)
+unfolding joinAnswer only
+returns c =
+    let e = c .before .before .before .before .before .join .ensures in
+    (gives joinAnswer (e .0) (c .before .n .given .1) only (_ ∷ []) refl refl, e .1)
 
 same-length-2 : tie.Need-same-length-2
 same-length-2 c = search needs
 
 returns-2 : tie.Need-returns-2
-returns-2 c = (join-refused _ _ (c .before .before .before .before .before .before .join .ensures .0) _ _ (c .before .before .refusal .given .1) (c .refused .ensures), c .before .before .before .before .before .before .join .ensures .1)
+unfolding joinAnswer only
+returns-2 c =
+    let x = c .before .before .refusal .given in
+    let e = c .before .before .before .before .before .before .join .ensures in
+    (refuses joinAnswer (e .0) (x .1) only (x .0 .0) refl refl (c .refused .ensures), e .1)
 
 pub yenuslap-join-spec : {M : Type 1} → statement M
 yenuslap-join-spec =

@@ -3,7 +3,13 @@ use borrow.Author.Needs.{needs}
 use Rattle.engine.proofs.yenuslap_line_office.Statement.{statement}
 use Rattle.engine.proofs.yenuslap_line_office.Tie as tie
 use native.Mathlib.Omega.{arith}
-use Rattle.engine.proofs.Answers.{line-given, line-refused, bit-small}
+use mathlib.Core.Path.{refl}
+use mathlib.Core.List.{[], _∷_}
+use Rattle.verdict.specs.Verdicts.{bitOf}
+use Rattle.verdict.proofs.Values.{bit-small}
+use Rattle.quotient.specs.Calls.{lineAnswer}
+use Rattle.engine.specs.Answers.{twoBits}
+use Rattle.engine.proofs.Answers.{gives, refuses}
 
 side-of-requires : tie.Need-side-of-requires
 side-of-requires c κs = search needs
@@ -24,7 +30,9 @@ bit-requires-2 : tie.Need-bit-requires-2
 bit-requires-2 c κs = search needs
 
 add-result : tie.Need-add-result
-add-result c = omega (arith, c .before .bit .ensures, c .bit2 .ensures, bit-small (c .before .before .before .line .given .0 .0), bit-small (c .before .before .before .line .given .0 .1 .0))
+add-result c =
+    let given = c .before .before .before .line .given .0 in
+    omega (arith, c .before .bit .ensures, c .bit2 .ensures, bit-small (given .0), bit-small (given .1 .0))
 
 enum-known-refusal : tie.Need-enum-known-refusal
 enum-known-refusal c = search needs
@@ -33,10 +41,20 @@ refused-requires : tie.Need-refused-requires
 refused-requires c κs = search needs
 
 returns : tie.Need-returns
-returns c = line-given _ _ (rw (c .before .before .before .before .before .before .side-of .ensures) at (c .before .before .before .before .before .line-office .ensures .0)) _ _ _ _ (c .before .before .before .line .given .1) (c .before .bit .ensures) (c .bit2 .ensures)
+unfolding lineAnswer twoBits
+returns c =
+    let s = c .before .before .before in
+    let e = rw (s .before .before .before .side-of .ensures) at (s .before .before .line-office .ensures .0) in
+    let b = c .before .bit .ensures in
+    gives lineAnswer e (s .line .given .1) twoBits (bitOf _ ∷ bitOf _ ∷ []) refl (rw (b, c .bit2 .ensures))
 
 returns-2 : tie.Need-returns-2
-returns-2 c = line-refused _ _ (rw (c .before .before .before .before .before .side-of .ensures) at (c .before .before .before .before .line-office .ensures .0)) _ _ (c .before .before .refusal .given .1) (c .refused .ensures)
+unfolding lineAnswer twoBits
+returns-2 c =
+    let s = c .before .before in
+    let e = rw (s .before .before .before .side-of .ensures) at (s .before .before .line-office .ensures .0) in
+    let x = s .refusal .given in
+    refuses lineAnswer e (x .1) twoBits (x .0 .0) refl refl (c .refused .ensures)
 
 pub yenuslap-line-office-spec : {M : Type 1} → statement M
 yenuslap-line-office-spec =

@@ -3,7 +3,8 @@ use borrow.Author.Needs.{needs}
 use Rattle.engine.proofs.yenuslap_quotient.Statement.{statement}
 use Rattle.engine.proofs.yenuslap_quotient.Tie as tie
 use mathlib.Core.Path.{_∙_, ap}
-use Rattle.engine.specs.Answers.{quotientAnswer}
+use Rattle.dividing.specs.Quotients.{quotientAnswer}
+use Rattle.engine.specs.Answers.{packed, only}
 
 side-of-requires : tie.Need-side-of-requires
 side-of-requires c κs = search needs
@@ -19,8 +20,9 @@ same-length c = search needs
 
 returns : tie.Need-returns
 returns c =
-    let e = rw (c .before .before .before .before .before .side-of .ensures) at (c .before .before .before .by-half .ensures) in
-    (c .quotient-value .ensures ∙ ap quotientAnswer (e .0), e .1)
+    let s = c .before .before .before in
+    let e = rw (s .before .before .side-of .ensures) at (s .by-half .ensures) in
+    (c .quotient-value .ensures ∙ ap (λ q. packed only (quotientAnswer q)) (e .0), e .1)
 
 pub yenuslap-quotient-spec : {M : Type 1} → statement M
 yenuslap-quotient-spec =

@@ -1,8 +1,12 @@
 -- The split's two cases; the lent outputs are what it left.
+use mathlib.Core.Path.{refl}
+use mathlib.Core.List.{[], _∷_}
+use Rattle.splitting.specs.Splittings.{splitAnswer}
+use Rattle.engine.specs.Answers.{only}
+use Rattle.engine.proofs.Answers.{gives, refuses}
 use borrow.Author.Needs.{needs}
 use Rattle.engine.proofs.yenuslap_split.Statement.{statement}
 use Rattle.engine.proofs.yenuslap_split.Tie as tie
-use Rattle.engine.proofs.Answers.{split-done, split-refused}
 
 split-requires : tie.Need-split-requires
 split-requires c κs = search needs
@@ -23,7 +27,10 @@ same-length-2 : tie.Need-same-length-2
 same-length-2 c = search needs
 
 returns : tie.Need-returns
-returns c = (split-done _ _ (c .before .before .before .before .before .before .before .split .ensures .0) _ (c .before .n .given .1), c .before .before .before .before .before .before .before .split .ensures .1)
+unfolding splitAnswer only
+returns c =
+    let e = c .before .before .before .before .before .before .before .split .ensures in
+    (gives splitAnswer (e .0) (c .before .n .given .1) only (_ ∷ []) refl refl, e .1)
 
 same-length-3 : tie.Need-same-length-3
 same-length-3 c = search needs
@@ -32,7 +39,11 @@ same-length-4 : tie.Need-same-length-4
 same-length-4 c = search needs
 
 returns-2 : tie.Need-returns-2
-returns-2 c = (split-refused _ _ (c .before .before .before .before .before .before .before .before .split .ensures .0) _ _ (c .before .before .refusal .given .1) (c .refused .ensures), c .before .before .before .before .before .before .before .before .split .ensures .1)
+unfolding splitAnswer only
+returns-2 c =
+    let x = c .before .before .refusal .given in
+    let e = c .before .before .before .before .before .before .before .before .split .ensures in
+    (refuses splitAnswer (e .0) (x .1) only (x .0 .0) refl refl (c .refused .ensures), e .1)
 
 pub yenuslap-split-spec : {M : Type 1} → statement M
 yenuslap-split-spec =

@@ -2,7 +2,9 @@
 use borrow.Author.Needs.{needs}
 use Rattle.engine.proofs.sheet.yenuslap_sheet_lines.Statement.{statement}
 use Rattle.engine.proofs.sheet.yenuslap_sheet_lines.Tie as tie
-use Rattle.engine.proofs.Answers.{lines-written, lines-refused}
+use mathlib.Core.Path.{refl}
+use Rattle.sheet_lines.specs.Sheets.{linesAnswer}
+use Rattle.engine.proofs.Answers.{lines-given, lines-refused}
 
 write-lines-requires : tie.Need-write-lines-requires
 write-lines-requires c κs = search needs
@@ -23,13 +25,20 @@ same-length : tie.Need-same-length
 same-length c = search needs
 
 returns : tie.Need-returns
-returns c = (lines-written _ _ (c .before .before .before .before .before .write-lines .ensures .0) _ (c .before .block .given .1), c .before .before .before .before .before .write-lines .ensures .1)
+unfolding linesAnswer
+returns c =
+    let e = c .before .before .before .before .before .write-lines .ensures in
+    (lines-given linesAnswer (e .0) (c .before .block .given .1) refl, e .1)
 
 same-length-2 : tie.Need-same-length-2
 same-length-2 c = search needs
 
 returns-2 : tie.Need-returns-2
-returns-2 c = (lines-refused _ _ (c .before .before .before .before .before .before .write-lines .ensures .0) _ _ (c .before .before .refusal .given .1) (c .number .ensures), c .before .before .before .before .before .before .write-lines .ensures .1)
+unfolding linesAnswer
+returns-2 c =
+    let e = c .before .before .before .before .before .before .write-lines .ensures in
+    let x = c .before .before .refusal .given in
+    (lines-refused linesAnswer (e .0) (x .1) (x .0 .0) refl (c .number .ensures), e .1)
 
 pub yenuslap-sheet-lines-spec : {M : Type 1} → statement M
 yenuslap-sheet-lines-spec =
