@@ -5,3 +5,4 @@ pub mod Grids
 pub mod Calls
 pub mod Still
 pub mod Widening
+pub mod Written
