@@ -28,7 +28,8 @@ unfoldable pub halfOf : List ℕ → Run ℕ
 halfOf [] = start 0
 halfOf (p ∷ bytes) = lengthened (start p) (twos bytes)
 
--- what it is for bytes to be a half run of a table: they spell a run of it of at most 200 steps that starts in one of its states
+-- what it is for bytes to be a half run of a table: they spell a run of it of at most 200 steps that starts in one of
+-- its states
 unfoldable pub HalfRun : List ℕ → List ℕ → Type 0
 HalfRun t s = (r : Run ℕ) × (s ≡ halfBytes r) × RunOf (tableOf t) r × (first r < statesOf t) × (steps r ≤ 200)
 
@@ -38,7 +39,9 @@ stepFits M p a q = cond (eqb a 255) (same q p) (hasMove M p a q)
 
 -- odd length, at most 200 steps, a start state of the table, and steps that fit
 unfoldable pub isHalfRun : List ℕ → List ℕ → Bool
-isHalfRun t s = (eqb (length s % 2) 1 && leb (length s) 401) && (ltb (getD s 0 0) (statesOf t) && goOn (stepFits (tableOf t)) (getD s 0 0) (twos (drop 1 s)))
+isHalfRun t s =
+    (eqb (length s % 2) 1 && leb (length s) 401)
+    && (ltb (getD s 0 0) (statesOf t) && goOn (stepFits (tableOf t)) (getD s 0 0) (twos (drop 1 s)))
 
 -- 15: "a half is no run of its table (unfit length or over 200 steps included)"
 unfoldable pub checkHalf : List ℕ → List ℕ → Check

@@ -2,3 +2,4 @@ pub mod Runs
 pub mod Steps
 pub mod Halves
 pub mod Cuts
+pub mod Working

@@ -16,7 +16,8 @@ unfoldable pub stepStruct : theory.Step ℕ → Step
 stepStruct (theory.move a q) = step.Move (record { label = record { 0 = a }; target = q })
 stepStruct theory.idle = step.Idle
 
--- step i, from 0, of a half run's bytes: a state, then two bytes a step. Bytes of even length are no half run and have no step
+-- step i, from 0, of a half run's bytes: a state, then two bytes a step. Bytes of even length are no half run and have
+-- no step
 unfoldable pub stepRead : List ℕ → ℕ → StepRead
 stepRead s i = cond (eqb (length s % 2) 1 && ltb (2 * i + 2) (length s))
     (read.Step (stepStruct (stepOf (getD s (2 * i + 1) 0) (getD s (2 * i + 2) 0))))

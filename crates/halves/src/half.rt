@@ -1,15 +1,16 @@
 // Half runs: the check against a table.
-use labels::label::Label;
+use crate::step::Step;
+use crate::step::StepRead;
+use crate::step::step_at;
 use labels::label::Labels;
 use labels::refusal::Check;
 use labels::refusal::Refusal;
 use tables::check::check_table;
 use tables::leaving::has_row;
 ghost use mathlib.Core.Path.{_≡_};
-ghost use Prim.Native.Nat.{_+_, _*_, _<_};
-ghost use lib.ListN.{length, getD};
 ghost use Rattle.tables.specs.Tables.{rowsOf, tableOf, Rising, Ready};
-ghost use Rattle.halves.specs.Halves.{stepFits, isHalfRun, checkTableAndHalf};
+ghost use Rattle.halves.specs.Halves.{isHalfRun, checkTableAndHalf};
+ghost use Rattle.halves.specs.Working.{readFits};
 
 // The check of a table and of a half run of it: the table's numbers, then 15.
 pub fn check_half(labels: Labels, table: &[u8], half: &[u8]) -> Check
@@ -41,25 +42,26 @@ fn is_half_run(table: &[u8], half: &[u8]) -> bool
         return false;
     }
     let mut i: usize = 0;
-    while i < n / 2 {
-        if !step_fits(table, half, i) {
-            return false;
+    loop {
+        match step_at(half, i) {
+            StepRead::Step(step) => {
+                if !step_fits(table, half[2 * i], step, half[2 * i + 2]) {
+                    return false;
+                }
+            }
+            StepRead::NoSuchStep => return true,
         }
         i += 1;
     }
-    true
 }
 
-// Is step i an idle that keeps the state, or a move of the table?
-fn step_fits(table: &[u8], half: &[u8], i: usize) -> bool
-    requires { ⌜ Rising (rowsOf (now table)) × (2 * i + 2 < length (now half)) ⌝ }
-    ensures { λ r. ⌜ r ≡ stepFits (tableOf (now (table .entry))) (getD (now (half .entry)) (2 * i) 0) (getD (now (half .entry)) (2 * i + 1) 0) (getD (now (half .entry)) (2 * i + 2) 0) ⌝ }
+// Is a step from a state, written with this state after it, an idle that keeps the state, or a move of the table?
+fn step_fits(table: &[u8], from: u8, step: Step, to: u8) -> bool
+    requires { ⌜ Rising (rowsOf (now table)) ⌝ }
+    ensures { λ r. ⌜ r ≡ readFits (tableOf (now (table .entry))) from step to ⌝ }
 {
-    let from = half[2 * i];
-    let label = Label(half[2 * i + 1]);
-    let to = half[2 * i + 2];
-    if label.is_idle() {
-        return to == from;
+    match step {
+        Step::Move(moved) => has_row(table, from, moved.label, moved.target),
+        Step::Idle => to == from,
     }
-    has_row(table, from, label, to)
 }

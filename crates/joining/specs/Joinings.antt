@@ -1,6 +1,6 @@
--- Joining: document 01, "Joining is the reverse. Two steps match if they form one of the ways, and two halves match if they are equally
--- long and match at each step", and the numbers 15, 16 and 18. Which run two matching halves give is the theory's to say (`join` in
--- hml's Joining).
+-- Joining: document 01, "Joining is the reverse. Two steps match if they form one of the ways, and two halves match if
+-- they are equally long and match at each step", and the numbers 15, 16 and 18. Which run two matching halves give is
+-- the theory's to say (`join` in hml's Joining).
 use Prim.Native.Nat.{ℕ}
 use mathlib.Core.Bool.{Bool, true, not}
 use mathlib.Core.List.{List, [], _∷_}
@@ -51,7 +51,8 @@ checkHalves k l r a b = firstOf
 
 -- 18: with so many bytes lent
 unfoldable pub checkJoin : ℕ → List ℕ → List ℕ → List ℕ → List ℕ → ℕ → Check
-checkJoin k l r a b room = firstOf (checkHalves k l r a b ∷ refusedIf (ltb room (length (joinBytes k a b))) OutputTooShort ∷ [])
+checkJoin k l r a b room =
+    firstOf (checkHalves k l r a b ∷ refusedIf (ltb room (length (joinBytes k a b))) OutputTooShort ∷ [])
 
 -- the answer: the length of the joint run, in bytes
 abbrev pub joined : Check → ℕ → Joining

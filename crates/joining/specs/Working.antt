@@ -1,20 +1,20 @@
 -- What functions inside the crate promise each other. No public promise cites this file.
-use Prim.Native.Nat.{ℕ, _+_, _*_}
-use mathlib.Core.Bool.{cond}
+use Prim.Native.Nat.{ℕ}
 use mathlib.Core.List.{List, [], _∷_}
 use mathlib.Core.Option.{Option, none, some}
-use lib.ListN.{length, getD}
-use lib.Dec.{eqb}
+use lib.ListN.{length}
 use Rattle.hml.specs.Lists.{guard}
 use Rattle.hml.specs.System.{Pairing}
 use Rattle.hml.specs.Compose.{shakes}
-use Rattle.hml.specs.Labels.{pairs}
 use Rattle.labels.specs.Refusals.{firstOf}
 use Rattle.labels.specs.declared.refusal.Check.{Check}
 use Rattle.tables.specs.Tables.{checkTable}
 use Rattle.halves.specs.Halves.{checkHalf}
 use Rattle.halves.proofs.HalfBuffers.{HeldHalf}
-use Rattle.machines.proofs.Buffers.{put}
+use Rattle.halves.specs.declared.step.Step.{Step}
+use Rattle.halves.specs.declared.step.Step.the-variants as step
+use Rattle.halves.specs.declared.step.StepRead.{StepRead}
+use Rattle.halves.specs.declared.step.StepRead.the-variants as read
 use Rattle.joining.specs.declared.join.JointLabel.{JointLabel}
 use Rattle.joining.specs.declared.join.JointLabel.the-variants as joint
 
@@ -26,19 +26,25 @@ checkRuns k l r a b = firstOf (checkTable k l ∷ checkTable k r ∷ checkHalf l
 abbrev pub HalfBytes : List ℕ → Type 0
 HalfBytes a = HeldHalf a (length a)
 
--- the label of the joint step that two steps form, by the labels that they are written with
-unfoldable pub jointLabel : Pairing → ℕ → ℕ → Option ℕ
-jointLabel P a b = cond (eqb a 255) (some b) (cond (eqb b 255) (some a) (guard (shakes P a b) 0))
+-- the label of the joint step that two moves form: 0, if their labels shake hands
+unfoldable pub shakenLabel : Pairing → ℕ → ℕ → Option ℕ
+shakenLabel P a b = guard (shakes P a b) 0
+
+-- that of two steps
+unfoldable pub jointLabel : Pairing → Step → Step → Option ℕ
+jointLabel P (step.Move m) (step.Move n) = shakenLabel P (m .label .0) (n .label .0)
+jointLabel P (step.Move m) step.Idle = some (m .label .0)
+jointLabel P step.Idle (step.Move n) = some (n .label .0)
+jointLabel P step.Idle step.Idle = some 255
 
 -- a label as the lookup answers it
 unfoldable pub labelFound : Option ℕ → JointLabel
 labelFound none = joint.NoMatch
 labelFound (some c) = joint.Label (record { 0 = c })
 
--- joint step i, written with this label where there is one
-abbrev pub putLabelled : Option ℕ → List ℕ → ℕ → ℕ → ℕ → List ℕ
-putLabelled none out n p q = out
-putLabelled (some c) out n p q = put out n c p q
-
-unfoldable pub putJointStep : ℕ → List ℕ → List ℕ → ℕ → List ℕ → List ℕ
-putJointStep k a b i out = putLabelled (jointLabel (pairs k) (getD a (2 * i + 1) 0) (getD b (2 * i + 1) 0)) out (3 * i + 2) (getD a (2 * i + 2) 0) (getD b (2 * i + 2) 0)
+-- the answer for what is read of each half
+unfoldable pub labelRead : Pairing → StepRead → StepRead → JointLabel
+labelRead P (read.Step x) (read.Step y) = labelFound (jointLabel P x y)
+labelRead P (read.Step x) read.NoSuchStep = joint.NoMatch
+labelRead P read.NoSuchStep (read.Step y) = joint.NoMatch
+labelRead P read.NoSuchStep read.NoSuchStep = joint.Ended

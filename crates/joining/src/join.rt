@@ -1,5 +1,8 @@
 // Joining two halves to the joint run that they split.
 use halves::half::check_half;
+use halves::step::Step;
+use halves::step::StepRead;
+use halves::step::step_at;
 use labels::label::Label;
 use labels::label::Labels;
 use labels::label::Partner;
@@ -10,11 +13,21 @@ use tables::check::check_table;
 ghost use mathlib.Core.Path.{_≡_};
 ghost use mathlib.Core.Bool.{true};
 ghost use Prim.Native.Nat.{_+_, _*_, _≤_, _<_};
-ghost use lib.ListN.{length, getD};
+ghost use lib.ListN.{length};
+ghost use Rattle.hml.specs.Labels.{pairs};
 ghost use Rattle.labels.specs.Labels.{pairing};
 ghost use Rattle.labels.specs.Refusals.{inFront};
+ghost use Rattle.halves.specs.Steps.{stepRead};
+ghost use Rattle.machines.proofs.Buffers.{put};
 ghost use Rattle.joining.specs.Joinings.{halvesMatch, joinBytes, checkHalves, joiningOf, joinOutput};
-ghost use Rattle.joining.specs.Working.{HalfBytes, checkRuns, jointLabel, labelFound, putJointStep};
+ghost use Rattle.joining.specs.Working.{
+  HalfBytes,
+  checkRuns,
+  shakenLabel,
+  jointLabel,
+  labelFound,
+  labelRead,
+};
 
 // The length of the joint run, in bytes.
 pub enum Joining {
@@ -31,8 +44,10 @@ pub fn join(
     right_half: &[u8],
     out: &mut [u8],
 ) -> Joining
-    ensures { λ r. ⌜ r ≡ joiningOf k (now (left .entry)) (now (right .entry)) (now («left_half» .entry)) (now («right_half» .entry)) (length (now (out .entry))) ⌝ }
-    ensures { λ r. ⌜ now (out .exit) ≡ joinOutput k (now (left .entry)) (now (right .entry)) (now («left_half» .entry)) (now («right_half» .entry)) (now (out .entry)) ⌝ }
+    ensures { λ r. ⌜ r ≡ joiningOf k (now (left .entry)) (now (right .entry)) (now («left_half» .entry))
+        (now («right_half» .entry)) (length (now (out .entry))) ⌝ }
+    ensures { λ r. ⌜ now (out .exit) ≡ joinOutput k (now (left .entry)) (now (right .entry)) (now («left_half» .entry))
+        (now («right_half» .entry)) (now (out .entry)) ⌝ }
 {
     let labels = Labels { pairs: k };
     match check_halves(labels, left, right, left_half, right_half) {
@@ -56,7 +71,8 @@ pub fn check_halves(
     left_half: &[u8],
     right_half: &[u8],
 ) -> Check
-    ensures { λ r. ⌜ r ≡ checkHalves (labels .pairs) (now (left .entry)) (now (right .entry)) (now («left_half» .entry)) (now («right_half» .entry)) ⌝ }
+    ensures { λ r. ⌜ r ≡ checkHalves (labels .pairs) (now (left .entry)) (now (right .entry)) (now («left_half» .entry))
+        (now («right_half» .entry)) ⌝ }
 {
     match check_pairs(labels.pairs) {
         Check::Sound => {}
@@ -80,7 +96,8 @@ fn check_runs(
     left_half: &[u8],
     right_half: &[u8],
 ) -> Check
-    ensures { λ r. ⌜ r ≡ checkRuns (labels .pairs) (now (left .entry)) (now (right .entry)) (now («left_half» .entry)) (now («right_half» .entry)) ⌝ }
+    ensures { λ r. ⌜ r ≡ checkRuns (labels .pairs) (now (left .entry)) (now (right .entry)) (now («left_half» .entry))
+        (now («right_half» .entry)) ⌝ }
 {
     match check_half(labels, left, left_half) {
         Check::Sound => check_half(labels, right, right_half),
@@ -95,46 +112,67 @@ fn halves_match(labels: Labels, left: &[u8], right: &[u8]) -> bool
     requires { ⌜ HalfBytes (now left) × HalfBytes (now right) ⌝ }
     ensures { λ r. ⌜ r ≡ halvesMatch (labels .pairs) (now (left .entry)) (now (right .entry)) ⌝ }
 {
-    if left.len() != right.len() {
-        return false;
-    }
-    let steps = left.len() / 2;
     let mut i: usize = 0;
-    while i < steps {
+    loop {
         match label_at(labels, left, right, i) {
             JointLabel::Label(_) => {}
             JointLabel::NoMatch => return false,
+            JointLabel::Ended => return true,
         }
         i += 1;
     }
-    true
 }
 
-// The label of the joint step that two steps form, if they match.
+// The label of the joint step that two steps form, if they match. Ended, where neither half has a step.
 enum JointLabel {
     Label(Label),
     NoMatch,
+    Ended,
 }
 
-// The label of joint step i.
+// The label of joint step i. A step that the other half has none for matches nothing.
 fn label_at(labels: Labels, left: &[u8], right: &[u8], i: usize) -> JointLabel
-    requires { ⌜ (2 * i + 2 < length (now left)) × (2 * i + 2 < length (now right)) ⌝ }
-    ensures { λ r. ⌜ r ≡ labelFound (jointLabel (pairing labels) (getD (now (left .entry)) (2 * i + 1) 0) (getD (now (right .entry)) (2 * i + 1) 0)) ⌝ }
+    ensures { λ r. ⌜ r ≡ labelRead (pairs (labels .pairs)) (stepRead (now (left .entry)) i)
+        (stepRead (now (right .entry)) i) ⌝ }
 {
-    let at = 2 * i + 1;
-    joint_label(labels, Label(left[at]), Label(right[at]))
+    match step_at(left, i) {
+        StepRead::Step(first) => match step_at(right, i) {
+            StepRead::Step(second) => joint_label(labels, first, second),
+            StepRead::NoSuchStep => JointLabel::NoMatch,
+        },
+        StepRead::NoSuchStep => match step_at(right, i) {
+            StepRead::Step(_) => JointLabel::NoMatch,
+            StepRead::NoSuchStep => JointLabel::Ended,
+        },
+    }
 }
 
 // Two idles form an idle, a move and an idle that move, two moves a silent step if their labels shake hands.
-fn joint_label(labels: Labels, left: Label, right: Label) -> JointLabel
-    ensures { λ r. ⌜ r ≡ labelFound (jointLabel (pairing labels) (left .0) (right .0)) ⌝ }
+fn joint_label(labels: Labels, left: Step, right: Step) -> JointLabel
+    ensures { λ r. ⌜ r ≡ labelFound (jointLabel (pairing labels) left right) ⌝ }
 {
-    if left.is_idle() {
-        return JointLabel::Label(right);
+    match left {
+        Step::Move(first) => {
+            let shown = first.label;
+            match right {
+                Step::Move(second) => shaken_label(labels, shown, second.label),
+                Step::Idle => JointLabel::Label(shown),
+            }
+        }
+        Step::Idle => match right {
+            Step::Move(second) => {
+                let shown = second.label;
+                JointLabel::Label(shown)
+            }
+            Step::Idle => JointLabel::Label(Label::IDLE),
+        },
     }
-    if right.is_idle() {
-        return JointLabel::Label(left);
-    }
+}
+
+// What two moves of these labels form.
+fn shaken_label(labels: Labels, left: Label, right: Label) -> JointLabel
+    ensures { λ r. ⌜ r ≡ labelFound (shakenLabel (pairing labels) (left .0) (right .0)) ⌝ }
+{
     match labels.partner(left) {
         Partner::Label(partner) => {
             if partner.0 == right.0 {
@@ -151,32 +189,31 @@ fn write_run(labels: Labels, left: &[u8], right: &[u8], out: &mut [u8])
     requires { ⌜ HalfBytes (now left) × HalfBytes (now right) ⌝ }
     requires { ⌜ halvesMatch (labels .pairs) (now left) (now right) ≡ true ⌝ }
     requires { ⌜ length (joinBytes (labels .pairs) (now left) (now right)) ≤ length (now out) ⌝ }
-    ensures { λ r. ⌜ now (out .exit) ≡ inFront (joinBytes (labels .pairs) (now (left .entry)) (now (right .entry))) (now (out .entry)) ⌝ }
+    ensures { λ r. ⌜ now (out .exit) ≡ inFront (joinBytes (labels .pairs) (now (left .entry)) (now (right .entry)))
+        (now (out .entry)) ⌝ }
 {
     out[0] = left[0];
     out[1] = right[0];
-    let steps = left.len() / 2;
     let mut i: usize = 0;
-    while i < steps {
-        put_joint_step(labels, left, right, i, out);
+    loop {
+        match label_at(labels, left, right, i) {
+            JointLabel::Label(label) => {
+                put_joint_step(out, i, label, left[2 * i + 2], right[2 * i + 2]);
+            }
+            JointLabel::NoMatch => return,
+            JointLabel::Ended => return,
+        }
         i += 1;
     }
 }
 
-// Writes joint step i: its label and both targets. An idle's target is the state that it keeps.
-fn put_joint_step(labels: Labels, left: &[u8], right: &[u8], i: usize, out: &mut [u8])
-    requires { ⌜ (2 * i + 2 < length (now left)) × (2 * i + 2 < length (now right)) ⌝ }
+// Writes joint step i: its label and the states after it.
+fn put_joint_step(out: &mut [u8], i: usize, label: Label, left: u8, right: u8)
     requires { ⌜ 3 * i + 4 < length (now out) ⌝ }
-    ensures { λ r. ⌜ now (out .exit) ≡ putJointStep (labels .pairs) (now (left .entry)) (now (right .entry)) i (now (out .entry)) ⌝ }
+    ensures { λ r. ⌜ now (out .exit) ≡ put (now (out .entry)) (3 * i + 2) (label .0) left right ⌝ }
 {
-    match label_at(labels, left, right, i) {
-        JointLabel::Label(label) => {
-            let from = 2 * i + 2;
-            let to = 3 * i + 2;
-            out[to] = label.0;
-            out[to + 1] = left[from];
-            out[to + 2] = right[from];
-        }
-        JointLabel::NoMatch => {}
-    }
+    let to = 3 * i + 2;
+    out[to] = label.0;
+    out[to + 1] = left;
+    out[to + 2] = right;
 }

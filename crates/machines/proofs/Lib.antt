@@ -1,3 +1,4 @@
+pub mod Steps
 pub mod Joints
 pub mod JointRuns
 pub mod JointParts

@@ -31,8 +31,8 @@ jointOf [] = start (0, 0)
 jointOf (p ∷ []) = start (p, 0)
 jointOf (p ∷ q ∷ bytes) = lengthened (start (p, q)) (jointSteps bytes)
 
--- what it is for bytes to be a joint run of two tables: they spell a run, of at most 200 steps, of the two systems beside
--- each other that starts in a state of each
+-- what it is for bytes to be a joint run of two tables: they spell a run, of at most 200 steps, of the two systems
+-- beside each other that starts in a state of each
 unfoldable pub JointRun : ℕ → List ℕ → List ℕ → List ℕ → Type 0
 JointRun k l r s = (j : Run (ℕ × ℕ)) × (s ≡ jointBytes j) × RunOf (beside (pairs k) (tableOf l) (tableOf r)) j
     × (first j .0 < statesOf l) × (first j .1 < statesOf r) × (steps j ≤ 200)
@@ -86,7 +86,8 @@ isJointRun k l r s = ltb (getD s 0 0) (statesOf l) && (ltb (getD s 1 0) (statesO
     && goOn (isRealStep (pairs k) (tableOf l) (tableOf r)) (getD s 0 0, getD s 1 0) (jointSteps (drop 2 s)))
 
 unfoldable pub checkJoint : ℕ → List ℕ → List ℕ → List ℕ → Check
-checkJoint k l r s = firstOf (refusedIf (not (fitJoint s)) WrongLength ∷ refusedIf (not (isJointRun k l r s)) NotReal ∷ [])
+checkJoint k l r s =
+    firstOf (refusedIf (not (fitJoint s)) WrongLength ∷ refusedIf (not (isJointRun k l r s)) NotReal ∷ [])
 
 -- the check of two tables and a joint run of them, in record order
 unfoldable pub checkTablesAndJoint : ℕ → List ℕ → List ℕ → List ℕ → Check

@@ -1,1 +1,2 @@
 pub mod Joints
+pub mod Steps

@@ -8,8 +8,8 @@ ghost use Rattle.labels.specs.Labels.{pairing, partnerFound};
 ghost use Rattle.tables.specs.Tables.{movesIn};
 ghost use Rattle.machines.specs.Joints.{answerTo};
 
-// The label by which one of these rows of the right, with its target, answers a move of the left in a handshake that ends in
-// these states of the left and the right; nobody answers a move that leads elsewhere.
+// The label by which one of these rows of the right, with its target, answers a move of the left in a handshake that
+// ends in these states of the left and the right; nobody answers a move that leads elsewhere.
 pub fn answer_to(
     labels: Labels,
     label: Label,
@@ -18,7 +18,8 @@ pub fn answer_to(
     left: u8,
     right: u8,
 ) -> Partner
-    ensures { λ r. ⌜ r ≡ partnerFound (answerTo (pairing labels) (movesIn (now (answers .entry))) left right (label .0, target)) ⌝ }
+    ensures { λ r. ⌜ r ≡ partnerFound (answerTo (pairing labels) (movesIn (now (answers .entry))) left right
+        (label .0, target)) ⌝ }
 {
     if target != left {
         return Partner::Nobody;

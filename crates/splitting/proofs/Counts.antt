@@ -23,29 +23,35 @@ use Rattle.machines.specs.Joints.{jointOf}
 use Rattle.machines.proofs.JointRuns.{Tables}
 use Rattle.machines.proofs.Buffers.{Held, held-empty, held-step}
 use Rattle.splitting.specs.Splittings.{splittingsOf}
-use Rattle.ways.specs.StepWays.{waysHere}
-use Rattle.splitting.specs.Working.{Log, stepHere, optionsAt}
-use Rattle.ways.specs.declared.step.JointStep.{JointStep}
+use Rattle.ways.specs.StepWays.{Steps, waysHere}
+use Rattle.splitting.specs.Working.{Log, optionsOf}
+use Rattle.machines.specs.Steps.{jointStepAt, jointRead}
+use Rattle.machines.specs.declared.step.JointStep.{JointStep}
+use Rattle.machines.specs.declared.step.JointRead.the-variants as read
+use Rattle.machines.proofs.Steps.{step-found, none-found}
 use Rattle.ways.proofs.RowWays.{ways-few}
 use Rattle.ways.proofs.Options.{options-listed}
 
--- the ways of step i, by the rows that leave its states
-module _ (labels : Labels) (l r s : List ℕ) (i : ℕ) (t : Tables (labels .pairs) l r) where
-  module _ (step : JointStep) (e : step ≡ stepHere s i) (ls rs : List ℕ) (a : ls ≡ bytesOf (rowsFrom (step .before .left) (rowsOf l))) (b : rs ≡ bytesOf (rowsFrom (step .before .right) (rowsOf r))) where
-    pub ways-options : waysHere (pairing labels) (movesIn ls) (movesIn rs) step ≡ optionsAt (labels .pairs) l r s i
-    unfolding optionsAt pairing stepHere
-    ways-options = rw (leaving-moves l (step .before .left) ls a, leaving-moves r (step .before .right) rs b)
-        (sym (options-listed (pairs (labels .pairs)) (tableOf l) (tableOf r) step (moves-distinct (t .left) (step .before .left)) (moves-distinct (t .right) (step .before .right)))
-        ∙ rw e)
+-- the ways of a step, by the rows that leave its states
+module _ (labels : Labels) (l r : List ℕ) (t : Tables (labels .pairs) l r) (step : JointStep) where
+  listed : optionsOf (labels .pairs) l r step
+      ≡ waysHere (pairing labels) (tableOf l (step .before .left)) (tableOf r (step .before .right)) step
+  unfolding optionsOf pairing
+  listed = options-listed (pairs (labels .pairs)) (tableOf l) (tableOf r) step
+      (moves-distinct (t .left) (step .before .left)) (moves-distinct (t .right) (step .before .right))
 
-  options-few : length (optionsAt (labels .pairs) l r s i) ≤ 10
-  unfolding optionsAt stepHere
+  pub ways-options : (ls rs : List ℕ) → ls ≡ bytesOf (rowsFrom (step .before .left) (rowsOf l))
+      → rs ≡ bytesOf (rowsFrom (step .before .right) (rowsOf r))
+      → waysHere (pairing labels) (movesIn ls) (movesIn rs) step ≡ optionsOf (labels .pairs) l r step
+  ways-options ls rs a b =
+      rw (leaving-moves l (step .before .left) ls a, leaving-moves r (step .before .right) rs b) (sym listed)
+
+  options-few : length (optionsOf (labels .pairs) l r step) ≤ 10
   options-few =
-      let step = stepHere s i in
-      let e = options-listed (pairs (labels .pairs)) (tableOf l) (tableOf r) step (moves-distinct (t .left) (step .before .left)) (moves-distinct (t .right) (step .before .right)) in
-      omega (arith, ap length e, ways-few (pairs (labels .pairs)) (tableOf l (step .before .left)) (tableOf r (step .before .right)) step, moves-few (t .left) (step .before .left))
+      let f = ways-few (pairing labels) (tableOf l (step .before .left)) (tableOf r (step .before .right)) step in
+      omega (arith, ap length listed, f, moves-few (t .left) (step .before .left))
 
-  pub options-small : (n : ℕ) → n ≡ length (optionsAt (labels .pairs) l r s i) → n ≤ 10
+  pub options-small : (n : ℕ) → n ≡ length (optionsOf (labels .pairs) l r step) → n ≤ 10
   options-small n e = omega (arith, e, options-few)
 
 -- a capped product is the product, capped
@@ -67,6 +73,10 @@ module _ (k : ℕ) (l r s : List ℕ) where
   abbrev pub splitsUpTo : ℕ → List (Run ℕ × Run ℕ)
   splitsUpTo i = splits (pairs k) tested-ℕ tested-ℕ (tableOf l) (tableOf r) (upTo i)
 
+  -- the splittings of step i, from the states before it
+  abbrev pub optionsAt : ℕ → List Steps
+  optionsAt i = optionsOf k l r (jointStepAt s i)
+
   -- so many splittings have the steps before step i, or 65,536 if there are more
   unfoldable pub CountedTo : ℕ → ℕ → Type 0
   CountedTo i n = n ≡ min (length (splitsUpTo i)) 65536
@@ -77,7 +87,13 @@ module _ {k : ℕ} {l r s : List ℕ} (g : Log k l r s) where
   up-to-end = ap jointOf (take-all (3 * (length s / 3) + 2) s (omega (arith, g .run .whole)))
 
   held-at : (i : ℕ) → i ≤ length s / 3 → Held s (3 * i + 2)
-  held-at i h = record { whole = omega arith; within = omega (arith, g .run .whole, h); kept = λ m j. g .held .kept m (omega (arith, g .run .whole, h, j)) }
+  held-at i h =
+      record {
+        whole = omega arith;
+        within = omega (arith, g .run .whole, h);
+        kept = λ m j. g .held .kept m
+            (omega (arith, g .run .whole, h, j));
+      }
 
   pub up-to-start : upTo k l r s 0 ≡ start (getD s 0 0, getD s 1 0)
   up-to-start = held-empty s 2 (held-at 0 (omega arith)) (omega arith)
@@ -86,7 +102,8 @@ module _ {k : ℕ} {l r s : List ℕ} (g : Log k l r s) where
     pub states-before : last (upTo k l r s i) ≡ (getD s (3 * i) 0, getD s (3 * i + 1) 0)
     states-before = g .held .kept i (omega (arith, g .run .whole, h))
 
-    pub one-step : upTo k l r s (i + 1) ≡ upTo k l r s i ▸ stepOf (getD s (3 * i + 2) 0) (getD s (3 * i + 3) 0, getD s (3 * i + 4) 0)
+    pub one-step : upTo k l r s (i + 1)
+        ≡ upTo k l r s i ▸ stepOf (getD s (3 * i + 2) 0) (getD s (3 * i + 3) 0, getD s (3 * i + 4) 0)
     one-step =
         let e = held-step s (3 * (i + 1) + 2) (held-at (i + 1) (omega arith)) (omega arith) in
         let x : 3 * (i + 1) + 2 - 3 ≡ 3 * i + 2 = omega arith in
@@ -96,24 +113,34 @@ module _ {k : ℕ} {l r s : List ℕ} (g : Log k l r s) where
 
     -- each multiplies the number of splittings by its ways
     pub step-splits : length (splitsUpTo k l r s (i + 1)) ≡ length (splitsUpTo k l r s i) * length (optionsAt k l r s i)
-    unfolding optionsAt
-    step-splits = rw one-step (splits-count (pairs k) tested-ℕ tested-ℕ (tableOf l) (tableOf r) (upTo k l r s i) _ ∙ rw states-before)
+    unfolding optionsOf jointStepAt
+    step-splits =
+        rw one-step (splits-count (pairs k) tested-ℕ tested-ℕ (tableOf l) (tableOf r) (upTo k l r s i) _
+        ∙ rw states-before)
 
   pub counted-start : CountedTo k l r s 0 1
   unfolding CountedTo splits
   counted-start = rw up-to-start
 
-  pub counted-on : (i n w m : ℕ) → i < length s / 3 → CountedTo k l r s i n → w ≡ length (optionsAt k l r s i) → m ≡ min (n * w) 65536 → CountedTo k l r s (i + 1) m
+  pub counted-on : (i n w m : ℕ) (x : JointStep) → read.Step x ≡ jointRead s i → CountedTo k l r s i n
+      → w ≡ length (optionsOf k l r x) → m ≡ min (n * w) 65536 → CountedTo k l r s (i + 1) m
   unfolding CountedTo
-  counted-on i n w m h c e f = rw (f, step-splits i h, c, e) (product-capped (length (splitsUpTo k l r s i)) (length (optionsAt k l r s i)) 65536)
+  counted-on i n w m x a c e f =
+      let found = step-found s i x a in
+      let v : w ≡ length (optionsAt k l r s i) = e ∙ rw (found .here) in
+      rw (f, step-splits i (found .within), c, v)
+      (product-capped (length (splitsUpTo k l r s i)) (length (optionsAt k l r s i)) 65536)
 
   pub counted-small : (i n : ℕ) → CountedTo k l r s i n → n ≤ 65536
   unfolding CountedTo
   counted-small i n c = omega (arith, c)
 
-  pub counted-end : (i n : ℕ) → CountedTo k l r s i n → i ≡ length s / 3 → n ≡ min (length (splittingsOf k l r s)) 65536
+  pub counted-end : (i n : ℕ) → read.NoSuchStep ≡ jointRead s i → i ≤ length s / 3 → CountedTo k l r s i n
+      → n ≡ min (length (splittingsOf k l r s)) 65536
   unfolding CountedTo splittingsOf
-  counted-end i n c e = rw (← up-to-end, ← e) c
+  counted-end i n a h c =
+      let e : i ≡ length s / 3 = omega (arith, h, none-found s i (g .run .whole) a) in
+      rw (← up-to-end, ← e) c
 
 -- a capped number times a few ways
 pub product-small : (n w : ℕ) → n ≤ 65536 → w ≤ 10 → n * w ≤ 655360

@@ -23,16 +23,29 @@ use Rattle.halves.specs.declared.step.Step.{Step}
 use Rattle.halves.specs.declared.step.Step.the-variants as step
 use Rattle.halves.specs.declared.step.Move.{Move}
 use Rattle.splitting.specs.Splittings.{splittingsOf, leftHalf, rightHalf, halfLength}
-use Rattle.ways.specs.declared.step.JointStep.{JointStep}
+use Rattle.machines.specs.Steps.{jointStepAt, jointRead}
+use Rattle.machines.specs.declared.step.JointStep.{JointStep}
+use Rattle.machines.specs.declared.step.JointRead.the-variants as read
+use Rattle.machines.proofs.Steps.{Found, step-found, none-found}
 use Rattle.ways.specs.declared.step.Way.{Way}
 use Rattle.ways.specs.StepWays.{Steps, wayStruct, chosen}
-use Rattle.splitting.specs.Working.{Log, stepHere, optionsAt, wayAt, stepMeant, labelByte, targetByte, putStep}
-use Rattle.splitting.proofs.Counts.{upTo, splitsUpTo, up-to-start, up-to-end, states-before, one-step, step-splits}
+use Rattle.splitting.specs.Working.{Log, optionsOf, wayOf, stepMeant, labelByte, targetByte, putStep}
+use Rattle.splitting.proofs.Counts.{
+  upTo,
+  splitsUpTo,
+  optionsAt,
+  up-to-start,
+  up-to-end,
+  states-before,
+  one-step,
+  step-splits,
+}
 use Rattle.splitting.proofs.LogRuns.{nth-length}
 
 -- one step of a half, as it is written
 module _ (out : List ℕ) (i state : ℕ) (s : Step) where
-  pub move-put : (m : Move) → s ≡ step.Move m → set (set out (2 * i + 1) (m .label .0)) (2 * i + 1 + 1) (m .target) ≡ putStep out i state (stepMeant s)
+  pub move-put : (m : Move) → s ≡ step.Move m
+      → set (set out (2 * i + 1) (m .label .0)) (2 * i + 1 + 1) (m .target) ≡ putStep out i state (stepMeant s)
   unfolding putStep stepMeant
   move-put m e = rw e
 
@@ -46,52 +59,66 @@ unfolding stepMeant stepStruct
 step-meant (move a q) = refl
 step-meant idle = refl
 
--- the way of step i that a number says, written into both halves
-module _ (k : ℕ) (l r s : List ℕ) (i n : ℕ) (ways : List Steps) (e : ways ≡ optionsAt k l r s i) (w : ℕ) (f : w ≡ length ways) where
-  pub ways-some : 0 < length (optionsAt k l r s i) → 0 < w
+-- the way of a step that a number says, written into both halves
+module _ (k : ℕ) (l r : List ℕ) (st : JointStep) (n : ℕ) (ways : List Steps) (e : ways ≡ optionsOf k l r st) (w : ℕ)
+    (f : w ≡ length ways) where
+  pub ways-some : 0 < length (optionsOf k l r st) → 0 < w
   ways-some h = omega (arith, f, ap length e, h)
 
-  pub number-before : n / w ≡ n / length (optionsAt k l r s i)
+  pub number-before : n / w ≡ n / length (optionsOf k l r st)
   number-before = rw (f, e)
 
-  module _ (st : JointStep) (h : st ≡ stepHere s i) (way : Way) (g : way ≡ wayStruct (chosen ways (n % w))) where
-    way-told : way ≡ wayStruct (wayAt k l r s i n)
-    unfolding wayAt
+  module _ (way : Way) (g : way ≡ wayStruct (chosen ways (n % w))) where
+    way-told : way ≡ wayStruct (wayOf k l r st n)
+    unfolding wayOf
     way-told = g ∙ rw (f, e)
 
-    pub left-put : (xs ys : List ℕ) → ys ≡ putStep xs i (st .before .left) (stepMeant (way .left)) → ys ≡ putStep xs i (getD s (3 * i) 0) (wayAt k l r s i n .0)
-    unfolding wayStruct stepHere
-    left-put xs ys p = p ∙ rw (way-told, h, step-meant (wayAt k l r s i n .0))
+    module _ (i p : ℕ) (xs ys : List ℕ) where
+      pub left-put : ys ≡ putStep xs i p (stepMeant (way .left)) → ys ≡ putStep xs i p (wayOf k l r st n .0)
+      unfolding wayStruct
+      left-put q = q ∙ rw (way-told, step-meant (wayOf k l r st n .0))
 
-    pub right-put : (xs ys : List ℕ) → ys ≡ putStep xs i (st .before .right) (stepMeant (way .right)) → ys ≡ putStep xs i (getD s (3 * i + 1) 0) (wayAt k l r s i n .1)
-    unfolding wayStruct stepHere
-    right-put xs ys p = p ∙ rw (way-told, h, step-meant (wayAt k l r s i n .1))
+      pub right-put : ys ≡ putStep xs i p (stepMeant (way .right)) → ys ≡ putStep xs i p (wayOf k l r st n .1)
+      unfolding wayStruct
+      right-put q = q ∙ rw (way-told, step-meant (wayOf k l r st n .1))
 
 -- two bytes in the place of those from n on, seen from n on
-drop-two : (xs : List ℕ) (n a b : ℕ) → suc n < length xs → drop n (set (set xs n a) (suc n) b) ≡ a ∷ b ∷ drop (suc (suc n)) xs
+drop-two : (xs : List ℕ) (n a b : ℕ) → suc n < length xs
+    → drop n (set (set xs n a) (suc n) b) ≡ a ∷ b ∷ drop (suc (suc n)) xs
 drop-two [] n a b h = absurd (omega arith)
 drop-two (x ∷ []) n a b h = absurd (omega arith)
 drop-two (x ∷ y ∷ xs) zero a b h = refl
 drop-two (x ∷ y ∷ xs) (suc n) a b h = drop-two (y ∷ xs) n a b (omega (arith, h))
 
 -- the bytes of a half with one step more
-half-grown : (x : Run ℕ) (s : theory.Step ℕ) → halfBytes (x ▸ s) ≡ halfBytes x ++ labelByte s ∷ targetByte (last x) s ∷ []
+half-grown : (x : Run ℕ) (s : theory.Step ℕ)
+    → halfBytes (x ▸ s) ≡ halfBytes x ++ labelByte s ∷ targetByte (last x) s ∷ []
 unfolding halfBytes written
 half-grown x (move a q) = ap (first x ∷_) (each-append (λ (e : ℕ × ℕ). e .0 ∷ e .1 ∷ []) (written x) ((a, q) ∷ []))
 half-grown x idle = ap (first x ∷_) (each-append (λ (e : ℕ × ℕ). e .0 ∷ e .1 ∷ []) (written x) ((255, last x) ∷ []))
 
--- a half of the steps up to and with step i, with what is written behind it, is the half before step i, with step i and that behind it
+-- a half of the steps up to and with step i, with what is written behind it, is the half before step i, with step i and
+-- that behind it
 half-unrolled : (x : Run ℕ) (s : theory.Step ℕ) (p i : ℕ) (out : List ℕ) → last x ≡ p → 2 * i + 2 < length out
     → halfBytes (x ▸ s) ++ drop (2 * (i + 1) + 1) out ≡ halfBytes x ++ drop (2 * i + 1) (putStep out i p s)
 unfolding putStep
 half-unrolled x s p i out e h =
     let a : 2 * i + 1 + 1 ≡ suc (2 * i + 1) = omega arith in
     let b : 2 * (i + 1) + 1 ≡ suc (suc (2 * i + 1)) = omega arith in
-    rw (half-grown x s, e, append-assoc, a, b, drop-two out (2 * i + 1) (labelByte s) (targetByte p s) (omega (arith, h)))
+    rw (
+      half-grown x s,
+      e,
+      append-assoc,
+      a,
+      b,
+      drop-two out (2 * i + 1) (labelByte s) (targetByte p s) (omega (arith, h)),
+    )
 
 length-step : (out : List ℕ) (i p : ℕ) (s : theory.Step ℕ) → length (putStep out i p s) ≡ length out
 unfolding putStep
-length-step out i p s = length-set (set out (2 * i + 1) (labelByte s)) (2 * i + 1 + 1) (targetByte p s) ∙ length-set out (2 * i + 1) (labelByte s)
+length-step out i p s =
+    length-set (set out (2 * i + 1) (labelByte s)) (2 * i + 1 + 1) (targetByte p s)
+    ∙ length-set out (2 * i + 1) (labelByte s)
 
 -- a state in front
 first-put : (xs : List ℕ) (p : ℕ) → 1 ≤ length xs → set xs 0 p ≡ p ∷ drop 1 xs
@@ -99,6 +126,10 @@ first-put [] p h = absurd (omega arith)
 first-put (x ∷ xs) p h = refl
 
 module _ (k : ℕ) (l r s : List ℕ) where
+  -- the way of step i in splitting n of the steps up to it
+  abbrev wayAt : ℕ → ℕ → Steps
+  wayAt i n = wayOf k l r (jointStepAt s i) n
+
   abbrev nthUpTo : ℕ → ℕ → Run ℕ × Run ℕ
   nthUpTo i n = getD (splitsUpTo k l r s i) n (start 0, start 0)
 
@@ -116,7 +147,8 @@ module _ {k : ℕ} {l r s : List ℕ} (g : Log k l r s) where
   unfolding halfLength
   half-room = rw (g .run .counted)
 
-  pub unrolled-start : (number : ℕ) (x y : List ℕ) → number < length (splittingsOf k l r s) → Unrolled k l r s number x y (length s / 3) number x y
+  pub unrolled-start : (number : ℕ) (x y : List ℕ) → number < length (splittingsOf k l r s)
+      → Unrolled k l r s number x y (length s / 3) number x y
   unfolding splittingsOf inFront leftHalf rightHalf
   unrolled-start number x y h =
       let (u, v) = nth-length k l r s number h in
@@ -146,21 +178,26 @@ module _ {k : ℕ} {l r s : List ℕ} (g : Log k l r s) where
 
     -- the splitting of the number, by the last step
     unrolled-step : nthUpTo k l r s (i + 1) n ≡ grown (nthUpTo k l r s i (n / waysOf)) (wayAt k l r s i n)
-    unfolding wayAt optionsAt
+    unfolding wayOf optionsOf jointStepAt
     unrolled-step =
         let e = states-before g i h in
-        rw (one-step g i h, ← e) (splits-at (pairs k) tested-ℕ tested-ℕ (tableOf l) (tableOf r) (upTo k l r s i) _ n (start 0, start 0) (start 0, start 0) (idle, idle)
+        rw (one-step g i h, ← e) (splits-at (pairs k) tested-ℕ tested-ℕ (tableOf l) (tableOf r) (upTo k l r s i) _ n
+        (start 0, start 0) (start 0, start 0) (idle, idle)
         (rw e some-way) (rw (one-step g i h) at b))
 
     -- its halves are then in the log's states
-    ends-before : (last (nthUpTo k l r s i (n / waysOf) .0) ≡ getD s (3 * i) 0) × (last (nthUpTo k l r s i (n / waysOf) .1) ≡ getD s (3 * i + 1) 0)
+    ends-before : (last (nthUpTo k l r s i (n / waysOf) .0) ≡ getD s (3 * i) 0)
+        × (last (nthUpTo k l r s i (n / waysOf) .1) ≡ getD s (3 * i + 1) 0)
     ends-before =
-        let (j, _, _) = splits-sound (pairs k) tested-ℕ tested-ℕ (tableOf l) (tableOf r) (upTo k l r s i) (nthUpTo k l r s i (n / waysOf)) (element (start 0, start 0) (splitsUpTo k l r s i) (n / waysOf) before-below) in
+        let (j, _, _) = splits-sound (pairs k) tested-ℕ tested-ℕ (tableOf l) (tableOf r) (upTo k l r s i)
+        (nthUpTo k l r s i (n / waysOf))
+        (element (start 0, start 0) (splitsUpTo k l r s i) (n / waysOf) before-below) in
         let e = sym (last-join (pairs k) paired j) ∙ states-before g i h in
         (ap (λ z. z .0) e, ap (λ z. z .1) e)
 
   -- the loop: j steps are still to be written, and i is the last of them
-  module _ (number : ℕ) (x₀ y₀ : List ℕ) (room : (halfLength s ≤ length x₀) × (halfLength s ≤ length y₀)) (j n : ℕ) (x y : List ℕ) (u : Unrolled k l r s number x₀ y₀ j n x y) where
+  module _ (number : ℕ) (x₀ y₀ : List ℕ) (room : (halfLength s ≤ length x₀) × (halfLength s ≤ length y₀)) (j n : ℕ)
+      (x y : List ℕ) (u : Unrolled k l r s number x₀ y₀ j n x y) where
     module _ (i : ℕ) (e : j ≡ i + 1) where
       last-step : i < length s / 3
       last-step = omega (arith, u .within, e)
@@ -168,29 +205,46 @@ module _ {k : ℕ} {l r s : List ℕ} (g : Log k l r s) where
       last-below : n < length (splitsUpTo k l r s (i + 1))
       last-below = rw e at (u .below)
 
-      pub put-within : 3 * i + 4 < length s
-      put-within = omega (arith, last-step, g .run .whole)
-
-      pub put-some : 0 < length (optionsAt k l r s i)
-      put-some = some-way i n last-step last-below
-
       pub put-room : (2 * i + 2 < length x) × (2 * i + 2 < length y)
-      put-room = (omega (arith, last-step, u .leftSize, room .0, half-room), omega (arith, last-step, u .rightSize, room .1, half-room))
+      put-room = (
+        omega (arith, last-step, u .leftSize, room .0, half-room),
+        omega (arith, last-step, u .rightSize, room .1, half-room),
+      )
 
-      pub unrolled-on : (m : ℕ) (x′ y′ : List ℕ) → m ≡ n / length (optionsAt k l r s i) → x′ ≡ putStep x i (getD s (3 * i) 0) (wayAt k l r s i n .0) → y′ ≡ putStep y i (getD s (3 * i + 1) 0) (wayAt k l r s i n .1)
-          → Unrolled k l r s number x₀ y₀ i m x′ y′
-      unrolled-on m x′ y′ f p q =
-          let (a, b) = ends-before i n last-step last-below in
-          let w = unrolled-step i n last-step last-below in
-          let v = wayAt k l r s i n in
-          record {
-            within = omega (arith, last-step);
-            below = rw f (before-below i n last-step last-below);
-            leftSize = ap length p ∙ length-step x i _ (v .0) ∙ u .leftSize;
-            rightSize = ap length q ∙ length-step y i _ (v .1) ∙ u .rightSize;
-            left = rw (f, p) (sym (half-unrolled _ (v .0) _ i x a (put-room .0)) ∙ rw (e, w) at (u .left));
-            right = rw (f, q) (sym (half-unrolled _ (v .1) _ i y b (put-room .1)) ∙ rw (e, w) at (u .right));
-          }
+      -- it is there
+      pub put-there : read.NoSuchStep ≡ jointRead s i → ⊥
+      put-there a = omega (arith, last-step, none-found s i (g .run .whole) a)
+
+      module _ (st : JointStep) (a : read.Step st ≡ jointRead s i) where
+        found : Found s i st
+        found = step-found s i st a
+
+        pub put-some : 0 < length (optionsOf k l r st)
+        put-some = rw (found .here) (some-way i n last-step last-below)
+
+        pub unrolled-on : (m : ℕ) (x′ y′ : List ℕ) → m ≡ n / length (optionsOf k l r st)
+            → x′ ≡ putStep x i (st .before .left) (wayOf k l r st n .0)
+            → y′ ≡ putStep y i (st .before .right) (wayOf k l r st n .1)
+            → Unrolled k l r s number x₀ y₀ i m x′ y′
+        unfolding jointStepAt
+        unrolled-on m x′ y′ f p q = onward m x′ y′ (f ∙ rw (found .here)) (p ∙ rw (found .here)) (q ∙ rw (found .here))
+          where
+            onward : (m : ℕ) (x′ y′ : List ℕ) → m ≡ n / length (optionsAt k l r s i)
+                → x′ ≡ putStep x i (getD s (3 * i) 0) (wayAt k l r s i n .0)
+                → y′ ≡ putStep y i (getD s (3 * i + 1) 0) (wayAt k l r s i n .1)
+                → Unrolled k l r s number x₀ y₀ i m x′ y′
+            onward m x′ y′ f p q =
+                let (a, b) = ends-before i n last-step last-below in
+                let w = unrolled-step i n last-step last-below in
+                let v = wayAt k l r s i n in
+                record {
+                  within = omega (arith, last-step);
+                  below = rw f (before-below i n last-step last-below);
+                  leftSize = ap length p ∙ length-step x i _ (v .0) ∙ u .leftSize;
+                  rightSize = ap length q ∙ length-step y i _ (v .1) ∙ u .rightSize;
+                  left = rw (f, p) (sym (half-unrolled _ (v .0) _ i x a (put-room .0)) ∙ rw (e, w) at (u .left));
+                  right = rw (f, q) (sym (half-unrolled _ (v .1) _ i y b (put-room .1)) ∙ rw (e, w) at (u .right));
+                }
 
     module _ (z : j ≡ 0) where
       pub first-room : (1 ≤ length x) × (1 ≤ length y)

@@ -1,7 +1,7 @@
 -- What functions inside the crate promise each other. No public promise cites this file.
 use Prim.Native.Nat.{ℕ, _+_, _*_, _%_}
 use mathlib.Core.List.{List}
-use lib.ListN.{length, getD, set}
+use lib.ListN.{length, set}
 use Rattle.hml.specs.Tests.{tested-ℕ}
 use Rattle.hml.specs.System as theory
 use Rattle.hml.specs.System.{move, idle}
@@ -14,7 +14,7 @@ use Rattle.halves.specs.declared.step.Step.the-variants as step
 use Rattle.machines.proofs.JointRuns.{Tables, AcceptedJoint}
 use Rattle.machines.proofs.Buffers.{Held}
 use Rattle.ways.specs.StepWays.{Steps, chosen}
-use Rattle.ways.specs.declared.step.JointStep.{JointStep}
+use Rattle.machines.specs.declared.step.JointStep.{JointStep}
 
 -- two tables and a joint run of them that no check refuses
 pub record Log (k : ℕ) (l r s : List ℕ) : Type 0 where
@@ -22,22 +22,14 @@ pub record Log (k : ℕ) (l r s : List ℕ) : Type 0 where
   pub run : AcceptedJoint k l r s
   pub held : Held s (length s)
 
--- step i of a joint run's bytes
-unfoldable pub stepHere : List ℕ → ℕ → JointStep
-stepHere s i = record {
-  before = record { left = getD s (3 * i) 0; right = getD s (3 * i + 1) 0 };
-  label = record { 0 = getD s (3 * i + 2) 0 };
-  after = record { left = getD s (3 * i + 3) 0; right = getD s (3 * i + 4) 0 };
-}
+-- the splittings of a step, from the states before it
+unfoldable pub optionsOf : ℕ → List ℕ → List ℕ → JointStep → List Steps
+optionsOf k l r s = options (pairs k) tested-ℕ tested-ℕ (tableOf l) (tableOf r) (s .before .left, s .before .right)
+    (stepOf (s .label .0) (s .after .left, s .after .right))
 
--- the splittings of step i of a joint run's bytes, from the states before it
-unfoldable pub optionsAt : ℕ → List ℕ → List ℕ → List ℕ → ℕ → List Steps
-optionsAt k l r s i = options (pairs k) tested-ℕ tested-ℕ (tableOf l) (tableOf r) (getD s (3 * i) 0, getD s (3 * i + 1) 0)
-    (stepOf (getD s (3 * i + 2) 0) (getD s (3 * i + 3) 0, getD s (3 * i + 4) 0))
-
--- the way of step i in splitting n of the steps up to it
-unfoldable pub wayAt : ℕ → List ℕ → List ℕ → List ℕ → ℕ → ℕ → Steps
-wayAt k l r s i n = chosen (optionsAt k l r s i) (n % length (optionsAt k l r s i))
+-- the way of a step in splitting n of the steps up to it
+unfoldable pub wayOf : ℕ → List ℕ → List ℕ → JointStep → ℕ → Steps
+wayOf k l r s n = chosen (optionsOf k l r s) (n % length (optionsOf k l r s))
 
 -- a step of the program as the theory has it
 unfoldable pub stepMeant : Step → theory.Step ℕ

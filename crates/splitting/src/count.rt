@@ -1,18 +1,20 @@
 // How many splittings a joint run has.
-use crate::step::joint_step;
 use labels::label::Labels;
 use labels::label::check_pairs;
 use labels::refusal::Check;
 use labels::refusal::Refusal;
 use machines::joint::check_joint;
+use machines::step::JointRead;
+use machines::step::JointStep;
+use machines::step::joint_step;
 use tables::leaving::rows_leaving;
 use ways::count::count_ways;
 ghost use mathlib.Core.Path.{_≡_};
-ghost use Prim.Native.Nat.{_+_, _*_, _≤_, _<_, min};
+ghost use Prim.Native.Nat.{_≤_, min};
 ghost use lib.ListN.{length};
 ghost use Rattle.machines.proofs.JointRuns.{Tables};
 ghost use Rattle.splitting.specs.Splittings.{splittingsOf, checkLog, countOf};
-ghost use Rattle.splitting.specs.Working.{Log, optionsAt};
+ghost use Rattle.splitting.specs.Working.{Log, optionsOf};
 
 // How many splittings there are, at most 65,535.
 pub enum Counted {
@@ -49,16 +51,20 @@ pub fn check_log(labels: Labels, left: &[u8], right: &[u8], run: &[u8]) -> Check
 // The product of the steps' ways, which stays at 65,536 once it is there.
 fn count_splittings(labels: Labels, left: &[u8], right: &[u8], run: &[u8]) -> usize
     requires { ⌜ Log (labels .pairs) (now left) (now right) (now run) ⌝ }
-    ensures { λ r. ⌜ r ≡ min (length (splittingsOf (labels .pairs) (now (left .entry)) (now (right .entry)) (now (run .entry)))) 65536 ⌝ }
+    ensures { λ r. ⌜ r ≡ min (length (splittingsOf (labels .pairs) (now (left .entry)) (now (right .entry))
+        (now (run .entry)))) 65536 ⌝ }
 {
-    let steps = run.len() / 3;
     let mut splittings: usize = 1;
     let mut i: usize = 0;
-    while i < steps {
-        splittings = capped(splittings * ways_at(labels, left, right, run, i));
+    loop {
+        match joint_step(run, i) {
+            JointRead::Step(step) => {
+                splittings = capped(splittings * ways_of(labels, left, right, step));
+            }
+            JointRead::NoSuchStep => return splittings,
+        }
         i += 1;
     }
-    splittings
 }
 
 // 65,536 stands for every number from there on.
@@ -71,14 +77,12 @@ fn capped(n: usize) -> usize
     n
 }
 
-// How many ways step i has.
-fn ways_at(labels: Labels, left: &[u8], right: &[u8], run: &[u8], i: usize) -> usize
+// How many ways a step has.
+fn ways_of(labels: Labels, left: &[u8], right: &[u8], step: JointStep) -> usize
     requires { ⌜ Tables (labels .pairs) (now left) (now right) ⌝ }
-    requires { ⌜ 3 * i + 4 < length (now run) ⌝ }
-    ensures exact { λ r. ⌜ r ≡ length (optionsAt (labels .pairs) (now (left .entry)) (now (right .entry)) (now (run .entry)) i) ⌝ }
+    ensures exact { λ r. ⌜ r ≡ length (optionsOf (labels .pairs) (now (left .entry)) (now (right .entry)) step) ⌝ }
     ensures few { λ r. ⌜ r ≤ 10 ⌝ }
 {
-    let step = joint_step(run, i);
     let before = step.before;
     let left_rows = rows_leaving(left, before.left);
     let right_rows = rows_leaving(right, before.right);

@@ -1,22 +1,33 @@
 // The splitting of a number, written as its two halves.
 use crate::count::Counted;
 use crate::count::count;
-use crate::step::joint_step;
 use halves::step::Step;
 use labels::label::Label;
 use labels::label::Labels;
 use labels::refusal::Check;
 use labels::refusal::Refusal;
+use machines::step::JointRead;
+use machines::step::JointStep;
+use machines::step::joint_step;
 use tables::leaving::rows_leaving;
 use ways::choose::nth_way;
 use ways::count::count_ways;
 ghost use mathlib.Core.Path.{_≡_};
 ghost use Prim.Native.Nat.{_+_, _*_, _/_, _≤_, _<_};
-ghost use lib.ListN.{length, getD};
+ghost use lib.ListN.{length};
 ghost use Rattle.labels.specs.Refusals.{inFront};
 ghost use Rattle.machines.proofs.JointRuns.{Tables};
-ghost use Rattle.splitting.specs.Splittings.{splittingsOf, leftHalf, rightHalf, checkSplit, splitOf, leftOutput, rightOutput, halfLength};
-ghost use Rattle.splitting.specs.Working.{Log, optionsAt, wayAt, stepMeant, putStep};
+ghost use Rattle.splitting.specs.Splittings.{
+  splittingsOf,
+  leftHalf,
+  rightHalf,
+  checkSplit,
+  splitOf,
+  leftOutput,
+  rightOutput,
+  halfLength,
+};
+ghost use Rattle.splitting.specs.Working.{Log, optionsOf, wayOf, stepMeant, putStep};
 
 // The length of each half, in bytes.
 pub enum Splitting {
@@ -34,9 +45,12 @@ pub fn split(
     left_out: &mut [u8],
     right_out: &mut [u8],
 ) -> Splitting
-    ensures { λ r. ⌜ r ≡ splitOf k (now (left .entry)) (now (right .entry)) (now (run .entry)) number (length (now («left_out» .entry))) (length (now («right_out» .entry))) ⌝ }
-    ensures { λ r. ⌜ now («left_out» .exit) ≡ leftOutput k (now (left .entry)) (now (right .entry)) (now (run .entry)) number (now («left_out» .entry)) (length (now («right_out» .entry))) ⌝ }
-    ensures { λ r. ⌜ now («right_out» .exit) ≡ rightOutput k (now (left .entry)) (now (right .entry)) (now (run .entry)) number (length (now («left_out» .entry))) (now («right_out» .entry)) ⌝ }
+    ensures { λ r. ⌜ r ≡ splitOf k (now (left .entry)) (now (right .entry)) (now (run .entry)) number
+        (length (now («left_out» .entry))) (length (now («right_out» .entry))) ⌝ }
+    ensures { λ r. ⌜ now («left_out» .exit) ≡ leftOutput k (now (left .entry)) (now (right .entry)) (now (run .entry))
+        number (now («left_out» .entry)) (length (now («right_out» .entry))) ⌝ }
+    ensures { λ r. ⌜ now («right_out» .exit) ≡ rightOutput k (now (left .entry)) (now (right .entry)) (now (run .entry))
+        number (length (now («left_out» .entry))) (now («right_out» .entry)) ⌝ }
 {
     let left_room = left_out.len();
     let right_room = right_out.len();
@@ -60,7 +74,8 @@ fn check_split(
     left_room: usize,
     right_room: usize,
 ) -> Check
-    ensures { λ r. ⌜ r ≡ checkSplit k (now (left .entry)) (now (right .entry)) (now (run .entry)) number «left_room» «right_room» ⌝ }
+    ensures { λ r. ⌜ r ≡ checkSplit k (now (left .entry)) (now (right .entry)) (now (run .entry)) number
+        «left_room» «right_room» ⌝ }
 {
     match count(k, left, right, run) {
         Counted::Splittings(splittings) => {
@@ -81,8 +96,8 @@ fn check_split(
     Check::Sound
 }
 
-// Writes the halves from the last step to the first: with w ways at the last step, splitting n of the run is splitting n / w of the
-// run without it, and way n % w.
+// Writes the halves from the last step to the first: with w ways at the last step, splitting n of the run is splitting
+// n / w of the run without it, and way n % w.
 fn write_halves(
     labels: Labels,
     left: &[u8],
@@ -94,39 +109,49 @@ fn write_halves(
 )
     requires { ⌜ Log (labels .pairs) (now left) (now right) (now run) ⌝ }
     requires { ⌜ number < length (splittingsOf (labels .pairs) (now left) (now right) (now run)) ⌝ }
-    requires { ⌜ (halfLength (now run) ≤ length (now «left_out»)) × (halfLength (now run) ≤ length (now «right_out»)) ⌝ }
-    ensures { λ r. ⌜ now («left_out» .exit) ≡ inFront (leftHalf (labels .pairs) (now (left .entry)) (now (right .entry)) (now (run .entry)) number) (now («left_out» .entry)) ⌝ }
-    ensures { λ r. ⌜ now («right_out» .exit) ≡ inFront (rightHalf (labels .pairs) (now (left .entry)) (now (right .entry)) (now (run .entry)) number) (now («right_out» .entry)) ⌝ }
+    requires { ⌜ (halfLength (now run) ≤ length (now «left_out»))
+        × (halfLength (now run) ≤ length (now «right_out»)) ⌝ }
+    ensures { λ r. ⌜ now («left_out» .exit) ≡ inFront (leftHalf (labels .pairs) (now (left .entry)) (now (right .entry))
+        (now (run .entry)) number) (now («left_out» .entry)) ⌝ }
+    ensures { λ r. ⌜ now («right_out» .exit) ≡ inFront (rightHalf (labels .pairs) (now (left .entry))
+        (now (right .entry)) (now (run .entry)) number) (now («right_out» .entry)) ⌝ }
 {
     let mut n = number;
     let mut i = run.len() / 3;
     while 0 < i {
         i -= 1;
-        n = put_way(labels, left, right, run, i, n, left_out, right_out);
+        match joint_step(run, i) {
+            JointRead::Step(step) => {
+                n = put_way(labels, left, right, step, i, n, left_out, right_out);
+            }
+            JointRead::NoSuchStep => return,
+        }
     }
     left_out[0] = run[0];
     right_out[0] = run[1];
 }
 
-// Writes step i of each half, by the way that the number says, and gives the number of the splitting of the run before step i.
+// Writes step i of each half, by the way of the joint run's step that the number says, and gives the number of the
+// splitting of the run before it.
 fn put_way(
     labels: Labels,
     left: &[u8],
     right: &[u8],
-    run: &[u8],
+    step: JointStep,
     i: usize,
     n: usize,
     left_out: &mut [u8],
     right_out: &mut [u8],
 ) -> usize
     requires { ⌜ Tables (labels .pairs) (now left) (now right) ⌝ }
-    requires { ⌜ (3 * i + 4 < length (now run)) × (0 < length (optionsAt (labels .pairs) (now left) (now right) (now run) i)) ⌝ }
+    requires { ⌜ 0 < length (optionsOf (labels .pairs) (now left) (now right) step) ⌝ }
     requires { ⌜ (2 * i + 2 < length (now «left_out»)) × (2 * i + 2 < length (now «right_out»)) ⌝ }
-    ensures { λ r. ⌜ r ≡ n / length (optionsAt (labels .pairs) (now (left .entry)) (now (right .entry)) (now (run .entry)) i) ⌝ }
-    ensures { λ r. ⌜ now («left_out» .exit) ≡ putStep (now («left_out» .entry)) i (getD (now (run .entry)) (3 * i) 0) (wayAt (labels .pairs) (now (left .entry)) (now (right .entry)) (now (run .entry)) i n .0) ⌝ }
-    ensures { λ r. ⌜ now («right_out» .exit) ≡ putStep (now («right_out» .entry)) i (getD (now (run .entry)) (3 * i + 1) 0) (wayAt (labels .pairs) (now (left .entry)) (now (right .entry)) (now (run .entry)) i n .1) ⌝ }
+    ensures { λ r. ⌜ r ≡ n / length (optionsOf (labels .pairs) (now (left .entry)) (now (right .entry)) step) ⌝ }
+    ensures { λ r. ⌜ now («left_out» .exit) ≡ putStep (now («left_out» .entry)) i (step .before .left)
+        (wayOf (labels .pairs) (now (left .entry)) (now (right .entry)) step n .0) ⌝ }
+    ensures { λ r. ⌜ now («right_out» .exit) ≡ putStep (now («right_out» .entry)) i (step .before .right)
+        (wayOf (labels .pairs) (now (left .entry)) (now (right .entry)) step n .1) ⌝ }
 {
-    let step = joint_step(run, i);
     let before = step.before;
     let left_rows = rows_leaving(left, before.left);
     let right_rows = rows_leaving(right, before.right);

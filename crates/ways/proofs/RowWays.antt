@@ -22,8 +22,8 @@ use Rattle.halves.specs.declared.step.Step.the-variants as step
 use Rattle.machines.specs.Joints.{answerTo}
 use Rattle.labels.proofs.Labels.{found-some, found-none}
 use Rattle.ways.specs.StepWays.{Steps, answeredBy, shakenBy, handshakes, rightWays, waysHere, chosen, wayStruct}
-use Rattle.ways.specs.declared.step.States.{States}
-use Rattle.ways.specs.declared.step.JointStep.{JointStep}
+use Rattle.machines.specs.declared.step.States.{States}
+use Rattle.machines.specs.declared.step.JointStep.{JointStep}
 use Rattle.ways.specs.declared.step.Way.{Way}
 
 -- two idles and a move, as the program holds them
@@ -51,7 +51,8 @@ behind x xs (suc n) z = let p : suc n - 1 ≡ n = omega arith in rw p
 -- rows have three bytes each
 moves-bytes : (rows : List ℕ) → 3 * length (movesIn rows) ≤ length rows
 unfolding movesIn
-moves-bytes rows = omega (arith, length-map {B = ℕ × ℕ} (threes rows) (λ r. (r .1, r .2)), chunks-length threes-chunks rows)
+moves-bytes rows =
+    omega (arith, length-map {B = ℕ × ℕ} (threes rows) (λ r. (r .1, r .2)), chunks-length threes-chunks rows)
 
 -- handshakes, by the rows of the left that are still to be tried
 module _ (P : Pairing) (rs : List (ℕ × ℕ)) (v : States) (left : List ℕ) where
@@ -86,22 +87,26 @@ module _ (P : Pairing) (rs : List (ℕ × ℕ)) (v : States) (left : List ℕ) w
     missed e = rw (first-move rows h, found-none answerHere e)
 
     hit : (b : Label) → partner.Label b ≡ partnerFound answerHere
-        → shaken (movesIn rows) ≡ (move (getD rows 1 0) (getD rows 2 0), move (b .0) (v .right)) ∷ shaken (movesIn (rest 3 rows))
+        → shaken (movesIn rows) ≡ (move (getD rows 1 0) (getD rows 2 0), move (b .0) (v .right))
+        ∷ shaken (movesIn (rest 3 rows))
     hit b e = rw (first-move rows h, found-some answerHere b e)
 
     pub counting-miss : (n : ℕ) → Counting rows n → partner.Nobody ≡ partnerFound answerHere → Counting (rest 3 rows) n
     unfolding Counting
     counting-miss n g e = rw (missed e) at g
 
-    pub counting-hit : (n : ℕ) → Counting rows n → (b : Label) → partner.Label b ≡ partnerFound answerHere → Counting (rest 3 rows) (n + 1)
+    pub counting-hit : (n : ℕ) → Counting rows n → (b : Label) → partner.Label b ≡ partnerFound answerHere
+        → Counting (rest 3 rows) (n + 1)
     unfolding Counting
     counting-hit n g b e = let f = rw (hit b e) at g in omega (arith, f)
 
-    pub seeking-miss : (i n : ℕ) → Seeking i rows n → partner.Nobody ≡ partnerFound answerHere → Seeking i (rest 3 rows) n
+    pub seeking-miss : (i n : ℕ) → Seeking i rows n → partner.Nobody ≡ partnerFound answerHere
+        → Seeking i (rest 3 rows) n
     unfolding Seeking
     seeking-miss i n g e = rw (missed e) at g
 
-    pub seeking-hit : (i n : ℕ) → Seeking i rows n → (b : Label) → partner.Label b ≡ partnerFound answerHere → (n ≡ 0 → ⊥) → Seeking i (rest 3 rows) (n - 1)
+    pub seeking-hit : (i n : ℕ) → Seeking i rows n → (b : Label) → partner.Label b ≡ partnerFound answerHere
+        → (n ≡ 0 → ⊥) → Seeking i (rest 3 rows) (n - 1)
     unfolding Seeking
     seeking-hit i zero g b e z = absurd (z refl)
     seeking-hit i (suc n) g b e z = let p : suc n - 1 ≡ n = omega arith in rw p (rw (hit b e) at g)
@@ -111,7 +116,8 @@ module _ (P : Pairing) (rs : List (ℕ × ℕ)) (v : States) (left : List ℕ) w
   shaken-few [] = omega arith
   shaken-few (m ∷ ms) = go (answerTo P rs (v .left) (v .right) m) (shaken-few ms)
     where
-      go : (o : Option ℕ) → length (shaken ms) ≤ length ms → length (answeredBy P rs v m o ++ shaken ms) ≤ suc (length ms)
+      go : (o : Option ℕ) → length (shaken ms) ≤ length ms
+          → length (answeredBy P rs v m o ++ shaken ms) ≤ suc (length ms)
       go none h = omega (arith, h)
       go (some b) h = omega (arith, h)
 
@@ -138,16 +144,22 @@ module _ (P : Pairing) (rs : List (ℕ × ℕ)) (s : JointStep) (left : List ℕ
     unfolding handshakes
     all-shaken = rw silent
 
-    pub counting-end : (rows : List ℕ) (n : ℕ) → Counting P rs (s .after) left rows n → length rows < 3 → n ≡ length (handshakes P (movesIn left) rs s)
+    pub counting-end : (rows : List ℕ) (n : ℕ) → Counting P rs (s .after) left rows n → length rows < 3
+        → n ≡ length (handshakes P (movesIn left) rs s)
     unfolding Counting
-    counting-end rows n g h = let f = rw (none-left P rs (s .after) left rows h) at g in rw all-shaken (omega (arith, f))
+    counting-end rows n g h =
+        let f = rw (none-left P rs (s .after) left rows h) at g in rw all-shaken (omega (arith, f))
 
-    pub seeking-end : (i : ℕ) (rows : List ℕ) (n : ℕ) → Seeking P rs (s .after) left i rows n → length rows < 3 → stillWay ≡ wayStruct (chosen (handshakes P (movesIn left) rs s) i)
+    pub seeking-end : (i : ℕ) (rows : List ℕ) (n : ℕ) → Seeking P rs (s .after) left i rows n → length rows < 3
+        → stillWay ≡ wayStruct (chosen (handshakes P (movesIn left) rs s) i)
     unfolding Seeking wayStruct stepStruct
     seeking-end i rows n g h = rw (all-shaken, ← g, none-left P rs (s .after) left rows h)
 
-    pub seeking-found : (i : ℕ) (rows : List ℕ) (n : ℕ) → Seeking P rs (s .after) left i rows n → (h : 3 ≤ length rows) (b : Label) → partner.Label b ≡ partnerFound (answerHere P rs (s .after) left rows h) → n ≡ 0
-        → record { left = moveStep (getD rows 1 0) (getD rows 2 0); right = moveStep (b .0) (s .after .right) } ≡ wayStruct (chosen (handshakes P (movesIn left) rs s) i)
+    pub seeking-found : (i : ℕ) (rows : List ℕ) (n : ℕ) → Seeking P rs (s .after) left i rows n
+        → (h : 3 ≤ length rows) (b : Label) → partner.Label b ≡ partnerFound (answerHere P rs (s .after) left rows h)
+        → n ≡ 0
+        → record { left = moveStep (getD rows 1 0) (getD rows 2 0); right = moveStep (b .0) (s .after .right) }
+        ≡ wayStruct (chosen (handshakes P (movesIn left) rs s) i)
     unfolding Seeking wayStruct stepStruct
     seeking-found i rows n g h b e z = rw (all-shaken, ← g, hit P rs (s .after) left rows h b e, z)
 
@@ -162,22 +174,31 @@ module _ (P : Pairing) (ls rs : List (ℕ × ℕ)) (s : JointStep) where
   module _ {x : ℕ} (p : x ≡ length (handshakes P ls rs s)) where
     pub right-counted : isRight ≡ true → 1 + x ≡ length (rightWays P ls rs s)
     unfolding rightWays
-    right-counted e = rw (front-taken (idle, move (s .label .0) (s .after .right)) (handshakes P ls rs s) e) (omega (arith, p))
+    right-counted e =
+        rw (front-taken (idle, move (s .label .0) (s .after .right)) (handshakes P ls rs s) e) (omega (arith, p))
 
     pub no-right-counted : isRight ≡ false → x ≡ length (rightWays P ls rs s)
     unfolding rightWays
     no-right-counted e = rw (front-left (idle, move (s .label .0) (s .after .right)) (handshakes P ls rs s) e) p
 
   module _ (n : ℕ) where
-    pub right-chosen : isRight ≡ true → n ≡ 0 → record { left = step.Idle; right = moveStep (s .label .0) (s .after .right) } ≡ wayStruct (chosen (rightWays P ls rs s) n)
+    pub right-chosen : isRight ≡ true → n ≡ 0
+        → record { left = step.Idle; right = moveStep (s .label .0) (s .after .right) }
+        ≡ wayStruct (chosen (rightWays P ls rs s) n)
     unfolding rightWays wayStruct stepStruct
     right-chosen e z = rw (front-taken (idle, move (s .label .0) (s .after .right)) (handshakes P ls rs s) e, z)
 
-    pub right-passed : isRight ≡ true → (n ≡ 0 → ⊥) → {w : Way} → w ≡ wayStruct (chosen (handshakes P ls rs s) (n - 1)) → w ≡ wayStruct (chosen (rightWays P ls rs s) n)
+    pub right-passed : isRight ≡ true → (n ≡ 0 → ⊥) → {w : Way} → w ≡ wayStruct (chosen (handshakes P ls rs s) (n - 1))
+        → w ≡ wayStruct (chosen (rightWays P ls rs s) n)
     unfolding rightWays
-    right-passed e z p = rw (front-taken (idle, move (s .label .0) (s .after .right)) (handshakes P ls rs s) e, behind (idle, move (s .label .0) (s .after .right)) (handshakes P ls rs s) n z) p
+    right-passed e z p =
+        rw (
+          front-taken (idle, move (s .label .0) (s .after .right)) (handshakes P ls rs s) e,
+          behind (idle, move (s .label .0) (s .after .right)) (handshakes P ls rs s) n z,
+        ) p
 
-    pub no-right-chosen : isRight ≡ false → {w : Way} → w ≡ wayStruct (chosen (handshakes P ls rs s) n) → w ≡ wayStruct (chosen (rightWays P ls rs s) n)
+    pub no-right-chosen : isRight ≡ false → {w : Way} → w ≡ wayStruct (chosen (handshakes P ls rs s) n)
+        → w ≡ wayStruct (chosen (rightWays P ls rs s) n)
     unfolding rightWays
     no-right-chosen e p = rw (front-left (idle, move (s .label .0) (s .after .right)) (handshakes P ls rs s) e) p
 
@@ -212,14 +233,19 @@ module _ (P : Pairing) (ls rs : List (ℕ × ℕ)) (s : JointStep) where
       no-left-counted e = rw (no-left-front e) p
 
     module _ (n : ℕ) where
-      pub left-chosen : isLeft ≡ true → n ≡ 0 → record { left = moveStep (s .label .0) (s .after .left); right = step.Idle } ≡ wayStruct (chosen (waysHere P ls rs s) n)
+      pub left-chosen : isLeft ≡ true → n ≡ 0
+          → record { left = moveStep (s .label .0) (s .after .left); right = step.Idle }
+          ≡ wayStruct (chosen (waysHere P ls rs s) n)
       unfolding wayStruct stepStruct
       left-chosen e z = rw (left-front e, z)
 
-      pub left-passed : isLeft ≡ true → (n ≡ 0 → ⊥) → {w : Way} → w ≡ wayStruct (chosen (rightWays P ls rs s) (n - 1)) → w ≡ wayStruct (chosen (waysHere P ls rs s) n)
-      left-passed e z p = rw (left-front e, behind (move (s .label .0) (s .after .left), idle) (rightWays P ls rs s) n z) p
+      pub left-passed : isLeft ≡ true → (n ≡ 0 → ⊥) → {w : Way} → w ≡ wayStruct (chosen (rightWays P ls rs s) (n - 1))
+          → w ≡ wayStruct (chosen (waysHere P ls rs s) n)
+      left-passed e z p =
+          rw (left-front e, behind (move (s .label .0) (s .after .left), idle) (rightWays P ls rs s) n z) p
 
-      pub no-left-chosen : isLeft ≡ false → {w : Way} → w ≡ wayStruct (chosen (rightWays P ls rs s) n) → w ≡ wayStruct (chosen (waysHere P ls rs s) n)
+      pub no-left-chosen : isLeft ≡ false → {w : Way} → w ≡ wayStruct (chosen (rightWays P ls rs s) n)
+          → w ≡ wayStruct (chosen (waysHere P ls rs s) n)
       no-left-chosen e p = rw (no-left-front e) p
 
 -- at most two ways more than moves of the left
@@ -235,19 +261,36 @@ module _ (P : Pairing) (ls rs : List (ℕ × ℕ)) (s : JointStep) where
 
   handshakes-few : length (handshakes P ls rs s) ≤ length ls
   unfolding handshakes
-  handshakes-few = omega (arith, given-few (eqb (s .label .0) 0) (each (shakenBy P rs (s .after)) ls), shaken-few P rs (s .after) [] ls)
+  handshakes-few =
+      omega (
+        arith,
+        given-few (eqb (s .label .0) 0) (each (shakenBy P rs (s .after)) ls),
+        shaken-few P rs (s .after) [] ls,
+      )
 
   right-few : length (rightWays P ls rs s) ≤ 1 + length ls
   unfolding rightWays
-  right-few = omega (arith, handshakes-few, only-few (isRight P ls rs s) (idle, move (s .label .0) (s .after .right)) (handshakes P ls rs s))
+  right-few =
+      omega (
+        arith,
+        handshakes-few,
+        only-few (isRight P ls rs s) (idle, move (s .label .0) (s .after .right)) (handshakes P ls rs s),
+      )
 
   pub ways-few : length (waysHere P ls rs s) ≤ 2 + length ls
   unfolding waysHere
   ways-few = go (eqb (s .label .0) 255)
     where
-      go : (b : Bool) → length (cond b ((idle, idle) ∷ []) (only (isLeft P ls rs s) (move (s .label .0) (s .after .left), idle) ++ rightWays P ls rs s)) ≤ 2 + length ls
+      go : (b : Bool) → length (cond b ((idle, idle) ∷ [])
+          (only (isLeft P ls rs s) (move (s .label .0) (s .after .left), idle) ++ rightWays P ls rs s)) ≤ 2 + length ls
       go true = omega arith
-      go false = omega (arith, right-few, only-few (isLeft P ls rs s) (move (s .label .0) (s .after .left), idle) (rightWays P ls rs s))
+      go false =
+          omega (
+            arith,
+            right-few,
+            only-few (isLeft P ls rs s) (move (s .label .0) (s .after .left), idle)
+                (rightWays P ls rs s),
+          )
 
 -- so that no sum of them is too large for a number
 module _ (P : Pairing) (left : List ℕ) (rs : List (ℕ × ℕ)) (s : JointStep) where

@@ -1,6 +1,7 @@
--- The ways of one step of a joint run: document 01, "A joint step from (p,q) to (p',q') is real exactly if one of these ways exists", in the
--- order in which splittings are numbered: "left alone, right alone, then handshakes by rising left label". A joint idle is the one way of
--- its step. The moves that leave the two states are given; that these are the theory's options is `options-listed` in proofs/Options.
+-- The ways of one step of a joint run: document 01, "A joint step from (p,q) to (p',q') is real exactly if one of these
+-- ways exists", in the order in which splittings are numbered: "left alone, right alone, then handshakes by rising left
+-- label". A joint idle is the one way of its step. The moves that leave the two states are given; that these are the
+-- theory's options is `options-listed` in proofs/Options.
 use Prim.Native.Nat.{ℕ}
 use mathlib.Core.Bool.{cond, _&&_}
 use mathlib.Core.List.{List, [], _∷_, _++_}
@@ -13,8 +14,8 @@ use Rattle.hml.specs.System.{Pairing, move, idle}
 use Rattle.tables.specs.Tables.{among}
 use Rattle.halves.specs.Steps.{stepStruct}
 use Rattle.machines.specs.Joints.{answerTo}
-use Rattle.ways.specs.declared.step.States.{States}
-use Rattle.ways.specs.declared.step.JointStep.{JointStep}
+use Rattle.machines.specs.declared.step.States.{States}
+use Rattle.machines.specs.declared.step.JointStep.{JointStep}
 use Rattle.ways.specs.declared.step.Way.{Way}
 
 -- the steps of the halves of one way
@@ -45,9 +46,12 @@ module _ (P : Pairing) (ls rs : List (ℕ × ℕ)) (s : JointStep) where
 
   -- the right alone, then handshakes
   unfoldable pub rightWays : List Steps
-  rightWays = only (eqb (s .after .left) (s .before .left) && among rs (s .label .0) (s .after .right)) (idle, move (s .label .0) (s .after .right)) ++ handshakes
+  rightWays =
+      only (eqb (s .after .left) (s .before .left) && among rs (s .label .0) (s .after .right))
+      (idle, move (s .label .0) (s .after .right)) ++ handshakes
 
   -- a joint idle is one way; else the left alone, then the right alone, then handshakes
   unfoldable pub waysHere : List Steps
   waysHere = cond (eqb (s .label .0) 255) ((idle, idle) ∷ [])
-      (only (eqb (s .after .right) (s .before .right) && among ls (s .label .0) (s .after .left)) (move (s .label .0) (s .after .left), idle) ++ rightWays)
+      (only (eqb (s .after .right) (s .before .right) && among ls (s .label .0) (s .after .left))
+      (move (s .label .0) (s .after .left), idle) ++ rightWays)

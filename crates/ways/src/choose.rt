@@ -1,5 +1,4 @@
 // The way of a number.
-use crate::step::JointStep;
 use crate::step::Way;
 use crate::step::first_answer;
 use crate::step::moves_alone;
@@ -8,6 +7,7 @@ use halves::step::Step;
 use labels::label::Label;
 use labels::label::Labels;
 use labels::label::Partner;
+use machines::step::JointStep;
 ghost use mathlib.Core.Path.{_≡_};
 ghost use Rattle.labels.specs.Labels.{pairing};
 ghost use Rattle.tables.specs.Tables.{movesIn};
@@ -15,7 +15,8 @@ ghost use Rattle.ways.specs.StepWays.{waysHere, rightWays, handshakes, w
 
 // The way of a number, from 0, by the rows that leave the step's states. Beyond the last way both halves idle.
 pub fn nth_way(labels: Labels, left: &[u8], right: &[u8], step: JointStep, n: usize) -> Way
-    ensures { λ r. ⌜ r ≡ wayStruct (chosen (waysHere (pairing labels) (movesIn (now (left .entry))) (movesIn (now (right .entry))) step) n) ⌝ }
+    ensures { λ r. ⌜ r ≡ wayStruct (chosen (waysHere (pairing labels) (movesIn (now (left .entry)))
+        (movesIn (now (right .entry))) step) n) ⌝ }
 {
     let before = step.before;
     let after = step.after;
@@ -41,7 +42,8 @@ pub fn nth_way(labels: Labels, left: &[u8], right: &[u8], step: JointStep, n: us
 
 // The same without the way of the left alone.
 fn nth_right_way(labels: Labels, left: &[u8], right: &[u8], step: JointStep, n: usize) -> Way
-    ensures { λ r. ⌜ r ≡ wayStruct (chosen (rightWays (pairing labels) (movesIn (now (left .entry))) (movesIn (now (right .entry))) step) n) ⌝ }
+    ensures { λ r. ⌜ r ≡ wayStruct (chosen (rightWays (pairing labels) (movesIn (now (left .entry)))
+        (movesIn (now (right .entry))) step) n) ⌝ }
 {
     let before = step.before;
     let after = step.after;
@@ -61,7 +63,8 @@ fn nth_right_way(labels: Labels, left: &[u8], right: &[u8], step: JointStep, n: 
 
 // The handshake of a number, by rising left label.
 fn nth_handshake(labels: Labels, left: &[u8], right: &[u8], step: JointStep, n: usize) -> Way
-    ensures { λ r. ⌜ r ≡ wayStruct (chosen (handshakes (pairing labels) (movesIn (now (left .entry))) (movesIn (now (right .entry))) step) n) ⌝ }
+    ensures { λ r. ⌜ r ≡ wayStruct (chosen (handshakes (pairing labels) (movesIn (now (left .entry)))
+        (movesIn (now (right .entry))) step) n) ⌝ }
 {
     let after = step.after;
     let label = step.label;

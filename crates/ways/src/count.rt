@@ -1,9 +1,9 @@
 // How many ways a step has.
-use crate::step::JointStep;
 use crate::step::first_answer;
 use crate::step::moves_alone;
 use labels::label::Labels;
 use labels::label::Partner;
+use machines::step::JointStep;
 ghost use mathlib.Core.Path.{_≡_};
 ghost use lib.ListN.{length};
 ghost use Rattle.labels.specs.Labels.{pairing};
@@ -12,7 +12,8 @@ ghost use Rattle.ways.specs.StepWays.{waysHere, rightWays, handshakes};
 
 // How many ways a step has, by the rows that leave its states.
 pub fn count_ways(labels: Labels, left: &[u8], right: &[u8], step: JointStep) -> usize
-    ensures { λ r. ⌜ r ≡ length (waysHere (pairing labels) (movesIn (now (left .entry))) (movesIn (now (right .entry))) step) ⌝ }
+    ensures { λ r. ⌜ r ≡ length (waysHere (pairing labels) (movesIn (now (left .entry)))
+        (movesIn (now (right .entry))) step) ⌝ }
 {
     let before = step.before;
     let after = step.after;
@@ -28,7 +29,8 @@ pub fn count_ways(labels: Labels, left: &[u8], right: &[u8], step: JointStep) ->
 
 // The same without the way of the left alone.
 fn count_right_ways(labels: Labels, left: &[u8], right: &[u8], step: JointStep) -> usize
-    ensures { λ r. ⌜ r ≡ length (rightWays (pairing labels) (movesIn (now (left .entry))) (movesIn (now (right .entry))) step) ⌝ }
+    ensures { λ r. ⌜ r ≡ length (rightWays (pairing labels) (movesIn (now (left .entry)))
+        (movesIn (now (right .entry))) step) ⌝ }
 {
     let before = step.before;
     let after = step.after;
@@ -40,7 +42,8 @@ fn count_right_ways(labels: Labels, left: &[u8], right: &[u8], step: JointStep) 
 
 // How many rows of the left shake hands with a row of the right; none does in a step that is not silent.
 fn count_handshakes(labels: Labels, left: &[u8], right: &[u8], step: JointStep) -> usize
-    ensures { λ r. ⌜ r ≡ length (handshakes (pairing labels) (movesIn (now (left .entry))) (movesIn (now (right .entry))) step) ⌝ }
+    ensures { λ r. ⌜ r ≡ length (handshakes (pairing labels) (movesIn (now (left .entry)))
+        (movesIn (now (right .entry))) step) ⌝ }
 {
     let after = step.after;
     let label = step.label;

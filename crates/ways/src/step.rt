@@ -1,9 +1,10 @@
-// A step of a joint run, what a way makes each half do in it, and what the ways look at.
+// What a way makes each half do in a step of a joint run, and what the ways look at.
 use halves::step::Step;
 use labels::label::Label;
 use labels::label::Labels;
 use labels::label::Partner;
 use machines::handshake::answer_to;
+use machines::step::States;
 use tables::leaving::leads_to;
 ghost use mathlib.Core.Path.{_≡_};
 ghost use mathlib.Core.Bool.{_&&_};
@@ -13,19 +14,6 @@ ghost use lib.Dec.{eqb};
 ghost use Rattle.labels.specs.Labels.{pairing, partnerFound};
 ghost use Rattle.tables.specs.Tables.{movesIn, among};
 ghost use Rattle.machines.specs.Joints.{answerTo};
-
-// A state of the left table and one of the right.
-pub struct States {
-    pub left: u8,
-    pub right: u8,
-}
-
-// A step of a joint run, between the states before and after it.
-pub struct JointStep {
-    pub before: States,
-    pub label: Label,
-    pub after: States,
-}
 
 // What a way makes each half do.
 pub struct Way {
@@ -46,7 +34,8 @@ pub(crate) fn moves_alone(rows: &[u8], label: Label, to: u8, other: u8, kept: u8
 // The right's answer to the first of these rows of the left.
 pub(crate) fn first_answer(labels: Labels, rows: &[u8], right: &[u8], after: States) -> Partner
     requires { ⌜ 3 ≤ length (now rows) ⌝ }
-    ensures { λ r. ⌜ r ≡ partnerFound (answerTo (pairing labels) (movesIn (now (right .entry))) (after .left) (after .right) (getD (now (rows .entry)) 1 0, getD (now (rows .entry)) 2 0)) ⌝ }
+    ensures { λ r. ⌜ r ≡ partnerFound (answerTo (pairing labels) (movesIn (now (right .entry)))
+        (after .left) (after .right) (getD (now (rows .entry)) 1 0, getD (now (rows .entry)) 2 0)) ⌝ }
 {
     answer_to(
         labels,

@@ -22,10 +22,16 @@ is-half-run-requires : tie.Need-is-half-run-requires
 is-half-run-requires c κs = ready _ _ (sym (c .before .before .check-table .ensures) ∙ c .enum-told .given .1)
 
 returns-2 : tie.Need-returns-2
-returns-2 c = half-sound _ _ _ (sym (c .before .before .before .before .check-table .ensures) ∙ c .before .before .enum-told .given .1) (sym (c .before .is-half-run .ensures) ∙ c .if1 .taken)
+returns-2 c =
+    let c4 = c .before .before .before .before in
+    half-sound _ _ _ (sym (c4 .check-table .ensures) ∙ c .before .before .enum-told .given .1)
+    (sym (c .before .is-half-run .ensures) ∙ c .if1 .taken)
 
 returns-3 : tie.Need-returns-3
-returns-3 c = half-refused _ _ _ (sym (c .before .before .before .before .check-table .ensures) ∙ c .before .before .enum-told .given .1) (sym (c .before .is-half-run .ensures) ∙ c .if1 .left)
+returns-3 c =
+    let c4 = c .before .before .before .before in
+    half-refused _ _ _ (sym (c4 .check-table .ensures) ∙ c .before .before .enum-told .given .1)
+    (sym (c .before .is-half-run .ensures) ∙ c .if1 .left)
 
 pub check-half-spec : {M : Type 1} → statement M
 check-half-spec =

@@ -24,7 +24,10 @@ is-idle-requires : tie.Need-is-idle-requires
 is-idle-requires c κs = search needs
 
 returns-3 : tie.Need-returns-3
-returns-3 c = idle-step _ _ (c .before .before .before .before .if1 .left) (c .before .before .before .if2 .left) (sym (c .before .is-idle .ensures) ∙ c .if3 .taken)
+returns-3 c =
+    let c3 = c .before .before .before in
+    let c4 = c3 .before in
+    idle-step _ _ (c4 .if1 .left) (c3 .if2 .left) (sym (c .before .is-idle .ensures) ∙ c .if3 .taken)
 
 mul-target-2 : tie.Need-mul-target-2
 mul-target-2 c = search needs
@@ -36,7 +39,10 @@ shared-slice-read-target-2 : tie.Need-shared-slice-read-target-2
 shared-slice-read-target-2 c = search needs
 
 returns-4 : tie.Need-returns-4
-returns-4 c = move-step _ _ (c .before .before .before .before .before .if1 .left) (c .before .before .before .before .if2 .left) (sym (c .before .before .is-idle .ensures) ∙ c .before .if3 .left)
+returns-4 c =
+    let c4 = c .before .before .before .before in
+    let c5 = c4 .before in
+    move-step _ _ (c5 .if1 .left) (c4 .if2 .left) (sym (c .before .before .is-idle .ensures) ∙ c .before .if3 .left)
 
 pub step-at-spec : {M : Type 1} → statement M
 step-at-spec =

@@ -15,7 +15,8 @@ enum-known-refusal : tie.Need-enum-known-refusal
 enum-known-refusal c = search needs
 
 returns : tie.Need-returns
-returns c = pairs-refuse _ _ _ _ _ _ (sym (c .before .before .before .check-pairs .ensures) ∙ c .before .refusal .given .1)
+returns c =
+    pairs-refuse _ _ _ _ _ _ (sym (c .before .before .before .check-pairs .ensures) ∙ c .before .refusal .given .1)
 
 check-runs-requires : tie.Need-check-runs-requires
 check-runs-requires c κs = search needs
@@ -28,22 +29,32 @@ enum-known-refusal-2 c = search needs
 
 returns-2 : tie.Need-returns-2
 returns-2 c =
-    let pairs = sym (c .before .before .before .before .before .before .check-pairs .ensures) ∙ c .before .before .before .before .enum-told .given .1 in
-    runs-refuse _ _ _ _ _ pairs _ (sym (c .before .before .before .check-runs .ensures) ∙ c .before .refusal2 .given .1)
+    let c3 = c .before .before .before in
+    let c4 = c3 .before in
+    let c6 = c4 .before .before in
+    let pairs = sym (c6 .check-pairs .ensures) ∙ c4 .enum-told .given .1 in
+    runs-refuse _ _ _ _ _ pairs _ (sym (c3 .check-runs .ensures) ∙ c .before .refusal2 .given .1)
 
 halves-match-requires : tie.Need-halves-match-requires
-halves-match-requires c κs = runs-bytes _ _ _ _ _ (sym (c .before .before .check-runs .ensures) ∙ c .enum-told2 .given .1)
+halves-match-requires c κs =
+    runs-bytes _ _ _ _ _ (sym (c .before .before .check-runs .ensures) ∙ c .enum-told2 .given .1)
 
 returns-3 : tie.Need-returns-3
 returns-3 c =
-    let pairs = sym (c .before .before .before .before .before .before .before .check-pairs .ensures) ∙ c .before .before .before .before .before .enum-told .given .1 in
-    let runs = sym (c .before .before .before .before .check-runs .ensures) ∙ c .before .before .enum-told2 .given .1 in
+    let c4 = c .before .before .before .before in
+    let c5 = c4 .before in
+    let c7 = c5 .before .before in
+    let pairs = sym (c7 .check-pairs .ensures) ∙ c5 .enum-told .given .1 in
+    let runs = sym (c4 .check-runs .ensures) ∙ c .before .before .enum-told2 .given .1 in
     halves-sound _ _ _ _ _ pairs runs (sym (c .before .halves-match .ensures) ∙ c .if1 .taken)
 
 returns-4 : tie.Need-returns-4
 returns-4 c =
-    let pairs = sym (c .before .before .before .before .before .before .before .check-pairs .ensures) ∙ c .before .before .before .before .before .enum-told .given .1 in
-    let runs = sym (c .before .before .before .before .check-runs .ensures) ∙ c .before .before .enum-told2 .given .1 in
+    let c4 = c .before .before .before .before in
+    let c5 = c4 .before in
+    let c7 = c5 .before .before in
+    let pairs = sym (c7 .check-pairs .ensures) ∙ c5 .enum-told .given .1 in
+    let runs = sym (c4 .check-runs .ensures) ∙ c .before .before .enum-told2 .given .1 in
     halves-refused _ _ _ _ _ pairs runs (sym (c .before .halves-match .ensures) ∙ c .if1 .left)
 
 pub check-halves-spec : {M : Type 1} → statement M

@@ -30,12 +30,19 @@ then-requires-2 : tie.Need-then-requires-2
 then-requires-2 c κs = search needs
 
 returns : tie.Need-returns
-returns c = runs-sound _ _ _ _ _ (sym (c .before .before .before .check-half .ensures) ∙ c .before .enum-told .given .1) (c .check-half2 .ensures)
+returns c =
+    runs-sound _ _ _ _ _ (sym (c .before .before .before .check-half .ensures) ∙ c .before .enum-told .given .1)
+    (c .check-half2 .ensures)
 
 returns-2 : tie.Need-returns-2
 returns-2 c =
-    let half = sym (c .before .before .before .before .before .before .before .check-half .ensures) ∙ c .before .before .before .before .before .refusal .given .1 in
-    runs-refused _ _ (c .before .before .before .before .before .before .before .before .before .before .before .before .args .right .now) _ _ _ half (c .before .before .before .check-table .ensures) (c .before .before .check-table2 .ensures) (c .before .then .ensures) (c .then2 .ensures)
+    let c3 = c .before .before .before in
+    let c5 = c3 .before .before in
+    let c7 = c5 .before .before in
+    let c12 = c7 .before .before .before .before .before in
+    let half = sym (c7 .check-half .ensures) ∙ c5 .refusal .given .1 in
+    runs-refused _ _ (c12 .args .right .now) _ _ _ half (c3 .check-table .ensures)
+    (c .before .before .check-table2 .ensures) (c .before .then .ensures) (c .then2 .ensures)
 
 pub check-runs-spec : {M : Type 1} → statement M
 check-runs-spec =

@@ -18,16 +18,28 @@ leads-to-requires : tie.Need-leads-to-requires
 leads-to-requires c κs = search needs
 
 returns-2 : tie.Need-returns-2
-returns-2 c = partner-answers _ _ _ _ _ _ (c .before .before .before .before .before .before .if1 .left) _ (sym (c .before .before .before .partner2 .given .1) ∙ c .before .before .before .before .before .partner .ensures) (sym (c .before .leads-to .ensures) ∙ c .if2 .taken)
+returns-2 c =
+    let c3 = c .before .before .before in
+    let c5 = c3 .before .before in
+    let c6 = c5 .before in
+    partner-answers _ _ _ _ _ _ (c6 .if1 .left) _ (sym (c3 .partner2 .given .1) ∙ c5 .partner .ensures)
+    (sym (c .before .leads-to .ensures) ∙ c .if2 .taken)
 
 enum-told : tie.Need-enum-told
 enum-told c = search needs
 
 returns-3 : tie.Need-returns-3
-returns-3 c = partner-elsewhere _ _ _ _ _ _ (c .before .before .before .before .before .before .if1 .left) _ (sym (c .before .before .before .partner2 .given .1) ∙ c .before .before .before .before .before .partner .ensures) (sym (c .before .leads-to .ensures) ∙ c .if2 .left)
+returns-3 c =
+    let c3 = c .before .before .before in
+    let c5 = c3 .before .before in
+    let c6 = c5 .before in
+    partner-elsewhere _ _ _ _ _ _ (c6 .if1 .left) _ (sym (c3 .partner2 .given .1) ∙ c5 .partner .ensures)
+    (sym (c .before .leads-to .ensures) ∙ c .if2 .left)
 
 returns-4 : tie.Need-returns-4
-returns-4 c = nobody-answers _ _ _ _ _ _ (c .before .before .before .if1 .left) (sym (c .enum-told .given .1) ∙ c .before .before .partner .ensures)
+returns-4 c =
+    let c3 = c .before .before .before in
+    nobody-answers _ _ _ _ _ _ (c3 .if1 .left) (sym (c .enum-told .given .1) ∙ c .before .before .partner .ensures)
 
 pub answer-to-spec : {M : Type 1} → statement M
 answer-to-spec =

@@ -13,7 +13,8 @@ use Rattle.tables.proofs.Searching.{Searching, search-rows, search-end, search-
 use Rattle.machines.proofs.Joints.{isAnswered, answered, unanswered, no-handshake, search-decides}
 
 abbrev Inv-loop : tie.InvT-loop
-Inv-loop labels left right to answers rows₀ rows = Searching (movesIn rows₀) (isAnswered (pairing labels) (movesIn answers) (to .left) (to .right)) rows
+Inv-loop labels left right to answers rows₀ rows =
+    Searching (movesIn rows₀) (isAnswered (pairing labels) (movesIn answers) (to .left) (to .right)) rows
 
 abbrev μ-loop : tie.MeasureT-loop
 μ-loop labels left right to answers rows₀ rows = length rows
@@ -33,8 +34,8 @@ rows-leaving-requires-2 c κs = search needs
 loop-holds : tie.Need-loop-holds Inv-loop μ-loop
 loop-holds c = search-rows _ _
 
-shared-slice-read-t15 : tie.Need-shared-slice-read-t15 Inv-loop μ-loop
-shared-slice-read-t15 c = omega arith
+shared-slice-read-t16 : tie.Need-shared-slice-read-t16 Inv-loop μ-loop
+shared-slice-read-t16 c = omega arith
 
 shared-slice-read-answer-to : tie.Need-shared-slice-read-answer-to Inv-loop μ-loop
 shared-slice-read-answer-to c = omega arith
@@ -47,9 +48,18 @@ enum-told c = search needs
 
 returns-2 : tie.Need-returns-2 Inv-loop μ-loop
 returns-2 c =
-    search-decides _ _ _ _ _ _ _ _ (sym (c .before .before .before .before .before .before .before .before .before .before .is-silent .ensures) ∙ not-false _ (c .before .before .before .before .before .before .before .before .before .if1 .left)) _ _
-    (leaving-moves _ _ _ (c .before .before .before .before .before .before .before .rows-leaving2 .ensures .1 (c .before .before .before .before .before .before .before .before .before .before .before .before .before .pre .0 .rising))) (leaving-moves _ _ _ (c .before .before .before .before .before .before .before .before .rows-leaving .ensures .1 (c .before .before .before .before .before .before .before .before .before .before .before .before .before .pre .1 .rising)))
-    (search-hit _ _ _ (c .before .before .before .before .before .before .loop .inv) (c .before .before .before .before .before .loop-test .taken) (answered _ _ _ _ _ _ (sym (c .enum-told .given .1) ∙ c .before .before .answer-to .ensures)))
+    let c5 = c .before .before .before .before .before in
+    let c6 = c5 .before in
+    let c7 = c6 .before in
+    let c8 = c7 .before in
+    let c9 = c8 .before in
+    let c10 = c9 .before in
+    let c16 = c10 .before .before .before .before .before .before in
+    search-decides _ _ _ _ _ _ _ _ (sym (c10 .is-silent .ensures) ∙ not-false _ (c9 .if1 .left)) _ _
+    (leaving-moves _ _ _ (c7 .rows-leaving2 .ensures .1 (c16 .pre .0 .rising)))
+    (leaving-moves _ _ _ (c8 .rows-leaving .ensures .1 (c16 .pre .1 .rising)))
+    (search-hit _ _ _ (c6 .loop .inv) (c5 .loop-test .taken)
+    (answered _ _ _ _ _ _ (sym (c .enum-told .given .1) ∙ c .before .before .answer-to .ensures)))
 
 enum-told-2 : tie.Need-enum-told-2 Inv-loop μ-loop
 enum-told-2 c = search needs
@@ -64,15 +74,28 @@ part-rows-end : tie.Need-part-rows-end Inv-loop μ-loop
 part-rows-end c = omega arith
 
 loop-less : tie.Need-loop-less Inv-loop μ-loop
-loop-less c = rest-fewer 3 (c .before .before .before .before .before .before .before .loop .rows .now) (omega arith) (c .before .before .before .before .before .before .loop-test .taken)
+loop-less c =
+    let c6 = c .before .before .before .before .before .before in
+    let c7 = c6 .before in
+    rest-fewer 3 (c7 .loop .rows .now) (omega arith) (c6 .loop-test .taken)
 
 loop-again : tie.Need-loop-again Inv-loop μ-loop
-loop-again c = search-miss _ _ _ (c .before .before .before .before .before .before .before .loop .inv) (c .before .before .before .before .before .before .loop-test .taken) (unanswered _ _ _ _ _ (sym (c .before .enum-told2 .given .1) ∙ c .before .before .before .answer-to .ensures))
+loop-again c =
+    let c3 = c .before .before .before in
+    let c6 = c3 .before .before .before in
+    let c7 = c6 .before in
+    search-miss _ _ _ (c7 .loop .inv) (c6 .loop-test .taken)
+    (unanswered _ _ _ _ _ (sym (c .before .enum-told2 .given .1) ∙ c3 .answer-to .ensures))
 
 returns-3 : tie.Need-returns-3 Inv-loop μ-loop
 returns-3 c =
-    search-decides _ _ _ _ _ _ _ _ (sym (c .before .before .before .before .before .is-silent .ensures) ∙ not-false _ (c .before .before .before .before .if1 .left)) _ _
-    (leaving-moves _ _ _ (c .before .before .rows-leaving2 .ensures .1 (c .before .before .before .before .before .before .before .before .pre .0 .rising))) (leaving-moves _ _ _ (c .before .before .before .rows-leaving .ensures .1 (c .before .before .before .before .before .before .before .before .pre .1 .rising)))
+    let c3 = c .before .before .before in
+    let c4 = c3 .before in
+    let c5 = c4 .before in
+    let c11 = c5 .before .before .before .before .before .before in
+    search-decides _ _ _ _ _ _ _ _ (sym (c5 .is-silent .ensures) ∙ not-false _ (c4 .if1 .left)) _ _
+    (leaving-moves _ _ _ (c .before .before .rows-leaving2 .ensures .1 (c11 .pre .0 .rising)))
+    (leaving-moves _ _ _ (c3 .rows-leaving .ensures .1 (c11 .pre .1 .rising)))
     (search-end _ _ _ (c .before .loop .inv) (c .loop-test .left))
 
 pub is-handshake-spec : {M : Type 1} → statement M
@@ -86,7 +109,7 @@ is-handshake-spec =
     rows-leaving-requires
     rows-leaving-requires-2
     loop-holds
-    shared-slice-read-t15
+    shared-slice-read-t16
     shared-slice-read-answer-to
     answer-to-requires
     enum-told

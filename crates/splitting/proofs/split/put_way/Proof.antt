@@ -6,9 +6,6 @@ use native.Mathlib.Omega.{arith}
 use Rattle.splitting.proofs.Counts.{ways-options}
 use Rattle.splitting.proofs.Unrolling.{ways-some, number-before, left-put, right-put}
 
-joint-step-requires : tie.Need-joint-step-requires
-joint-step-requires c κs = search needs
-
 rows-leaving-requires : tie.Need-rows-leaving-requires
 rows-leaving-requires c κs = search needs
 
@@ -20,22 +17,35 @@ count-ways-requires c κs = search needs
 
 rem-nth-way : tie.Need-rem-nth-way
 rem-nth-way c =
-    let e = ways-options _ _ _ _ _ (c .before .before .before .before .before .before .before .before .before .before .pre .0) _ (c .before .before .before .before .joint-step .ensures) _ _ (c .before .before .rows-leaving .ensures .1 (c .before .before .before .before .before .before .before .before .before .before .pre .0 .left .rising)) (c .before .rows-leaving2 .ensures .1 (c .before .before .before .before .before .before .before .before .before .before .pre .0 .right .rising)) in
-    ways-some _ _ _ _ _ 0 _ e _ (c .count-ways .ensures) (c .before .before .before .before .before .before .before .before .before .before .pre .1 .0 .1)
+    let c8 = c .before .before .before .before .before .before .before .before in
+    let e = ways-options _ _ _ (c8 .pre .0) _ _ _
+    (c .before .before .rows-leaving .ensures .1 (c8 .pre .0 .left .rising))
+    (c .before .rows-leaving2 .ensures .1 (c8 .pre .0 .right .rising)) in
+    ways-some _ _ _ _ 0 _ e _ (c .count-ways .ensures) (c8 .pre .1 .0)
 
 nth-way-requires : tie.Need-nth-way-requires
 nth-way-requires c κs = search needs
 
 put-step-requires : tie.Need-put-step-requires
-put-step-requires c κs = omega (arith, c .before .before .before .before .before .before .before .before .before .before .before .before .pre .1 .1 .0)
+put-step-requires c κs =
+    let c10 = c .before .before .before .before .before .before .before .before .before .before in
+    omega (arith, c10 .pre .1 .1 .0)
 
 put-step-requires-2 : tie.Need-put-step-requires-2
-put-step-requires-2 c κs = omega (arith, c .before .before .before .before .before .before .before .before .before .before .before .before .before .before .before .before .pre .1 .1 .1)
+put-step-requires-2 c κs =
+    let c7 = c .before .before .before .before .before .before .before in
+    let c14 = c7 .before .before .before .before .before .before .before in
+    omega (arith, c14 .pre .1 .1 .1)
 
 div-result : tie.Need-div-result
 div-result c =
-    let e = ways-options _ _ _ _ _ (c .before .before .before .before .before .before .before .before .before .before .before .before .before .before .before .before .before .before .before .pre .0) _ (c .before .before .before .before .before .before .before .before .before .before .before .before .before .joint-step .ensures) _ _ (c .before .before .before .before .before .before .before .before .before .before .before .rows-leaving .ensures .1 (c .before .before .before .before .before .before .before .before .before .before .before .before .before .before .before .before .before .before .before .pre .0 .left .rising)) (c .before .before .before .before .before .before .before .before .before .before .rows-leaving2 .ensures .1 (c .before .before .before .before .before .before .before .before .before .before .before .before .before .before .before .before .before .before .before .pre .0 .right .rising)) in
-    ways-some _ _ _ _ _ 0 _ e _ (c .before .before .before .before .before .before .before .before .before .count-ways .ensures) (c .before .before .before .before .before .before .before .before .before .before .before .before .before .before .before .before .before .before .before .pre .1 .0 .1)
+    let c9 = c .before .before .before .before .before .before .before .before .before in
+    let c10 = c9 .before in
+    let c11 = c10 .before in
+    let c17 = c11 .before .before .before .before .before .before in
+    let e = ways-options _ _ _ (c17 .pre .0) _ _ _ (c11 .rows-leaving .ensures .1 (c17 .pre .0 .left .rising))
+    (c10 .rows-leaving2 .ensures .1 (c17 .pre .0 .right .rising)) in
+    ways-some _ _ _ _ 0 _ e _ (c9 .count-ways .ensures) (c17 .pre .1 .0)
 
 same-length : tie.Need-same-length
 same-length c = search needs
@@ -45,14 +55,26 @@ same-length-2 c = search needs
 
 returns : tie.Need-returns
 returns c =
-    let e = ways-options _ _ _ _ _ (c .before .before .before .before .before .before .before .before .before .before .before .before .before .before .before .before .before .before .before .pre .0) _ (c .before .before .before .before .before .before .before .before .before .before .before .before .before .joint-step .ensures) _ _ (c .before .before .before .before .before .before .before .before .before .before .before .rows-leaving .ensures .1 (c .before .before .before .before .before .before .before .before .before .before .before .before .before .before .before .before .before .before .before .pre .0 .left .rising)) (c .before .before .before .before .before .before .before .before .before .before .rows-leaving2 .ensures .1 (c .before .before .before .before .before .before .before .before .before .before .before .before .before .before .before .before .before .before .before .pre .0 .right .rising)) in
-    (number-before _ _ _ _ _ _ _ e _ (c .before .before .before .before .before .before .before .before .before .count-ways .ensures), (left-put _ _ _ _ _ _ _ e _ (c .before .before .before .before .before .before .before .before .before .count-ways .ensures) _ (c .before .before .before .before .before .before .before .before .before .before .before .before .before .joint-step .ensures) _ (c .before .before .before .before .before .before .before .before .nth-way .ensures) _ _ (c .before .before .before .before .before .before .put-step .ensures), right-put _ _ _ _ _ _ _ e _ (c .before .before .before .before .before .before .before .before .before .count-ways .ensures) _ (c .before .before .before .before .before .before .before .before .before .before .before .before .before .joint-step .ensures) _ (c .before .before .before .before .before .before .before .before .nth-way .ensures) _ _ (c .before .before .put-step2 .ensures)))
+    let c6 = c .before .before .before .before .before .before in
+    let c8 = c6 .before .before in
+    let c9 = c8 .before in
+    let c10 = c9 .before in
+    let c11 = c10 .before in
+    let c17 = c11 .before .before .before .before .before .before in
+    let e = ways-options _ _ _ (c17 .pre .0) _ _ _ (c11 .rows-leaving .ensures .1 (c17 .pre .0 .left .rising))
+    (c10 .rows-leaving2 .ensures .1 (c17 .pre .0 .right .rising)) in (
+      number-before _ _ _ _ _ _ e _ (c9 .count-ways .ensures),
+      (
+        left-put _ _ _ _ _ _ e _ (c9 .count-ways .ensures) _ (c8 .nth-way .ensures) _ _ _ _ (c6 .put-step .ensures),
+        right-put _ _ _ _ _ _ e _ (c9 .count-ways .ensures) _ (c8 .nth-way .ensures) _ _ _ _
+            (c .before .before .put-step2 .ensures),
+      ),
+    )
 
 pub put-way-spec : {M : Type 1} → statement M
 put-way-spec =
     tie.close
     (tie.spec
-    joint-step-requires
     rows-leaving-requires
     rows-leaving-requires-2
     count-ways-requires
