@@ -90,25 +90,12 @@ module _ (F : ℕ → Bool) (b : ℕ) (g : List ℕ) (at rows before : ℕ) (e :
   few : skippedIn b (pairsIn rows (drop at g)) ≤ rows
   few = omega (arith, skipped-few b (pairsIn rows (drop at g)), pairs-length rows (drop at g))
 
-  pub before-few : before ≤ rows
-  before-few = omega (arith, e, few)
+  pub rows-none : rows ≤ before → false ≡ tried F b (pairsIn rows (drop at g))
+  rows-none h = tried-none b F (pairsIn rows (drop at g)) (omega (arith, e, few, h, pairs-length rows (drop at g)))
 
-  pub rows-none : before ≡ rows → false ≡ tried F b (pairsIn rows (drop at g))
-  rows-none h = tried-none b F (pairsIn rows (drop at g)) (sym e ∙ h ∙ sym (pairs-length rows (drop at g)))
-
-  module _ (n : before ≡ rows → ⊥) where
-    pub before-less : before < rows
-    before-less = go before rows before-few n
-      where
-        go : (x y : ℕ) → x ≤ y → (x ≡ y → ⊥) → x < y
-        go zero zero h n = absurd (n refl)
-        go zero (suc y) h n = omega arith
-        go (suc x) zero h n = absurd (omega arith)
-        go (suc x) (suc y) h n = let r = go x y (omega arith) (λ z. n (ap suc z)) in omega arith
-
+  module _ (less : before < rows) where
     next-row : tried F b (pairsIn rows (drop at g)) ≡ (F (getD g (at + 2 * before + 1) 0) || tried F b (pairsIn (rows - before - 1) (drop (at + 2 * before + 2) g)))
     next-row =
-        let less = before-less in
         let i : at + (2 * before + 1) ≡ at + 2 * before + 1 = omega arith in
         let j : at + 2 * suc before ≡ at + 2 * before + 2 = omega arith in
         let k : rows - suc before ≡ rows - before - 1 = omega arith in
@@ -126,31 +113,6 @@ module _ (F : ℕ → Bool) (b : ℕ) (g : List ℕ) (at rows before : ℕ) (e :
 
     pub rows-miss : (v : Bool) → false ≡ F (getD g (at + 2 * before + 1) 0) → v ≡ tried F b (pairsIn (rows - before - 1) (drop (at + 2 * before + 2) g)) → v ≡ tried F b (pairsIn rows (drop at g))
     rows-miss v q p = rw (next-row, ← q) p
-
--- going from row to row with the wanted label: what is left decides, of which `before` stand before the next one
-pub record Trying (F : ℕ → Bool) (b : ℕ) (g : List ℕ) (at rows at′ rows′ before : ℕ) : Type 0 where
-  pub within : Within at′ rows′
-  pub here : before ≡ skippedIn b (pairsIn rows′ (drop at′ g))
-  pub same : tried F b (pairsIn rows′ (drop at′ g)) ≡ tried F b (pairsIn rows (drop at g))
-
-pub trying-start : (F : ℕ → Bool) (b : ℕ) (g : List ℕ) (at rows before : ℕ) → Within at rows → before ≡ skippedIn b (pairsIn rows (drop at g)) → Trying F b g at rows at rows before
-trying-start F b g at rows before w e = record { within = w; here = e; same = refl }
-
-module _ (F : ℕ → Bool) (b : ℕ) (g : List ℕ) (at rows at′ rows′ before : ℕ) (t : Trying F b g at rows at′ rows′ before) where
-  pub trying-end : rows′ ≤ before → false ≡ tried F b (pairsIn rows (drop at g))
-  trying-end h = rows-none F b g at′ rows′ before (t .here) (omega (arith, before-few F b g at′ rows′ before (t .here))) ∙ t .same
-
-  module _ (h : before < rows′) where
-    pub trying-hit : true ≡ F (getD g (at′ + 2 * before + 1) 0) → true ≡ tried F b (pairsIn rows (drop at g))
-    trying-hit p = rows-hit F b g at′ rows′ before (t .here) (λ e. omega arith) p ∙ t .same
-
-    pub trying-on : false ≡ F (getD g (at′ + 2 * before + 1) 0) → (next : ℕ) → next ≡ skippedIn b (pairsIn (rows′ - before - 1) (drop (at′ + 2 * before + 2) g))
-        → Trying F b g at rows (at′ + 2 * before + 2) (rows′ - before - 1) next
-    trying-on p next e = record {
-      within = omega (arith, t .within);
-      here = e;
-      same = rows-miss F b g at′ rows′ before (t .here) (λ e. omega arith) _ p refl ∙ t .same;
-    }
 
 -- the handshakes, by the rows of the left
 module _ (P : Pairing) (F : ℕ → ℕ → Bool) (rights : List (ℕ × ℕ)) (g : List ℕ) (at rows : ℕ) where
@@ -224,6 +186,16 @@ module _ (labels : Labels) (l r : List ℕ) (φ : Formula) (j : Run (ℕ × ℕ)
       ap (λ u. any (λ m. same (m .0) a && judged labels l r φ (j ▸ move (m .0) (m .1))) (beside (pairing labels) (gridOf l) (gridOf r) u)) ends
       ∙ beside-composed (pairing labels) (gridOf l) (gridOf r) (λ m. same (m .0) a && judged labels l r φ (j ▸ move (m .0) (m .1))) p q
       ∙ ap₂ (λ x y. x || y) (alone-tried (λ x. (x, q)) (gridOf l p)) (ap₂ (λ x y. x || y) (alone-tried (λ y. (p, y)) (gridOf r q)) handshakes-shaken)
+
+  -- what holds after no step
+  pub forward-none : ((i : Run (ℕ × ℕ)) → false ≡ judged labels l r φ i) → false ≡ judged labels l r (fwd a φ) j
+  unfolding judged holds
+  forward-none never =
+      let steps = beside (pairing labels) (gridOf l) (gridOf r) (last j) in
+      sym (any-cong (λ (m : ℕ × (ℕ × ℕ)). fails (m .0) (m .1)) steps ∙ any-false steps)
+    where
+      fails : (c : ℕ) (u : ℕ × ℕ) → (same c a && judged labels l r φ (j ▸ move c u)) ≡ false
+      fails c u = ap (same c a &&_) (sym (never (j ▸ move c u))) ∙ and-false (same c a)
 
   -- the cases of the search
   module _ (x : Bool) (px : x ≡ tried (λ s. after a s q) a (gridOf l p)) where

@@ -6,3 +6,4 @@ pub mod Calls
 pub mod Still
 pub mod Widening
 pub mod Values
+pub mod Written

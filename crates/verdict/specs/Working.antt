@@ -19,24 +19,31 @@ use Rattle.formulas.specs.Sizes.{Sized}
 use Rattle.verdict.specs.declared.step.States.{States}
 use Rattle.verdict.specs.declared.step.Step.{Step}
 use Rattle.verdict.specs.declared.step.Step.the-variants as step
-use Rattle.verdict.specs.declared.step.Mover.{Mover}
-use Rattle.verdict.specs.declared.step.Mover.the-variants as mover
+use Rattle.verdict.specs.declared.trial.Mover.{Mover}
+use Rattle.verdict.specs.declared.trial.Mover.the-variants as mover
 
--- two states, as the program holds them and as the theory does
+-- two states, as the program holds them
 abbrev pub statesOf : ℕ → ℕ → States
 statesOf p q = record { left = p; right = q }
-
-abbrev pub pairOf : States → ℕ × ℕ
-pairOf u = (u .left, u .right)
 
 -- a step of a joint run by its three bytes
 unfoldable pub jointStep : ℕ → ℕ → ℕ → Step
 jointStep a p q = cond (eqb a 255) step.Idle (step.Move (record { label = record { 0 = a }; to = statesOf p q }))
 
 -- the states after a move of one side
-unfoldable pub targetsOf : Mover → ℕ → ℕ → States
-targetsOf mover.Left to other = statesOf to other
-targetsOf mover.Right to other = statesOf other to
+unfoldable pub targetsOf : Mover → ℕ → ℕ → ℕ × ℕ
+targetsOf mover.Left to other = (to, other)
+targetsOf mover.Right to other = (other, to)
+
+-- the grid of the side that moves
+unfoldable pub gridBy : Mover → List ℕ → List ℕ → List ℕ
+gridBy mover.Left l r = l
+gridBy mover.Right l r = r
+
+-- where the mover's state stands in a step that is written from n on
+unfoldable pub placeOf : Mover → ℕ → ℕ
+placeOf mover.Left n = n + 1
+placeOf mover.Right n = n + 2
 
 -- does a back modality fit the last step: 6 a move of its label, 8 the joint idle?
 unfoldable pub grants : ℕ → ℕ → Step → Bool
@@ -75,8 +82,8 @@ pub record Grids (l r : List ℕ) : Type 0 where
   pub left : Grid l
   pub right : Grid r
 
--- the first n bytes of xs are a run, with room behind it for `more` steps and those that the first tree of f looks ahead;
--- sizes has the sizes of f's trees
+-- the first n bytes of xs are a run, with room behind it for `more` steps and those that the first tree of f looks
+-- ahead; sizes has the sizes of f's trees
 pub record Ready (k : ℕ) (sizes xs : List ℕ) (n more : ℕ) (f : List ℕ) : Type 0 where
   pub tree : Tree f
   pub ranged : labelled (count k) (treeOf f) ≡ true
@@ -102,7 +109,8 @@ tried F b moves = any (λ m. same (m .0) b && F (m .1)) moves
 unfoldable pub shaken : Pairing → (ℕ → ℕ → Bool) → List (ℕ × ℕ) → List (ℕ × ℕ) → Bool
 shaken P F lefts rights = any (λ m. present (λ b. tried (F (m .1)) b rights) (P .partner (m .0))) lefts
 
--- a half run's bytes as those of a joint run beside a machine that stays in state 0. First its steps: a byte that fills no step is none
+-- a half run's bytes as those of a joint run beside a machine that stays in state 0. First its steps: a byte that fills
+-- no step is none
 unfoldable pub widened : List ℕ → List ℕ
 widened [] = []
 widened (a ∷ []) = []

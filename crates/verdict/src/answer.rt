@@ -21,8 +21,9 @@ pub enum Verdict {
     Refused(Refusal),
 }
 
-// The verdict on the run in the first len bytes of a buffer that has room for four steps more. The rows of each state and the sizes
-// of the formula's trees are found once, so that no rows are searched for and no operand is read to find the one behind it.
+// The verdict on the run in the first len bytes of a buffer that has room for four steps more. The rows of each state
+// and the sizes of the formula's trees are found once, so that no rows are searched for and no operand is read to find
+// the one behind it.
 pub(crate) fn verdict_on(
     labels: Labels,
     left: &[u8],
@@ -34,7 +35,9 @@ pub(crate) fn verdict_on(
     requires { ⌜ Tables (labels .pairs) (now left) (now right) ⌝ }
     requires { ⌜ Held (now run) len × (len ≤ 602) × (length (now run) ≡ 614) ⌝ }
     requires { ⌜ Legal (labels .pairs) quotientLimit (now formula) ⌝ }
-    ensures { λ r. ⌜ r ≡ verdictOf (present (λ φ. tablesHold labels (now (left .entry)) (now (right .entry)) φ (jointOf (take len (now (run .entry))))) (formulaOf (now (formula .entry)))) ⌝ }
+    ensures { λ r. ⌜ r ≡ verdictOf (present
+        (λ φ. tablesHold labels (now (left .entry)) (now (right .entry)) φ (jointOf (take len (now (run .entry)))))
+        (formulaOf (now (formula .entry)))) ⌝ }
 {
     let mut left_grid = [0u8; 1088];
     rows_by_state(labels, left, &mut left_grid);

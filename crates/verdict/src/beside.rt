@@ -8,7 +8,8 @@ ghost use Rattle.verdict.specs.Working.{besideStill};
 // Writes the first `steps` steps of a half run as a joint run, beside a machine that stays in state 0.
 pub(crate) fn beside_still(half: &[u8], steps: usize, run: &mut [u8])
     requires { ⌜ (2 * steps + 1 ≤ length (now half)) × (3 * steps + 2 ≤ length (now run)) ⌝ }
-    ensures { λ r. ⌜ now (run .exit) ≡ besideStill (take (2 * steps + 1) (now (half .entry))) ++ drop (3 * steps + 2) (now (run .entry)) ⌝ }
+    ensures { λ r. ⌜ now (run .exit) ≡ besideStill (take (2 * steps + 1) (now (half .entry)))
+        ++ drop (3 * steps + 2) (now (run .entry)) ⌝ }
 {
     run[0] = half[0];
     run[1] = 0;

@@ -51,17 +51,17 @@ pub(crate) fn rows_from(grid: &[u8; 1088], state: u8) -> Rows
     }
 }
 
-// How many of the rows from `at` on stand before the first with the wanted label.
-pub(crate) fn rows_before(grid: &[u8; 1088], at: usize, rows: usize, wanted: Label) -> usize
-    requires { ⌜ Within at rows ⌝ }
-    ensures { λ r. ⌜ r ≡ skippedIn (wanted .0) (pairsIn rows (drop at (now (grid .entry)))) ⌝ }
+// How many of the rows stand before the first with the wanted label.
+pub(crate) fn rows_before(grid: &[u8; 1088], rows: Rows, wanted: Label) -> usize
+    requires { ⌜ Within (rows .at) (rows .count) ⌝ }
+    ensures { λ r. ⌜ r ≡ skippedIn (wanted .0) (pairsIn (rows .count) (drop (rows .at) (now (grid .entry)))) ⌝ }
 {
     let mut i: usize = 0;
-    while i < rows {
-        if grid[at + 2 * i] == wanted.0 {
+    while i < rows.count {
+        if grid[rows.at + 2 * i] == wanted.0 {
             return i;
         }
         i += 1;
     }
-    rows
+    rows.count
 }

@@ -33,7 +33,8 @@ pub fn half(k: u8, table: &[u8], half: &[u8], formula: &[u8], point: usize) -> V
 
 // What a half call judges, in order.
 fn check_half_call(labels: Labels, table: &[u8], half: &[u8], formula: &[u8], point: usize) -> Check
-    ensures { λ r. ⌜ r ≡ checkHalfCall (labels .pairs) (now (table .entry)) (now (half .entry)) (now (formula .entry)) point ⌝ }
+    ensures { λ r. ⌜ r ≡ checkHalfCall (labels .pairs)
+        (now (table .entry)) (now (half .entry)) (now (formula .entry)) point ⌝ }
 {
     match check_pairs(labels.pairs) {
         Check::Sound => {}

@@ -12,7 +12,8 @@ ghost use Rattle.verdict.specs.Verdicts.{jointVerdict, checkJointCall};
 
 // The verdict on a joint run stopped at a point. The run is copied once, into a buffer with room for four steps more.
 pub fn joint(k: u8, left: &[u8], right: &[u8], run: &[u8], formula: &[u8], point: usize) -> Verdict
-    ensures { λ r. ⌜ r ≡ jointVerdict k (now (left .entry)) (now (right .entry)) (now (run .entry)) (now (formula .entry)) point ⌝ }
+    ensures { λ r. ⌜ r ≡ jointVerdict k
+        (now (left .entry)) (now (right .entry)) (now (run .entry)) (now (formula .entry)) point ⌝ }
 {
     let labels = Labels { pairs: k };
     match check_joint_call(labels, left, right, run, formula, point) {
@@ -34,7 +35,8 @@ fn check_joint_call(
     formula: &[u8],
     point: usize,
 ) -> Check
-    ensures { λ r. ⌜ r ≡ checkJointCall (labels .pairs) (now (left .entry)) (now (right .entry)) (now (run .entry)) (now (formula .entry)) point ⌝ }
+    ensures { λ r. ⌜ r ≡ checkJointCall (labels .pairs)
+        (now (left .entry)) (now (right .entry)) (now (run .entry)) (now (formula .entry)) point ⌝ }
 {
     match check_pairs(labels.pairs) {
         Check::Sound => {}

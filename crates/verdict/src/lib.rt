@@ -6,3 +6,4 @@ pub mod half;
 pub mod joint;
 mod search;
 mod step;
+mod trial;

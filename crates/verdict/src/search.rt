@@ -1,18 +1,24 @@
-// The verdict of a formula on a joint run that stands in a buffer. A look ahead writes one step behind the run, judges the
-// longer run, and puts back what stood there: after a back modality these are steps of the log.
+// The verdict of a formula on a joint run that stands in a buffer. A look ahead writes one step behind the run, judges
+// the longer run, and puts back what stood there: after a back modality these are steps of the log. The two grids have
+// one lifetime, so that the grid of the side that moves can be chosen.
+use crate::grid::Rows;
 use crate::grid::rows_before;
 use crate::grid::rows_from;
-use crate::step::Mover;
 use crate::step::back_fits;
 use crate::step::step_of;
-use crate::step::targets;
+use crate::trial::Mover;
+use crate::trial::Moves;
+use crate::trial::Trial;
+use crate::trial::grid_by;
+use crate::trial::place_by;
+use halves::step::Move;
 use labels::label::Label;
 use labels::label::Labels;
 use labels::label::Partner;
 ghost use mathlib.Core.Path.{_≡_};
 ghost use Prim.Native.Nat.{ℕ, _+_, _-_, _*_, _≤_};
 ghost use mathlib.Core.Bool.{_||_};
-ghost use lib.ListN.{getD, take, drop};
+ghost use lib.ListN.{getD, take, drop, set};
 ghost use lib.Dec.{eqb};
 ghost use Rattle.hml.specs.Lists.{present};
 ghost use Rattle.hml.specs.System.{_▸_};
@@ -21,13 +27,26 @@ ghost use Rattle.labels.specs.Labels.{pairing};
 ghost use Rattle.halves.specs.Runs.{stepOf};
 ghost use Rattle.machines.specs.Joints.{jointOf};
 ghost use Rattle.formulas.specs.Trees.{treeOf};
-ghost use Rattle.verdict.specs.Working.{Grids, Ready, Shown, Within, judged, pairsIn, gridOf, tried, shaken, pairOf, targetsOf};
+ghost use Rattle.verdict.specs.Working.{
+  Grids,
+  Ready,
+  Shown,
+  Within,
+  judged,
+  pairsIn,
+  gridOf,
+  gridBy,
+  tried,
+  shaken,
+  placeOf,
+  targetsOf,
+};
 
 // Does the first tree of f hold on the run in the first len bytes? "And" and "or" stop as soon as they can.
-pub(crate) fn holds(
+pub(crate) fn holds<'a>(
     labels: Labels,
-    left: &[u8; 1088],
-    right: &[u8; 1088],
+    left: &'a [u8; 1088],
+    right: &'a [u8; 1088],
     sizes: &[usize; 4096],
     run: &mut [u8; 614],
     len: usize,
@@ -35,7 +54,8 @@ pub(crate) fn holds(
 ) -> bool
     requires { ⌜ Grids (now left) (now right) ⌝ }
     requires { ⌜ Ready (labels .pairs) (now sizes) (now run) len 0 (now f) ⌝ }
-    ensures { λ r. ⌜ r ≡ judged labels (now (left .entry)) (now (right .entry)) (treeOf (now (f .entry))) (jointOf (take len (now (run .entry)))) ⌝ }
+    ensures { λ r. ⌜ r ≡ judged labels (now (left .entry)) (now (right .entry))
+        (treeOf (now (f .entry))) (jointOf (take len (now (run .entry)))) ⌝ }
     ensures { λ r. ⌜ now (run .exit) ≡ now (run .entry) ⌝ }
 {
     let mut rest = f;
@@ -63,10 +83,10 @@ fn is_binary(operator: u8) -> bool
 }
 
 // The same for a tree of no operand or one.
-fn judge(
+fn judge<'a>(
     labels: Labels,
-    left: &[u8; 1088],
-    right: &[u8; 1088],
+    left: &'a [u8; 1088],
+    right: &'a [u8; 1088],
     sizes: &[usize; 4096],
     run: &mut [u8; 614],
     len: usize,
@@ -75,7 +95,8 @@ fn judge(
     requires { ⌜ Grids (now left) (now right) ⌝ }
     requires { ⌜ Ready (labels .pairs) (now sizes) (now run) len 0 (now f) ⌝ }
     requires { ⌜ ((getD (now f) 0 0 ≡ 3 → ⊥) × (getD (now f) 0 0 ≡ 4 → ⊥)) ⌝ }
-    ensures { λ r. ⌜ r ≡ judged labels (now (left .entry)) (now (right .entry)) (treeOf (now (f .entry))) (jointOf (take len (now (run .entry)))) ⌝ }
+    ensures { λ r. ⌜ r ≡ judged labels (now (left .entry)) (now (right .entry))
+        (treeOf (now (f .entry))) (jointOf (take len (now (run .entry)))) ⌝ }
     ensures { λ r. ⌜ now (run .exit) ≡ now (run .entry) ⌝ }
 {
     let operator = f[0];
@@ -92,10 +113,10 @@ fn judge(
 }
 
 // The same for a modality: operators 5 to 8.
-fn modal(
+fn modal<'a>(
     labels: Labels,
-    left: &[u8; 1088],
-    right: &[u8; 1088],
+    left: &'a [u8; 1088],
+    right: &'a [u8; 1088],
     sizes: &[usize; 4096],
     run: &mut [u8; 614],
     len: usize,
@@ -104,7 +125,8 @@ fn modal(
     requires { ⌜ Grids (now left) (now right) ⌝ }
     requires { ⌜ Ready (labels .pairs) (now sizes) (now run) len 0 (now f) ⌝ }
     requires { ⌜ 5 ≤ getD (now f) 0 0 ⌝ }
-    ensures { λ r. ⌜ r ≡ judged labels (now (left .entry)) (now (right .entry)) (treeOf (now (f .entry))) (jointOf (take len (now (run .entry)))) ⌝ }
+    ensures { λ r. ⌜ r ≡ judged labels (now (left .entry)) (now (right .entry))
+        (treeOf (now (f .entry))) (jointOf (take len (now (run .entry)))) ⌝ }
     ensures { λ r. ⌜ now (run .exit) ≡ now (run .entry) ⌝ }
 {
     let operator = f[0];
@@ -113,20 +135,7 @@ fn modal(
         return forward(labels, left, right, sizes, run, len, Label(f[1]), body);
     }
     if operator == 7 {
-        let p = run[len - 2];
-        let q = run[len - 1];
-        return look(
-            labels,
-            left,
-            right,
-            sizes,
-            run,
-            len,
-            Label::IDLE,
-            p,
-            q,
-            body,
-        );
+        return stay(labels, left, right, sizes, run, len, body);
     }
     if len < 5 {
         return false;
@@ -139,10 +148,10 @@ fn modal(
 }
 
 // Does f hold after one of the real steps of this label: the left alone, the right alone, or a handshake?
-fn forward(
+fn forward<'a>(
     labels: Labels,
-    left: &[u8; 1088],
-    right: &[u8; 1088],
+    left: &'a [u8; 1088],
+    right: &'a [u8; 1088],
     sizes: &[usize; 4096],
     run: &mut [u8; 614],
     len: usize,
@@ -152,9 +161,15 @@ fn forward(
     requires { ⌜ Grids (now left) (now right) ⌝ }
     requires { ⌜ Ready (labels .pairs) (now sizes) (now run) len 1 (now f) ⌝ }
     requires { ⌜ Shown (label .0) ⌝ }
-    ensures { λ r. ⌜ r ≡ judged labels (now (left .entry)) (now (right .entry)) (fwd (label .0) (treeOf (now (f .entry)))) (jointOf (take len (now (run .entry)))) ⌝ }
+    ensures { λ r. ⌜ r ≡ judged labels (now (left .entry)) (now (right .entry))
+        (fwd (label .0) (treeOf (now (f .entry)))) (jointOf (take len (now (run .entry)))) ⌝ }
     ensures { λ r. ⌜ now (run .exit) ≡ now (run .entry) ⌝ }
 {
+    // False holds after no step.
+    let operator = f[0];
+    if operator == 1 {
+        return false;
+    }
     if try_left(labels, left, right, sizes, run, len, label, f) {
         return true;
     }
@@ -168,10 +183,10 @@ fn forward(
 }
 
 // Does f hold after one of the left's steps alone of this label?
-fn try_left(
+fn try_left<'a>(
     labels: Labels,
-    left: &[u8; 1088],
-    right: &[u8; 1088],
+    left: &'a [u8; 1088],
+    right: &'a [u8; 1088],
     sizes: &[usize; 4096],
     run: &mut [u8; 614],
     len: usize,
@@ -181,35 +196,31 @@ fn try_left(
     requires { ⌜ Grids (now left) (now right) ⌝ }
     requires { ⌜ Ready (labels .pairs) (now sizes) (now run) len 1 (now f) ⌝ }
     requires { ⌜ Shown (label .0) ⌝ }
-    ensures { λ r. ⌜ r ≡ tried (λ (p : ℕ). judged labels (now (left .entry)) (now (right .entry)) (treeOf (now (f .entry))) (jointOf (take len (now (run .entry))) ▸ stepOf (label .0) (p, getD (now (run .entry)) (len - 1) 0)))
+    ensures { λ r. ⌜ r ≡ tried (λ (p : ℕ).
+        judged labels (now (left .entry)) (now (right .entry)) (treeOf (now (f .entry)))
+        (jointOf (take len (now (run .entry))) ▸ stepOf (label .0) (p, getD (now (run .entry)) (len - 1) 0)))
         (label .0) (gridOf (now (left .entry)) (getD (now (run .entry)) (len - 2) 0)) ⌝ }
     ensures { λ r. ⌜ now (run .exit) ≡ now (run .entry) ⌝ }
 {
-    let q = run[len - 1];
     let rows = rows_from(left, run[len - 2]);
-    try_rows(
-        labels,
-        left,
-        right,
-        sizes,
-        run,
-        len,
-        left,
-        rows.at,
-        rows.count,
-        label,
-        label,
-        Mover::Left,
-        q,
-        f,
-    )
+    let moves = Moves {
+        rows,
+        wanted: label,
+        mover: Mover::Left,
+    };
+    let trial = Trial {
+        moves,
+        shown: label,
+        other: run[len - 1],
+    };
+    try_moves(labels, left, right, sizes, run, len, trial, f)
 }
 
 // Does f hold after one of the right's steps alone of this label?
-fn try_right(
+fn try_right<'a>(
     labels: Labels,
-    left: &[u8; 1088],
-    right: &[u8; 1088],
+    left: &'a [u8; 1088],
+    right: &'a [u8; 1088],
     sizes: &[usize; 4096],
     run: &mut [u8; 614],
     len: usize,
@@ -219,35 +230,31 @@ fn try_right(
     requires { ⌜ Grids (now left) (now right) ⌝ }
     requires { ⌜ Ready (labels .pairs) (now sizes) (now run) len 1 (now f) ⌝ }
     requires { ⌜ Shown (label .0) ⌝ }
-    ensures { λ r. ⌜ r ≡ tried (λ (q : ℕ). judged labels (now (left .entry)) (now (right .entry)) (treeOf (now (f .entry))) (jointOf (take len (now (run .entry))) ▸ stepOf (label .0) (getD (now (run .entry)) (len - 2) 0, q)))
+    ensures { λ r. ⌜ r ≡ tried (λ (q : ℕ).
+        judged labels (now (left .entry)) (now (right .entry)) (treeOf (now (f .entry)))
+        (jointOf (take len (now (run .entry))) ▸ stepOf (label .0) (getD (now (run .entry)) (len - 2) 0, q)))
         (label .0) (gridOf (now (right .entry)) (getD (now (run .entry)) (len - 1) 0)) ⌝ }
     ensures { λ r. ⌜ now (run .exit) ≡ now (run .entry) ⌝ }
 {
-    let p = run[len - 2];
     let rows = rows_from(right, run[len - 1]);
-    try_rows(
-        labels,
-        left,
-        right,
-        sizes,
-        run,
-        len,
-        right,
-        rows.at,
-        rows.count,
-        label,
-        label,
-        Mover::Right,
-        p,
-        f,
-    )
+    let moves = Moves {
+        rows,
+        wanted: label,
+        mover: Mover::Right,
+    };
+    let trial = Trial {
+        moves,
+        shown: label,
+        other: run[len - 2],
+    };
+    try_moves(labels, left, right, sizes, run, len, trial, f)
 }
 
 // Does f hold after one of the handshakes from the last states?
-fn try_both(
+fn try_both<'a>(
     labels: Labels,
-    left: &[u8; 1088],
-    right: &[u8; 1088],
+    left: &'a [u8; 1088],
+    right: &'a [u8; 1088],
     sizes: &[usize; 4096],
     run: &mut [u8; 614],
     len: usize,
@@ -255,210 +262,212 @@ fn try_both(
 ) -> bool
     requires { ⌜ Grids (now left) (now right) ⌝ }
     requires { ⌜ Ready (labels .pairs) (now sizes) (now run) len 1 (now f) ⌝ }
-    ensures { λ r. ⌜ r ≡ shaken (pairing labels) (λ (p q : ℕ). judged labels (now (left .entry)) (now (right .entry)) (treeOf (now (f .entry))) (jointOf (take len (now (run .entry))) ▸ stepOf 0 (p, q)))
-        (gridOf (now (left .entry)) (getD (now (run .entry)) (len - 2) 0)) (gridOf (now (right .entry)) (getD (now (run .entry)) (len - 1) 0)) ⌝ }
+    ensures { λ r. ⌜ r ≡ shaken (pairing labels) (λ (p q : ℕ).
+        judged labels (now (left .entry)) (now (right .entry)) (treeOf (now (f .entry)))
+        (jointOf (take len (now (run .entry))) ▸ stepOf 0 (p, q)))
+        (gridOf (now (left .entry)) (getD (now (run .entry)) (len - 2) 0))
+        (gridOf (now (right .entry)) (getD (now (run .entry)) (len - 1) 0)) ⌝ }
     ensures { λ r. ⌜ now (run .exit) ≡ now (run .entry) ⌝ }
 {
-    let lefts = rows_from(left, run[len - 2]);
-    let rights = rows_from(right, run[len - 1]);
-    try_handshakes(
-        labels,
-        left,
-        right,
-        sizes,
-        run,
-        len,
-        lefts.at,
-        lefts.count,
-        rights.at,
-        rights.count,
-        f,
-    )
+    let rows = rows_from(left, run[len - 2]);
+    try_handshakes(labels, left, right, sizes, run, len, rows, f)
 }
 
-// Does f hold after one of the handshakes of the left's rows from `at` on with the right's from `others` on?
-fn try_handshakes(
+// Does f hold after one of the handshakes of these rows of the left?
+fn try_handshakes<'a>(
     labels: Labels,
-    left: &[u8; 1088],
-    right: &[u8; 1088],
+    left: &'a [u8; 1088],
+    right: &'a [u8; 1088],
     sizes: &[usize; 4096],
     run: &mut [u8; 614],
     len: usize,
-    at: usize,
-    rows: usize,
-    others: usize,
-    count: usize,
+    rows: Rows,
     f: &[u8],
 ) -> bool
     requires { ⌜ Grids (now left) (now right) ⌝ }
     requires { ⌜ Ready (labels .pairs) (now sizes) (now run) len 1 (now f) ⌝ }
-    requires { ⌜ Within at rows × Within others count ⌝ }
-    ensures { λ r. ⌜ r ≡ shaken (pairing labels) (λ (p q : ℕ). judged labels (now (left .entry)) (now (right .entry)) (treeOf (now (f .entry))) (jointOf (take len (now (run .entry))) ▸ stepOf 0 (p, q)))
-        (pairsIn rows (drop at (now (left .entry)))) (pairsIn count (drop others (now (right .entry)))) ⌝ }
+    requires { ⌜ Within (rows .at) (rows .count) ⌝ }
+    ensures { λ r. ⌜ r ≡ shaken (pairing labels) (λ (p q : ℕ).
+        judged labels (now (left .entry)) (now (right .entry)) (treeOf (now (f .entry)))
+        (jointOf (take len (now (run .entry))) ▸ stepOf 0 (p, q)))
+        (pairsIn (rows .count) (drop (rows .at) (now (left .entry))))
+        (gridOf (now (right .entry)) (getD (now (run .entry)) (len - 1) 0)) ⌝ }
     ensures { λ r. ⌜ now (run .exit) ≡ now (run .entry) ⌝ }
 {
-    if rows == 0 {
+    if rows.count == 0 {
         return false;
     }
-    if try_partner(
-        labels,
-        left,
-        right,
-        sizes,
-        run,
-        len,
-        Label(left[at]),
-        left[at + 1],
-        others,
-        count,
-        f,
-    ) {
+    let at = rows.at;
+    let first = Move {
+        label: Label(left[at]),
+        target: left[at + 1],
+    };
+    if try_partner(labels, left, right, sizes, run, len, first, f) {
         return true;
     }
-    try_handshakes(
-        labels,
-        left,
-        right,
-        sizes,
-        run,
-        len,
-        at + 2,
-        rows - 1,
-        others,
-        count,
-        f,
-    )
+    let rest = Rows {
+        at: at + 2,
+        count: rows.count - 1,
+    };
+    try_handshakes(labels, left, right, sizes, run, len, rest, f)
 }
 
-// Does f hold after a handshake of a move of the left, by its label and target, with one of the right's rows from `at` on?
-fn try_partner(
+// Does f hold after one of the handshakes of this move of the left?
+fn try_partner<'a>(
     labels: Labels,
-    left: &[u8; 1088],
-    right: &[u8; 1088],
+    left: &'a [u8; 1088],
+    right: &'a [u8; 1088],
     sizes: &[usize; 4096],
     run: &mut [u8; 614],
     len: usize,
-    label: Label,
-    target: u8,
-    at: usize,
-    rows: usize,
+    first: Move,
     f: &[u8],
 ) -> bool
     requires { ⌜ Grids (now left) (now right) ⌝ }
     requires { ⌜ Ready (labels .pairs) (now sizes) (now run) len 1 (now f) ⌝ }
-    requires { ⌜ Within at rows ⌝ }
-    ensures { λ r. ⌜ r ≡ present (λ (b : ℕ). tried (λ (q : ℕ). judged labels (now (left .entry)) (now (right .entry)) (treeOf (now (f .entry))) (jointOf (take len (now (run .entry))) ▸ stepOf 0 (target, q)))
-        b (pairsIn rows (drop at (now (right .entry))))) (pairing labels .partner (label .0)) ⌝ }
+    ensures { λ r. ⌜ r ≡ present (λ (b : ℕ). tried (λ (q : ℕ).
+        judged labels (now (left .entry)) (now (right .entry)) (treeOf (now (f .entry)))
+        (jointOf (take len (now (run .entry))) ▸ stepOf 0 (first .target, q)))
+        b (gridOf (now (right .entry)) (getD (now (run .entry)) (len - 1) 0)))
+        (pairing labels .partner (first .label .0)) ⌝ }
     ensures { λ r. ⌜ now (run .exit) ≡ now (run .entry) ⌝ }
 {
-    match labels.partner(label) {
-        Partner::Label(partner) => try_rows(
-            labels,
-            left,
-            right,
-            sizes,
-            run,
-            len,
-            right,
-            at,
-            rows,
-            partner,
-            Label::SILENT,
-            Mover::Right,
-            target,
-            f,
-        ),
+    match labels.partner(first.label) {
+        Partner::Label(partner) => {
+            let rows = rows_from(right, run[len - 1]);
+            let moves = Moves {
+                rows,
+                wanted: partner,
+                mover: Mover::Right,
+            };
+            let trial = Trial {
+                moves,
+                shown: Label::SILENT,
+                other: first.target,
+            };
+            try_moves(labels, left, right, sizes, run, len, trial, f)
+        }
         Partner::Nobody => false,
     }
 }
 
-// Does f hold after one of the mover's rows from `at` on that have the wanted label? The step shows its own label; the other
-// side is in the state `other` after it.
-fn try_rows(
+// Does f hold after one of the steps of a trial? What they have in common is written once. The buffer is as before
+// when this returns.
+fn try_moves<'a>(
     labels: Labels,
-    left: &[u8; 1088],
-    right: &[u8; 1088],
+    left: &'a [u8; 1088],
+    right: &'a [u8; 1088],
     sizes: &[usize; 4096],
     run: &mut [u8; 614],
     len: usize,
-    grid: &[u8; 1088],
-    at: usize,
-    rows: usize,
-    wanted: Label,
-    shown: Label,
-    mover: Mover,
-    other: u8,
+    trial: Trial,
     f: &[u8],
 ) -> bool
     requires { ⌜ Grids (now left) (now right) ⌝ }
     requires { ⌜ Ready (labels .pairs) (now sizes) (now run) len 1 (now f) ⌝ }
-    requires { ⌜ Within at rows × Shown (shown .0) ⌝ }
-    ensures { λ r. ⌜ r ≡ tried (λ (to : ℕ). judged labels (now (left .entry)) (now (right .entry)) (treeOf (now (f .entry))) (jointOf (take len (now (run .entry))) ▸ stepOf (shown .0) (pairOf (targetsOf mover to other))))
-        (wanted .0) (pairsIn rows (drop at (now (grid .entry)))) ⌝ }
+    requires { ⌜ Within (trial .moves .rows .at) (trial .moves .rows .count)
+        × (trial .moves .rows .count ≤ 8) × Shown (trial .shown .0) ⌝ }
+    ensures { λ r. ⌜ r ≡ tried (λ (to : ℕ).
+        judged labels (now (left .entry)) (now (right .entry)) (treeOf (now (f .entry)))
+        (jointOf (take len (now (run .entry)))
+        ▸ stepOf (trial .shown .0) (targetsOf (trial .moves .mover) to (trial .other))))
+        (trial .moves .wanted .0) (pairsIn (trial .moves .rows .count) (drop (trial .moves .rows .at)
+        (gridBy (trial .moves .mover) (now (left .entry)) (now (right .entry))))) ⌝ }
     ensures { λ r. ⌜ now (run .exit) ≡ now (run .entry) ⌝ }
 {
-    let mut at = at;
-    let mut rows = rows;
-    let mut before = rows_before(grid, at, rows, wanted);
-    while before < rows {
-        let here = at + 2 * before;
-        let to = targets(mover, grid[here + 1], other);
-        if look(
-            labels,
-            left,
-            right,
-            sizes,
-            run,
-            len,
-            shown,
-            to.left,
-            to.right,
-            f,
-        ) {
-            return true;
-        }
-        at = here + 2;
-        rows = rows - before - 1;
-        before = rows_before(grid, at, rows, wanted);
-    }
-    false
-}
-
-// Does f hold on the run with one step more? The buffer is as before when this returns. True and false need no run.
-fn look(
-    labels: Labels,
-    left: &[u8; 1088],
-    right: &[u8; 1088],
-    sizes: &[usize; 4096],
-    run: &mut [u8; 614],
-    len: usize,
-    label: Label,
-    p: u8,
-    q: u8,
-    f: &[u8],
-) -> bool
-    requires { ⌜ Grids (now left) (now right) ⌝ }
-    requires { ⌜ Ready (labels .pairs) (now sizes) (now run) len 1 (now f) ⌝ }
-    requires { ⌜ (label .0 ≡ 255 → (p ≡ getD (now run) (len - 2) 0) × (q ≡ getD (now run) (len - 1) 0)) ⌝ }
-    ensures { λ r. ⌜ r ≡ judged labels (now (left .entry)) (now (right .entry)) (treeOf (now (f .entry))) (jointOf (take len (now (run .entry))) ▸ stepOf (label .0) (p, q)) ⌝ }
-    ensures { λ r. ⌜ now (run .exit) ≡ now (run .entry) ⌝ }
-{
-    let operator = f[0];
-    if operator == 0 {
-        return true;
-    }
-    if operator == 1 {
-        return false;
-    }
     let a = run[len];
     let b = run[len + 1];
     let c = run[len + 2];
-    run[len] = label.0;
-    run[len + 1] = p;
-    run[len + 2] = q;
-    let held = holds(labels, left, right, sizes, run, len + 3, f);
+    let shown = trial.shown;
+    run[len] = shown.0;
+    run[len + 1] = trial.other;
+    run[len + 2] = trial.other;
+    let held = try_rows(labels, left, right, sizes, run, len, trial.moves, f);
     run[len] = a;
     run[len + 1] = b;
     run[len + 2] = c;
+    held
+}
+
+// Does f hold after one of these moves? All of the step but the mover's state stands behind the run.
+fn try_rows<'a>(
+    labels: Labels,
+    left: &'a [u8; 1088],
+    right: &'a [u8; 1088],
+    sizes: &[usize; 4096],
+    run: &mut [u8; 614],
+    len: usize,
+    moves: Moves,
+    f: &[u8],
+) -> bool
+    requires { ⌜ Grids (now left) (now right) ⌝ }
+    requires { ⌜ Ready (labels .pairs) (now sizes) (now run) len 1 (now f) ⌝ }
+    requires { ⌜ Within (moves .rows .at) (moves .rows .count)
+        × (moves .rows .count ≤ 8) × Shown (getD (now run) len 0) ⌝ }
+    ensures { λ r. ⌜ r ≡ tried (λ (to : ℕ).
+        judged labels (now (left .entry)) (now (right .entry)) (treeOf (now (f .entry)))
+        (jointOf (take (len + 3) (set (now (run .entry)) (placeOf (moves .mover) len) to))))
+        (moves .wanted .0) (pairsIn (moves .rows .count) (drop (moves .rows .at)
+        (gridBy (moves .mover) (now (left .entry)) (now (right .entry))))) ⌝ }
+    ensures { λ r. ⌜ now (run .exit) ≡ now (run .entry) ⌝ }
+{
+    let mover = moves.mover;
+    let rows = moves.rows;
+    let wanted = moves.wanted;
+    let grid = grid_by(left, right, mover);
+    let before = rows_before(grid, rows, wanted);
+    if rows.count <= before {
+        return false;
+    }
+    let here = rows.at + 2 * before;
+    let place = place_by(mover, len);
+    let kept = run[place];
+    run[place] = grid[here + 1];
+    let held = holds(labels, left, right, sizes, run, len + 3, f);
+    run[place] = kept;
+    if held {
+        return true;
+    }
+    let rows = Rows {
+        at: here + 2,
+        count: rows.count - before - 1,
+    };
+    let rest = Moves {
+        rows,
+        wanted,
+        mover,
+    };
+    try_rows(labels, left, right, sizes, run, len, rest, f)
+}
+
+// Does f hold on the run with an idle more? The buffer is as before when this returns.
+fn stay<'a>(
+    labels: Labels,
+    left: &'a [u8; 1088],
+    right: &'a [u8; 1088],
+    sizes: &[usize; 4096],
+    run: &mut [u8; 614],
+    len: usize,
+    f: &[u8],
+) -> bool
+    requires { ⌜ Grids (now left) (now right) ⌝ }
+    requires { ⌜ Ready (labels .pairs) (now sizes) (now run) len 1 (now f) ⌝ }
+    ensures { λ r. ⌜ r ≡ judged labels (now (left .entry)) (now (right .entry)) (treeOf (now (f .entry)))
+        (jointOf (take len (now (run .entry)))
+        ▸ stepOf 255 (getD (now (run .entry)) (len - 2) 0, getD (now (run .entry)) (len - 1) 0)) ⌝ }
+    ensures { λ r. ⌜ now (run .exit) ≡ now (run .entry) ⌝ }
+{
+    let p = run[len - 2];
+    let q = run[len - 1];
+    let x = run[len];
+    let y = run[len + 1];
+    let z = run[len + 2];
+    run[len] = Label::IDLE.0;
+    run[len + 1] = p;
+    run[len + 2] = q;
+    let held = holds(labels, left, right, sizes, run, len + 3, f);
+    run[len] = x;
+    run[len + 1] = y;
+    run[len + 2] = z;
     held
 }

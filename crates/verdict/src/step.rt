@@ -1,7 +1,7 @@
 // A step of a joint run, and the states that it leads to.
 use labels::label::Label;
 ghost use mathlib.Core.Path.{_≡_};
-ghost use Rattle.verdict.specs.Working.{jointStep, targetsOf, grants};
+ghost use Rattle.verdict.specs.Working.{jointStep, grants};
 
 // A state of the left machine and one of the right.
 pub(crate) struct States {
@@ -29,28 +29,6 @@ pub(crate) fn step_of(label: Label, left: u8, right: u8) -> Step
     }
     let to = States { left, right };
     Step::Move(Move { label, to })
-}
-
-// The side that moves by a row.
-pub(crate) enum Mover {
-    Left,
-    Right,
-}
-
-// The states after a row's target on the mover's side and this state on the other.
-pub(crate) fn targets(mover: Mover, target: u8, other: u8) -> States
-    ensures { λ r. ⌜ r ≡ targetsOf mover target other ⌝ }
-{
-    match mover {
-        Mover::Left => States {
-            left: target,
-            right: other,
-        },
-        Mover::Right => States {
-            left: other,
-            right: target,
-        },
-    }
 }
 
 // Does a back modality, by its operator and label, fit the last step?

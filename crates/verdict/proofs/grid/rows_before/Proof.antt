@@ -6,37 +6,41 @@ use native.Mathlib.Omega.{arith}
 use Rattle.verdict.proofs.GridRows.{Seeking, seek-start, seek-end, seek-hit, seek-on}
 
 abbrev Inv-loop : tie.InvT-loop
-Inv-loop grid at rows wanted i₀ i = Seeking (wanted .0) grid at rows i
+Inv-loop grid rows wanted i₀ i = Seeking (wanted .0) grid (rows .at) (rows .count) i
 
 abbrev μ-loop : tie.MeasureT-loop
-μ-loop grid at rows wanted i₀ i = rows - i
+μ-loop grid rows wanted i₀ i = rows .count - i
 
 loop-holds : tie.Need-loop-holds Inv-loop μ-loop
 loop-holds c = seek-start _ _ _ _
 
-mul-if1 : tie.Need-mul-if1 Inv-loop μ-loop
-mul-if1 c = omega (arith, c .before .before .pre)
+mul-if2 : tie.Need-mul-if2 Inv-loop μ-loop
+mul-if2 c = omega (arith, c .before .before .before .pre, c .if1 .taken)
 
-add-if1 : tie.Need-add-if1 Inv-loop μ-loop
-add-if1 c = omega (arith, c .before .before .pre)
+add-if2 : tie.Need-add-if2 Inv-loop μ-loop
+add-if2 c = omega (arith, c .before .before .before .before .pre, c .before .if1 .taken)
 
-element-copy-out-if1 : tie.Need-element-copy-out-if1 Inv-loop μ-loop
-element-copy-out-if1 c = omega (arith, c .before .before .pre)
+element-copy-out-if2 : tie.Need-element-copy-out-if2 Inv-loop μ-loop
+element-copy-out-if2 c = omega (arith, c .before .before .before .before .pre, c .before .if1 .taken)
 
 returns : tie.Need-returns Inv-loop μ-loop
-returns c = seek-hit _ _ _ _ _ (c .before .before .before .before .loop .inv) (c .before .before .before .loop-test .taken) (c .if1 .taken)
+returns c =
+    let test = c .before .before .before .before in
+    seek-hit _ _ _ _ _ (test .before .before .loop .inv) (test .if1 .taken) (c .if2 .taken)
 
 add-i : tie.Need-add-i Inv-loop μ-loop
-add-i c = omega arith
+add-i c = omega (arith, c .before .before .before .before .if1 .taken)
 
 loop-less : tie.Need-loop-less Inv-loop μ-loop
-loop-less c = omega arith
+loop-less c = omega (arith, c .before .before .before .before .if1 .taken)
 
 loop-again : tie.Need-loop-again Inv-loop μ-loop
-loop-again c = seek-on _ _ _ _ _ (c .before .before .before .before .loop .inv) (c .before .before .before .loop-test .taken) (c .if1 .left)
+loop-again c =
+    let test = c .before .before .before .before in
+    seek-on _ _ _ _ _ (test .before .before .loop .inv) (test .if1 .taken) (c .if2 .left)
 
 returns-2 : tie.Need-returns-2 Inv-loop μ-loop
-returns-2 c = seek-end _ _ _ _ _ (c .before .loop .inv) (c .loop-test .left)
+returns-2 c = seek-end _ _ _ _ _ (c .before .before .loop .inv) (c .if1 .left)
 
 pub rows-before-spec : {M : Type 1} → statement M
 rows-before-spec =
@@ -45,9 +49,9 @@ rows-before-spec =
     Inv-loop
     μ-loop
     loop-holds
-    mul-if1
-    add-if1
-    element-copy-out-if1
+    mul-if2
+    add-if2
+    element-copy-out-if2
     returns
     add-i
     loop-less
