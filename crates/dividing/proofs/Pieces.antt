@@ -1,7 +1,7 @@
 -- Pieces written one after the other into an output, each into the rest that the one before it left.
 use Prim.Native.Nat.{ℕ, _+_, _-_, _≤_}
 use mathlib.Core.Path.{_≡_, refl, sym, _∙_, ap}
-use mathlib.Core.List.{List, [], _++_}
+use mathlib.Core.List.{List, [], _∷_, _++_}
 use native.Mathlib.Omega.{arith}
 use lib.ListN.{length, take, drop, length-append, length-drop}
 use lib.Seq.{take-append-seam}
@@ -28,6 +28,11 @@ one-piece b w xs zs k e p q = (p ∙ ap length e, q ∙ ap (λ z. inFront z xs) 
 pub joined : (b d : List ℕ) → Behind b d (b ++ d)
 unfolding Behind
 joined b d = refl
+
+-- a node, and the piece behind it
+pub node-over-length : (o a : ℕ) (d w : List ℕ) → Behind (o ∷ a ∷ []) d w → {n : ℕ} → n ≡ length d → 2 + n ≡ length w
+unfolding Behind
+node-over-length o a d w e p = omega (arith, ap length e, p)
 
 module _ (b d w : List ℕ) (m : ℕ) (e : Behind b d w) (h : length w ≤ m) where
   both-length : length b + length d ≡ length w

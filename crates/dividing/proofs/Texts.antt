@@ -1,5 +1,5 @@
 -- The bytes of a quotient from those of the operands, by the operator.
-use Prim.Native.Nat.{ℕ, _+_, _-_, _*_, _/_, _≤_, _<_}
+use Prim.Native.Nat.{ℕ, _+_, _-_, _*_, _/_, _%_, _≤_, _<_}
 use mathlib.Core.Path.{_≡_, refl, sym, _∙_, ap}
 use mathlib.Core.Logic.{_⊎_, inl, inr, ⊎-elim}
 use mathlib.Core.Bool.{Bool, true, false, cond}
@@ -7,10 +7,12 @@ use mathlib.Core.List.{List, [], _∷_, _++_}
 use mathlib.Core.Option.{Option, none, some}
 use native.Mathlib.Omega.{arith}
 use lib.ListN.{length, getD, take, length-append}
-use lib.Dec.{eqb}
-use borrow.Author.Tests.{eq-eqb, ne-eqb, eqb-true, eqb-false}
+use lib.Seq.{length-take-le, getD-take}
+use lib.Dec.{eqb, ltb}
+use borrow.Author.Tests.{eq-eqb, ne-eqb, lt-ltb, eqb-true, eqb-false, ltb-true, ltb-false}
 use Rattle.hml.specs.Lists.{same}
-use Rattle.hml.specs.System.{Run, _▸_, move, idle, last}
+use Rattle.hml.proofs.Tests.{apart}
+use Rattle.hml.specs.System.{Step, Run, _▸_, move, idle, last}
 use Rattle.hml.specs.Formula.{Formula, not, and, or, back, backIdle, size}
 use Rattle.hml.specs.Spell.{spell}
 use Rattle.hml.proofs.Spelling.{length-spell, spell-append}
@@ -21,6 +23,7 @@ use Rattle.labels.proofs.Slices.{rest}
 use Rattle.tables.specs.Tables.{tableOf}
 use Rattle.halves.specs.Runs.{stepOf}
 use Rattle.halves.specs.Halves.{halfOf}
+use Rattle.halves.specs.Steps.{stepStruct, stepRead}
 use Rattle.halves.proofs.HalfBuffers.{HeldHalf, half-empty, half-step}
 use Rattle.formulas.specs.Trees.{treeOf}
 use Rattle.formulas.proofs.Measures.{size-some}
@@ -29,7 +32,7 @@ use Rattle.formulas.proofs.Operands.{Part, Connective, operand-is, operands-are
 use Rattle.dividing.specs.declared.node.Node.{Node}
 use Rattle.dividing.specs.declared.node.Past.{Past}
 use Rattle.dividing.specs.declared.node.Past.the-variants as past
-use Rattle.dividing.specs.Working.{Behind, nodeOver, backByPartner, pastOf, text}
+use Rattle.dividing.specs.Working.{Behind, nodeOver, backByPartner, pastMove, pastOf, lastRead, pastRead, text}
 use Rattle.dividing.proofs.Readiness.{Back, Inner}
 
 -- the bytes of a back modality's quotient: a node over other bytes, or false
@@ -47,7 +50,8 @@ silent-same a = go (eqb a 0) refl
 
 module _ (labels : Labels) (t : List ℕ) where
   -- two bytes a node, and a node at least
-  pub text-length : (f : List ℕ) (r : Run ℕ) → length (text labels t f r) ≡ 2 * size (quotient (pairing labels) (tableOf t) (treeOf f) r)
+  pub text-length : (f : List ℕ) (r : Run ℕ)
+      → length (text labels t f r) ≡ 2 * size (quotient (pairing labels) (tableOf t) (treeOf f) r)
   unfolding text
   text-length f r = omega (arith, length-spell (quotient (pairing labels) (tableOf t) (treeOf f) r) [])
 
@@ -59,7 +63,8 @@ module _ (labels : Labels) (t : List ℕ) where
       -- true and false
       pub text-leaf : getD f 0 0 < 2 → getD f 0 0 ∷ 0 ∷ [] ≡ text labels t f r
       unfolding text quotient spell
-      text-leaf h = ⊎-elim (λ e. rw (at f (p .tree) 0 e, e)) (λ e. rw (at f (p .tree) 1 e, e)) (leaf-operator (getD f 0 0) h)
+      text-leaf h =
+          ⊎-elim (λ e. rw (at f (p .tree) 0 e, e)) (λ e. rw (at f (p .tree) 1 e, e)) (leaf-operator (getD f 0 0) h)
 
       pub text-not : getD f 0 0 ≡ 2 → Behind (getD f 0 0 ∷ 0 ∷ []) (text labels t (rest 2 f) r) (text labels t f r)
       unfolding Behind text quotient spell
@@ -67,56 +72,119 @@ module _ (labels : Labels) (t : List ℕ) where
 
       -- "and" and "or"
       module _ (o : Connective (getD f 0 0)) (m : ℕ) (e₀ : m ≡ getD sizes (length f / 2 - 2) 0) where
-        pub text-both : Behind ((getD f 0 0 ∷ 0 ∷ []) ++ text labels t (rest 2 f) r) (text labels t (rest (2 * m + 2) f) r) (text labels t f r)
+        pub text-both : Behind ((getD f 0 0 ∷ 0 ∷ []) ++ text labels t (rest 2 f) r)
+            (text labels t (rest (2 * m + 2) f) r) (text labels t f r)
         unfolding Behind text quotient spell
         text-both =
-            let e = spell-append (quotient (pairing labels) (tableOf t) (treeOf (rest 2 f)) r) (spell (quotient (pairing labels) (tableOf t) (treeOf (rest (2 * m + 2) f)) r) []) in
-            rw (operands-are sizes f p o m e₀) (⊎-elim (λ z. rw z (sym (ap (λ l. 3 ∷ 0 ∷ l) e))) (λ z. rw z (sym (ap (λ l. 4 ∷ 0 ∷ l) e))) o)
+            let e = spell-append (quotient (pairing labels) (tableOf t) (treeOf (rest 2 f)) r)
+            (spell (quotient (pairing labels) (tableOf t) (treeOf (rest (2 * m + 2) f)) r) []) in
+            rw (operands-are sizes f p o m e₀)
+            (⊎-elim (λ z. rw z (sym (ap (λ l. 3 ∷ 0 ∷ l) e))) (λ z. rw z (sym (ap (λ l. 4 ∷ 0 ∷ l) e))) o)
 
       -- the first operand's bytes are among them
-      pub text-inner : Inner (getD f 0 0) → length ((getD f 0 0 ∷ 0 ∷ []) ++ text labels t (rest 2 f) r) ≤ length (text labels t f r)
+      pub text-inner : Inner (getD f 0 0)
+          → length ((getD f 0 0 ∷ 0 ∷ []) ++ text labels t (rest 2 f) r) ≤ length (text labels t f r)
       unfolding Behind
       text-inner (inl e) = omega (arith, ap length (text-not e))
       text-inner (inr o) = let b = text-both o (getD sizes (length f / 2 - 2) 0) refl in
-          omega (arith, ap length b, length-append ((getD f 0 0 ∷ 0 ∷ []) ++ text labels t (rest 2 f) r) (text labels t (rest (2 * getD sizes (length f / 2 - 2) 0 + 2) f) r))
+          omega (
+            arith,
+            ap length b,
+            length-append ((getD f 0 0 ∷ 0 ∷ []) ++ text labels t (rest 2 f) r)
+                (text labels t (rest (2 * getD sizes (length f / 2 - 2) 0 + 2) f) r),
+          )
 
     -- a back modality on the run in the first n bytes of xs
     module _ (xs : List ℕ) (n : ℕ) (h : HeldHalf xs n) (o : Back (getD f 0 0)) where
-      pub past-empty : n < 3 → 1 ∷ 0 ∷ [] ≡ text labels t f (halfOf (take n xs))
+      past-empty : n < 3 → 1 ∷ 0 ∷ [] ≡ text labels t f (halfOf (take n xs))
       unfolding text quotient spell
       past-empty l = ⊎-elim
           (λ e. rw (operand-is sizes f p (back (getD f 1 0)) (at f (p .tree) 6 e), half-empty xs n h l))
           (λ e. rw (operand-is sizes f p backIdle (at f (p .tree) 8 e), half-empty xs n h l)) o
 
       -- by the last step: the node that stands over the quotient by the run without it, or false
-      step-text : (b q : ℕ) (r : Run ℕ) → text labels t f (r ▸ stepOf b q) ≡ overText (pastOf labels (getD f 0 0) (getD f 1 0) b) (text labels t (rest 2 f) r)
-      unfolding text quotient spell pastOf overText stepOf
-      step-text b q r = ⊎-elim
-          (λ e. rw (operand-is sizes f p (back (getD f 1 0)) (at f (p .tree) 6 e), e) (by-label (eqb b 255)))
-          (λ e. rw (operand-is sizes f p backIdle (at f (p .tree) 8 e), e) (by-idle (eqb b 255))) o
+      step-text : (x : Step ℕ) (r : Run ℕ) → text labels t f (r ▸ x)
+          ≡ overText (pastOf labels (getD f 0 0) (getD f 1 0) (stepStruct x)) (text labels t (rest 2 f) r)
+      unfolding text quotient spell pastOf pastMove overText stepStruct
+      step-text x r = ⊎-elim
+          (λ e. rw (operand-is sizes f p (back (getD f 1 0)) (at f (p .tree) 6 e), e) (by-label x))
+          (λ e. rw (operand-is sizes f p backIdle (at f (p .tree) 8 e), e) (by-idle x)) o
         where
-          by-partner : (s z : Bool) (c : Option ℕ) (ψ : Formula) → spell (backBy s z c ψ) [] ≡ overText (cond s (nodeOver 8 0) (cond z (backByPartner c) past.Fails)) (spell ψ [])
-          by-partner true z c ψ = refl
-          by-partner false false c ψ = refl
-          by-partner false true none ψ = refl
-          by-partner false true (some c) ψ = refl
+          ψ : Formula
+          ψ = quotient (pairing labels) (tableOf t) (treeOf (rest 2 f)) r
 
-          by-label : (i : Bool) → spell (quotient (pairing labels) (tableOf t) (back (getD f 1 0) (treeOf (rest 2 f))) (r ▸ cond i idle (move b q))) []
-              ≡ overText (cond i (nodeOver 6 (getD f 1 0)) (cond (same b (getD f 1 0)) (nodeOver 8 0) (cond (eqb (getD f 1 0) 0) (backByPartner (pairing labels .partner b)) past.Fails))) (text labels t (rest 2 f) r)
-          by-label true = refl
-          by-label false = rw (silent-same (getD f 1 0)) (by-partner (same b (getD f 1 0)) (same 0 (getD f 1 0)) (pairing labels .partner b) (quotient (pairing labels) (tableOf t) (treeOf (rest 2 f)) r))
+          by-partner : (s z : Bool) (c : Option ℕ) → spell (backBy s z c ψ) []
+              ≡ overText (cond s (nodeOver 8 0) (cond z (backByPartner c) past.Fails)) (spell ψ [])
+          by-partner true z c = refl
+          by-partner false false c = refl
+          by-partner false true none = refl
+          by-partner false true (some c) = refl
 
-          by-idle : (i : Bool) → spell (quotient (pairing labels) (tableOf t) (backIdle (treeOf (rest 2 f))) (r ▸ cond i idle (move b q))) []
-              ≡ overText (cond i (nodeOver 8 0) past.Fails) (text labels t (rest 2 f) r)
-          by-idle true = refl
-          by-idle false = refl
+          by-label : (x : Step ℕ)
+              → spell (quotient (pairing labels) (tableOf t) (back (getD f 1 0) (treeOf (rest 2 f))) (r ▸ x)) []
+              ≡ overText (pastOf labels 6 (getD f 1 0) (stepStruct x)) (text labels t (rest 2 f) r)
+          by-label idle = refl
+          by-label (move b q) = rw (silent-same (getD f 1 0))
+              (by-partner (same b (getD f 1 0)) (same 0 (getD f 1 0)) (pairing labels .partner b))
+
+          by-idle : (x : Step ℕ)
+              → spell (quotient (pairing labels) (tableOf t) (backIdle (treeOf (rest 2 f))) (r ▸ x)) []
+              ≡ overText (pastOf labels 8 (getD f 1 0) (stepStruct x)) (text labels t (rest 2 f) r)
+          by-idle idle = refl
+          by-idle (move b q) = refl
+
+      -- what is read of the run
+      abbrev pastHere : Past
+      pastHere = pastRead labels (getD f 0 0) (getD f 1 0) (lastRead (take n xs))
+
+      none-here : n < 3 → pastHere ≡ past.Fails
+      unfolding pastRead lastRead stepRead
+      none-here l =
+          let z : n ≡ 1 = omega (arith, h .odd) in
+          rw (length-take-le n xs (h .within), z)
 
       module _ (l : 3 ≤ n) where
-        pub past-fails : past.Fails ≡ pastOf labels (getD f 0 0) (getD f 1 0) (getD xs (n - 2) 0) → 1 ∷ 0 ∷ [] ≡ text labels t f (halfOf (take n xs))
-        unfolding overText
-        past-fails e = sym (ap (text labels t f) (half-step xs n h l) ∙ step-text (getD xs (n - 2) 0) (getD xs (n - 1) 0) (halfOf (take (n - 2) xs)) ∙ rw (← e))
+        abbrev lastStep : Step ℕ
+        lastStep = stepOf (getD xs (n - 2) 0) (getD xs (n - 1) 0)
 
-        pub past-over : (node : Node) → past.Node node ≡ pastOf labels (getD f 0 0) (getD f 1 0) (getD xs (n - 2) 0)
-            → Behind (node .operator ∷ node .label .0 ∷ []) (text labels t (rest 2 f) (halfOf (take (n - 2) xs))) (text labels t f (halfOf (take n xs)))
+        step-here : pastHere ≡ pastOf labels (getD f 0 0) (getD f 1 0) (stepStruct lastStep)
+        unfolding pastRead lastRead stepRead
+        step-here =
+            let i : 2 * (n / 2 - 1) + 1 ≡ n - 2 = omega (arith, h .odd, l) in
+            let j : 2 * (n / 2 - 1) + 2 ≡ n - 1 = omega (arith, h .odd, l) in
+            rw (
+              length-take-le n xs (h .within),
+              i,
+              j,
+              eq-eqb (n % 2) 1 (h .odd),
+              lt-ltb (n - 1) n (omega (arith, l)),
+              getD-take n xs (n - 2) 0 (omega (arith, l)),
+              getD-take n xs (n - 1) 0 (omega (arith, l)),
+            )
+
+        text-here : text labels t f (halfOf (take n xs))
+            ≡ overText pastHere (text labels t (rest 2 f) (halfOf (take (n - 2) xs)))
+        text-here =
+            ap (text labels t f) (half-step xs n h l) ∙ step-text lastStep (halfOf (take (n - 2) xs)) ∙ rw step-here
+
+      pub past-fails : past.Fails ≡ pastHere → 1 ∷ 0 ∷ [] ≡ text labels t f (halfOf (take n xs))
+      unfolding overText
+      past-fails e = go (ltb n 3) refl
+        where
+          go : (b : Bool) → ltb n 3 ≡ b → 1 ∷ 0 ∷ [] ≡ text labels t f (halfOf (take n xs))
+          go true c = past-empty (ltb-true n 3 c)
+          go false c = sym (text-here (ltb-false n 3 c) ∙ rw (← e))
+
+      module _ (node : Node) (e : past.Node node ≡ pastHere) where
+        -- the run has a step
+        pub past-step : 3 ≤ n
+        past-step = go (ltb n 3) refl
+          where
+            go : (b : Bool) → ltb n 3 ≡ b → 3 ≤ n
+            go true c = absurd (let z = none-here (ltb-true n 3 c) in apart cc)
+            go false c = ltb-false n 3 c
+
+        pub past-over : Behind (node .operator ∷ node .label .0 ∷ [])
+            (text labels t (rest 2 f) (halfOf (take (n - 2) xs))) (text labels t f (halfOf (take n xs)))
         unfolding overText Behind
-        past-over node e = sym (ap (text labels t f) (half-step xs n h l) ∙ step-text (getD xs (n - 2) 0) (getD xs (n - 1) 0) (halfOf (take (n - 2) xs)) ∙ rw (← e))
+        past-over = sym (text-here past-step ∙ rw (← e))

@@ -1,5 +1,5 @@
 -- What functions inside the crate promise each other. No public promise cites this file.
-use Prim.Native.Nat.{ℕ, _+_, _*_, _≤_}
+use Prim.Native.Nat.{ℕ, _+_, _-_, _*_, _/_, _≤_}
 use mathlib.Core.Path.{_≡_}
 use mathlib.Core.Logic.{_⊎_}
 use mathlib.Core.Bool.{Bool, _&&_, cond}
@@ -16,6 +16,11 @@ use Rattle.labels.specs.Labels.{pairing}
 use Rattle.labels.specs.declared.label.Labels.{Labels}
 use Rattle.tables.specs.Tables.{tableOf}
 use Rattle.halves.specs.Runs.{stepOf}
+use Rattle.halves.specs.Steps.{stepRead}
+use Rattle.halves.specs.declared.step.Step.{Step}
+use Rattle.halves.specs.declared.step.Step.the-variants as step
+use Rattle.halves.specs.declared.step.StepRead.{StepRead}
+use Rattle.halves.specs.declared.step.StepRead.the-variants as read
 use Rattle.halves.proofs.HalfBuffers.{HeldHalf}
 use Rattle.formulas.specs.Forwards.{forwardsIn}
 use Rattle.formulas.specs.Trees.{treeOf}
@@ -35,14 +40,28 @@ abbrev pub backByPartner : Option ℕ → Past
 backByPartner none = past.Fails
 backByPartner (some c) = nodeOver 6 c
 
--- back by a label (6) or by idle (8), where the known half ends in a step of label b, which is 255 for an idle
-unfoldable pub pastOf : Labels → ℕ → ℕ → ℕ → Past
-pastOf labels o a b = cond (eqb o 6)
-    (cond (eqb b 255) (nodeOver 6 a) (cond (same b a) (nodeOver 8 0) (cond (eqb a 0) (backByPartner (pairing labels .partner b)) past.Fails)))
-    (cond (eqb b 255) (nodeOver 8 0) past.Fails)
+-- back by a label (6) or by idle (8), where the known half ends in a move of label b
+unfoldable pub pastMove : Labels → ℕ → ℕ → ℕ → Past
+pastMove labels o a b = cond (eqb o 6)
+    (cond (same b a) (nodeOver 8 0) (cond (eqb a 0) (backByPartner (pairing labels .partner b)) past.Fails))
+    past.Fails
 
--- the disjuncts of a forward modality as bytes, four each: operator and label of the node, label and target of the known half's step.
--- First those of moves of label a alone
+-- where it ends in this step
+unfoldable pub pastOf : Labels → ℕ → ℕ → Step → Past
+pastOf labels o a (step.Move m) = pastMove labels o a (m .label .0)
+pastOf labels o a step.Idle = cond (eqb o 6) (nodeOver 6 a) (nodeOver 8 0)
+
+-- the last step of a half run's bytes, if there is one
+unfoldable pub lastRead : List ℕ → StepRead
+lastRead s = stepRead s (length s / 2 - 1)
+
+-- "On an empty run every back modality fails"
+unfoldable pub pastRead : Labels → ℕ → ℕ → StepRead → Past
+pastRead labels o a (read.Step x) = pastOf labels o a x
+pastRead labels o a read.NoSuchStep = past.Fails
+
+-- the disjuncts of a forward modality as bytes, four each: operator and label of the node, label and target of the
+-- known half's step. First those of moves of label a alone
 unfoldable pub aloneIn : ℕ → List (ℕ × ℕ) → List ℕ
 aloneIn a moves = each (λ (m : ℕ × ℕ). given (same (m .0) a) (7 ∷ 0 ∷ m .0 ∷ m .1 ∷ [])) moves
 
@@ -75,7 +94,8 @@ texts labels t f r (o ∷ []) = []
 texts labels t f r (o ∷ a ∷ []) = []
 texts labels t f r (o ∷ a ∷ b ∷ []) = []
 texts labels t f r (o ∷ a ∷ b ∷ q ∷ []) = firstText labels t f r (o ∷ a ∷ b ∷ q ∷ [])
-texts labels t f r (o ∷ a ∷ b ∷ q ∷ d ∷ ds) = 4 ∷ 0 ∷ (firstText labels t f r (o ∷ a ∷ b ∷ q ∷ d ∷ ds) ++ texts labels t f r (d ∷ ds))
+texts labels t f r (o ∷ a ∷ b ∷ q ∷ d ∷ ds) =
+    4 ∷ 0 ∷ (firstText labels t f r (o ∷ a ∷ b ∷ q ∷ d ∷ ds) ++ texts labels t f r (d ∷ ds))
 
 -- one disjunct or more, each of whose idles keeps the state q
 pub data Listed (q : ℕ) : List ℕ → Type 0 where
@@ -86,8 +106,8 @@ pub data Listed (q : ℕ) : List ℕ → Type 0 where
 abbrev pub Forward : ℕ → Type 0
 Forward o = (o ≡ 5) ⊎ (o ≡ 7)
 
--- the first n bytes of xs are a half run, with room behind it for `steps` steps and those that the first tree of f looks ahead; sizes has
--- the sizes of f's trees
+-- the first n bytes of xs are a half run, with room behind it for `steps` steps and those that the first tree of f
+-- looks ahead; sizes has the sizes of f's trees
 pub record Ready (sizes xs : List ℕ) (n steps : ℕ) (f : List ℕ) : Type 0 where
   pub part : Part sizes f
   pub held : HeldHalf xs n
@@ -95,6 +115,7 @@ pub record Ready (sizes xs : List ℕ) (n steps : ℕ) (f : List ℕ) : Type 0 w
   pub size : length xs ≡ 409
   pub slots : length sizes ≡ 64
 
--- is the question's quotient sure to fit? It has no forward modality, and there is room for as many bytes as it has itself
+-- is the question's quotient sure to fit? It has no forward modality, and there is room for as many bytes as it has
+-- itself
 unfoldable pub surelyFits : List ℕ → ℕ → Bool
 surelyFits f room = leb (length f) room && eqb (forwardsIn f) 0

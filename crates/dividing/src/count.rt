@@ -11,7 +11,8 @@ ghost use Rattle.tables.specs.Tables.{SoundTable};
 ghost use Rattle.halves.specs.Halves.{halfOf};
 ghost use Rattle.dividing.specs.Working.{Ready, Forward, Listed, text, texts, firstText};
 
-// The nodes of the quotient of the first tree of f by the run in the first len bytes, or limit + 1 if they are more than the limit.
+// The nodes of the quotient of the first tree of f by the run in the first len bytes, or limit + 1 if they are more
+// than the limit.
 pub(crate) fn count_tree(
     labels: Labels,
     table: &[u8],
@@ -24,7 +25,8 @@ pub(crate) fn count_tree(
     requires { ⌜ SoundTable (labels .pairs) (now table) ⌝ }
     requires { ⌜ Ready (now sizes) (now run) len 0 (now f) ⌝ }
     requires { ⌜ limit ≤ 4096 ⌝ }
-    ensures { λ r. ⌜ 2 * r ≡ min (length (text labels (now (table .entry)) (now (f .entry)) (halfOf (take len (now (run .entry)))))) (2 * limit + 2) ⌝ }
+    ensures { λ r. ⌜ 2 * r ≡ min (length (text labels (now (table .entry)) (now (f .entry))
+        (halfOf (take len (now (run .entry)))))) (2 * limit + 2) ⌝ }
     ensures { λ r. ⌜ now (run .exit) ≡ now (run .entry) ⌝ }
 {
     let operator = f[0];
@@ -64,7 +66,8 @@ fn count_modal(
     requires { ⌜ SoundTable (labels .pairs) (now table) ⌝ }
     requires { ⌜ Ready (now sizes) (now run) len 0 (now f) ⌝ }
     requires { ⌜ (1 ≤ limit) × (limit ≤ 4096) × (5 ≤ getD (now f) 0 0) ⌝ }
-    ensures { λ r. ⌜ 2 * r ≡ min (length (text labels (now (table .entry)) (now (f .entry)) (halfOf (take len (now (run .entry)))))) (2 * limit + 2) ⌝ }
+    ensures { λ r. ⌜ 2 * r ≡ min (length (text labels (now (table .entry)) (now (f .entry))
+        (halfOf (take len (now (run .entry)))))) (2 * limit + 2) ⌝ }
     ensures { λ r. ⌜ now (run .exit) ≡ now (run .entry) ⌝ }
 {
     let operator = f[0];
@@ -74,10 +77,8 @@ fn count_modal(
     if operator == 7 {
         return count_forward(labels, table, sizes, run, len, f, limit);
     }
-    if len < 3 {
-        return 1;
-    }
-    match past_node(labels, operator, Label(f[1]), Label(run[len - 2])) {
+    let bytes: &[u8] = run;
+    match past_node(labels, operator, Label(f[1]), &bytes[..len]) {
         Past::Node(_) => {
             let n = count_tree(labels, table, sizes, run, len - 2, &f[2..], limit - 1);
             1 + n
@@ -99,7 +100,8 @@ fn count_forward(
     requires { ⌜ SoundTable (labels .pairs) (now table) ⌝ }
     requires { ⌜ Ready (now sizes) (now run) len 0 (now f) ⌝ }
     requires { ⌜ (limit ≤ 4096) × Forward (getD (now f) 0 0) ⌝ }
-    ensures { λ r. ⌜ 2 * r ≡ min (length (text labels (now (table .entry)) (now (f .entry)) (halfOf (take len (now (run .entry)))))) (2 * limit + 2) ⌝ }
+    ensures { λ r. ⌜ 2 * r ≡ min (length (text labels (now (table .entry)) (now (f .entry))
+        (halfOf (take len (now (run .entry)))))) (2 * limit + 2) ⌝ }
     ensures { λ r. ⌜ now (run .exit) ≡ now (run .entry) ⌝ }
 {
     let mut disjuncts = [0u8; 68];
@@ -137,7 +139,8 @@ fn count_disjuncts(
     requires { ⌜ SoundTable (labels .pairs) (now table) ⌝ }
     requires { ⌜ Ready (now sizes) (now run) len 1 (now f) ⌝ }
     requires { ⌜ (limit ≤ 4096) × Listed (getD (now run) (len - 1) 0) (now disjuncts) ⌝ }
-    ensures { λ r. ⌜ 2 * r ≡ min (length (texts labels (now (table .entry)) (now (f .entry)) (halfOf (take len (now (run .entry)))) (now (disjuncts .entry)))) (2 * limit + 2) ⌝ }
+    ensures { λ r. ⌜ 2 * r ≡ min (length (texts labels (now (table .entry)) (now (f .entry))
+        (halfOf (take len (now (run .entry)))) (now (disjuncts .entry)))) (2 * limit + 2) ⌝ }
     ensures { λ r. ⌜ now (run .exit) ≡ now (run .entry) ⌝ }
 {
     if disjuncts.len() < 8 {
@@ -163,7 +166,8 @@ fn count_disjuncts(
     1 + n + m
 }
 
-// The nodes of the first disjunct: its own, and those of the quotient by the run with one step more. The buffer is as before when this returns.
+// The nodes of the first disjunct: its own, and those of the quotient by the run with one step more. The buffer is as
+// before when this returns.
 fn count_disjunct(
     labels: Labels,
     table: &[u8],
@@ -177,7 +181,8 @@ fn count_disjunct(
     requires { ⌜ SoundTable (labels .pairs) (now table) ⌝ }
     requires { ⌜ Ready (now sizes) (now run) len 1 (now f) ⌝ }
     requires { ⌜ (limit ≤ 4096) × Listed (getD (now run) (len - 1) 0) (now disjuncts) ⌝ }
-    ensures { λ r. ⌜ 2 * r ≡ min (length (firstText labels (now (table .entry)) (now (f .entry)) (halfOf (take len (now (run .entry)))) (now (disjuncts .entry)))) (2 * limit + 2) ⌝ }
+    ensures { λ r. ⌜ 2 * r ≡ min (length (firstText labels (now (table .entry)) (now (f .entry))
+        (halfOf (take len (now (run .entry)))) (now (disjuncts .entry)))) (2 * limit + 2) ⌝ }
     ensures { λ r. ⌜ now (run .exit) ≡ now (run .entry) ⌝ }
 {
     if limit == 0 {

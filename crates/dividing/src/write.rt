@@ -26,8 +26,10 @@ pub(crate) fn write_tree(
     requires { ⌜ SoundTable (labels .pairs) (now table) ⌝ }
     requires { ⌜ Ready (now sizes) (now run) len 0 (now f) ⌝ }
     requires { ⌜ length (text labels (now table) (now f) (halfOf (take len (now run)))) ≤ length (now out) ⌝ }
-    ensures { λ r. ⌜ r ≡ length (text labels (now (table .entry)) (now (f .entry)) (halfOf (take len (now (run .entry))))) ⌝ }
-    ensures { λ r. ⌜ now (out .exit) ≡ inFront (text labels (now (table .entry)) (now (f .entry)) (halfOf (take len (now (run .entry))))) (now (out .entry)) ⌝ }
+    ensures { λ r. ⌜ r ≡ length (text labels (now (table .entry)) (now (f .entry))
+        (halfOf (take len (now (run .entry))))) ⌝ }
+    ensures { λ r. ⌜ now (out .exit) ≡ inFront (text labels (now (table .entry)) (now (f .entry))
+        (halfOf (take len (now (run .entry))))) (now (out .entry)) ⌝ }
     ensures { λ r. ⌜ now (run .exit) ≡ now (run .entry) ⌝ }
 {
     let operator = f[0];
@@ -64,8 +66,10 @@ fn write_modal(
     requires { ⌜ Ready (now sizes) (now run) len 0 (now f) ⌝ }
     requires { ⌜ 5 ≤ getD (now f) 0 0 ⌝ }
     requires { ⌜ length (text labels (now table) (now f) (halfOf (take len (now run)))) ≤ length (now out) ⌝ }
-    ensures { λ r. ⌜ r ≡ length (text labels (now (table .entry)) (now (f .entry)) (halfOf (take len (now (run .entry))))) ⌝ }
-    ensures { λ r. ⌜ now (out .exit) ≡ inFront (text labels (now (table .entry)) (now (f .entry)) (halfOf (take len (now (run .entry))))) (now (out .entry)) ⌝ }
+    ensures { λ r. ⌜ r ≡ length (text labels (now (table .entry)) (now (f .entry))
+        (halfOf (take len (now (run .entry))))) ⌝ }
+    ensures { λ r. ⌜ now (out .exit) ≡ inFront (text labels (now (table .entry)) (now (f .entry))
+        (halfOf (take len (now (run .entry))))) (now (out .entry)) ⌝ }
     ensures { λ r. ⌜ now (run .exit) ≡ now (run .entry) ⌝ }
 {
     let operator = f[0];
@@ -75,11 +79,8 @@ fn write_modal(
     if operator == 7 {
         return write_forward(labels, table, sizes, run, len, f, out);
     }
-    if len < 3 {
-        put_node(out, 1, 0);
-        return 2;
-    }
-    match past_node(labels, operator, Label(f[1]), Label(run[len - 2])) {
+    let bytes: &[u8] = run;
+    match past_node(labels, operator, Label(f[1]), &bytes[..len]) {
         Past::Node(node) => {
             let label = node.label;
             put_node(out, node.operator, label.0);
@@ -107,8 +108,10 @@ fn write_forward(
     requires { ⌜ Ready (now sizes) (now run) len 0 (now f) ⌝ }
     requires { ⌜ Forward (getD (now f) 0 0) ⌝ }
     requires { ⌜ length (text labels (now table) (now f) (halfOf (take len (now run)))) ≤ length (now out) ⌝ }
-    ensures { λ r. ⌜ r ≡ length (text labels (now (table .entry)) (now (f .entry)) (halfOf (take len (now (run .entry))))) ⌝ }
-    ensures { λ r. ⌜ now (out .exit) ≡ inFront (text labels (now (table .entry)) (now (f .entry)) (halfOf (take len (now (run .entry))))) (now (out .entry)) ⌝ }
+    ensures { λ r. ⌜ r ≡ length (text labels (now (table .entry)) (now (f .entry))
+        (halfOf (take len (now (run .entry))))) ⌝ }
+    ensures { λ r. ⌜ now (out .exit) ≡ inFront (text labels (now (table .entry)) (now (f .entry))
+        (halfOf (take len (now (run .entry))))) (now (out .entry)) ⌝ }
     ensures { λ r. ⌜ now (run .exit) ≡ now (run .entry) ⌝ }
 {
     let mut disjuncts = [0u8; 68];
@@ -146,9 +149,12 @@ fn write_disjuncts(
     requires { ⌜ SoundTable (labels .pairs) (now table) ⌝ }
     requires { ⌜ Ready (now sizes) (now run) len 1 (now f) ⌝ }
     requires { ⌜ Listed (getD (now run) (len - 1) 0) (now disjuncts) ⌝ }
-    requires { ⌜ length (texts labels (now table) (now f) (halfOf (take len (now run))) (now disjuncts)) ≤ length (now out) ⌝ }
-    ensures { λ r. ⌜ r ≡ length (texts labels (now (table .entry)) (now (f .entry)) (halfOf (take len (now (run .entry)))) (now (disjuncts .entry))) ⌝ }
-    ensures { λ r. ⌜ now (out .exit) ≡ inFront (texts labels (now (table .entry)) (now (f .entry)) (halfOf (take len (now (run .entry)))) (now (disjuncts .entry))) (now (out .entry)) ⌝ }
+    requires { ⌜ length (texts labels (now table) (now f) (halfOf (take len (now run))) (now disjuncts)) ≤ length
+        (now out) ⌝ }
+    ensures { λ r. ⌜ r ≡ length (texts labels (now (table .entry)) (now (f .entry))
+        (halfOf (take len (now (run .entry)))) (now (disjuncts .entry))) ⌝ }
+    ensures { λ r. ⌜ now (out .exit) ≡ inFront (texts labels (now (table .entry)) (now (f .entry))
+        (halfOf (take len (now (run .entry)))) (now (disjuncts .entry))) (now (out .entry)) ⌝ }
     ensures { λ r. ⌜ now (run .exit) ≡ now (run .entry) ⌝ }
 {
     if disjuncts.len() < 8 {
@@ -170,7 +176,8 @@ fn write_disjuncts(
     at + m
 }
 
-// Writes the first disjunct: its node, then the quotient by the run with one step more. The buffer is as before when this returns.
+// Writes the first disjunct: its node, then the quotient by the run with one step more. The buffer is as before when
+// this returns.
 fn write_disjunct(
     labels: Labels,
     table: &[u8],
@@ -184,9 +191,12 @@ fn write_disjunct(
     requires { ⌜ SoundTable (labels .pairs) (now table) ⌝ }
     requires { ⌜ Ready (now sizes) (now run) len 1 (now f) ⌝ }
     requires { ⌜ Listed (getD (now run) (len - 1) 0) (now disjuncts) ⌝ }
-    requires { ⌜ length (firstText labels (now table) (now f) (halfOf (take len (now run))) (now disjuncts)) ≤ length (now out) ⌝ }
-    ensures { λ r. ⌜ r ≡ length (firstText labels (now (table .entry)) (now (f .entry)) (halfOf (take len (now (run .entry)))) (now (disjuncts .entry))) ⌝ }
-    ensures { λ r. ⌜ now (out .exit) ≡ inFront (firstText labels (now (table .entry)) (now (f .entry)) (halfOf (take len (now (run .entry)))) (now (disjuncts .entry))) (now (out .entry)) ⌝ }
+    requires { ⌜ length (firstText labels (now table) (now f) (halfOf (take len (now run))) (now disjuncts)) ≤ length
+        (now out) ⌝ }
+    ensures { λ r. ⌜ r ≡ length (firstText labels (now (table .entry)) (now (f .entry))
+        (halfOf (take len (now (run .entry)))) (now (disjuncts .entry))) ⌝ }
+    ensures { λ r. ⌜ now (out .exit) ≡ inFront (firstText labels (now (table .entry)) (now (f .entry))
+        (halfOf (take len (now (run .entry)))) (now (disjuncts .entry))) (now (out .entry)) ⌝ }
     ensures { λ r. ⌜ now (run .exit) ≡ now (run .entry) ⌝ }
 {
     put_node(out, disjuncts[0], disjuncts[1]);

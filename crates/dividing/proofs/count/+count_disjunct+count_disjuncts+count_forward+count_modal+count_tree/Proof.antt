@@ -12,11 +12,124 @@ use Rattle.dividing.proofs.count.+count_disjunct+count_disjuncts+count_
 use Rattle.dividing.proofs.count.+count_disjunct+count_disjuncts+count_forward+count_modal+count_tree.{statement}
 use Rattle.dividing.proofs.count.+count_disjunct+count_disjuncts+count_forward+count_modal+count_tree.Tie.{close}
 use Prim.Native.Nat.{_+_, _-_}
-use Rattle.dividing.proofs.count.+count_disjunct+count_disjuncts+count_forward+count_modal+count_tree.Proof.Measures.{μ-count-disjunct, μ-count-disjuncts, μ-count-forward, μ-count-modal, μ-count-tree, count-disjunct-at, count-disjuncts-at, count-forward-at, count-modal-at, count-tree-at, count-disjunct-claims, count-disjuncts-claims, count-forward-claims, count-modal-claims, count-tree-claims}
-use Rattle.dividing.proofs.count.+count_disjunct+count_disjuncts+count_forward+count_modal+count_tree.Proof.Trees.{count-tree-shared-slice-read-operator, count-tree-returns, count-tree-returns-2, count-tree-count-modal-requires, count-tree-returns-3, count-tree-sub-count-tree, count-tree-part-count-tree-start, count-tree-part-count-tree-end, count-tree-sub-count-tree-2, count-tree-count-tree-requires, count-tree-add-result, count-tree-returns-4, count-tree-add-result-2, count-tree-returns-5, count-tree-sub-size, count-tree-mul-size, count-tree-element-copy-out-size, count-tree-mul-second, count-tree-add-second, count-tree-sub-second, count-tree-part-second-start, count-tree-part-second-end, count-tree-sub-count-tree-3, count-tree-sub-count-tree-4, count-tree-count-tree-requires-2, count-tree-add-result-3, count-tree-add-result-4, count-tree-returns-6}
-use Rattle.dividing.proofs.count.+count_disjunct+count_disjuncts+count_forward+count_modal+count_tree.Proof.Modalities.{count-modal-shared-slice-read-operator, count-modal-count-forward-requires, count-modal-returns, count-modal-count-forward-requires-2, count-modal-returns-2, count-modal-returns-3, count-modal-shared-slice-read-t11, count-modal-sub-t18, count-modal-element-copy-out-t21, count-modal-past-node-requires, count-modal-enum-told, count-modal-sub-count-tree, count-modal-sub-count-tree-2, count-modal-part-count-tree-start, count-modal-part-count-tree-end, count-modal-sub-count-tree-3, count-modal-count-tree-requires, count-modal-add-result, count-modal-enum-told-2, count-modal-returns-4, count-modal-returns-5}
-use Rattle.dividing.proofs.count.+count_disjunct+count_disjuncts+count_forward+count_modal+count_tree.Proof.Forwards.{count-forward-shared-slice-read-list-disjuncts, count-forward-shared-slice-read-t13, count-forward-sub-list-disjuncts, count-forward-element-copy-out-list-disjuncts, count-forward-slice-aggregate-list-disjuncts, count-forward-list-disjuncts-requires, count-forward-array-share-prefix-disjuncts, count-forward-slice-aggregate-count-disjuncts, count-forward-sub-count-disjuncts, count-forward-part-count-disjuncts-start, count-forward-part-count-disjuncts-end, count-forward-count-disjuncts-requires, count-forward-returns}
-use Rattle.dividing.proofs.count.+count_disjunct+count_disjuncts+count_forward+count_modal+count_tree.Proof.Disjuncts.{count-disjuncts-count-disjunct-requires, count-disjuncts-returns, count-disjuncts-returns-2, count-disjuncts-sub-count-disjunct, count-disjuncts-count-disjunct-requires-2, count-disjuncts-add-result, count-disjuncts-returns-3, count-disjuncts-sub-count-disjuncts, count-disjuncts-part-count-disjuncts-start, count-disjuncts-part-count-disjuncts-end, count-disjuncts-sub-count-disjuncts-2, count-disjuncts-sub-count-disjuncts-3, count-disjuncts-count-disjuncts-requires, count-disjuncts-add-result-2, count-disjuncts-add-result-3, count-disjuncts-returns-4, count-disjunct-returns, count-disjunct-element-copy-out-a, count-disjunct-add-b, count-disjunct-element-copy-out-b, count-disjunct-shared-slice-read-run, count-disjunct-element-write-run, count-disjunct-shared-slice-read-run-2, count-disjunct-add-run, count-disjunct-element-write-run-2, count-disjunct-add-count-tree, count-disjunct-sub-count-tree, count-disjunct-count-tree-requires, count-disjunct-element-write-run-3, count-disjunct-add-run-2, count-disjunct-element-write-run-4, count-disjunct-add-result, count-disjunct-returns-2}
+use Rattle.dividing.proofs.count.+count_disjunct+count_disjuncts+count_forward+count_modal+count_tree.Proof.Measures.{
+  μ-count-disjunct,
+  μ-count-disjuncts,
+  μ-count-forward,
+  μ-count-modal,
+  μ-count-tree,
+  count-disjunct-at,
+  count-disjuncts-at,
+  count-forward-at,
+  count-modal-at,
+  count-tree-at,
+  count-disjunct-claims,
+  count-disjuncts-claims,
+  count-forward-claims,
+  count-modal-claims,
+  count-tree-claims,
+}
+use Rattle.dividing.proofs.count.+count_disjunct+count_disjuncts+count_forward+count_modal+count_tree.Proof.Trees.{
+  count-tree-shared-slice-read-operator,
+  count-tree-returns,
+  count-tree-returns-2,
+  count-tree-count-modal-requires,
+  count-tree-returns-3,
+  count-tree-sub-count-tree,
+  count-tree-part-count-tree-start,
+  count-tree-part-count-tree-end,
+  count-tree-sub-count-tree-2,
+  count-tree-count-tree-requires,
+  count-tree-add-result,
+  count-tree-returns-4,
+  count-tree-add-result-2,
+  count-tree-returns-5,
+  count-tree-sub-size,
+  count-tree-mul-size,
+  count-tree-element-copy-out-size,
+  count-tree-mul-second,
+  count-tree-add-second,
+  count-tree-sub-second,
+  count-tree-part-second-start,
+  count-tree-part-second-end,
+  count-tree-sub-count-tree-3,
+  count-tree-sub-count-tree-4,
+  count-tree-count-tree-requires-2,
+  count-tree-add-result-3,
+  count-tree-add-result-4,
+  count-tree-returns-6,
+}
+use Rattle.dividing.proofs.count.+count_disjunct+count_disjuncts+count_forward+count_modal+count_tree.Proof.Modalities.{
+  count-modal-shared-slice-read-operator,
+  count-modal-count-forward-requires,
+  count-modal-returns,
+  count-modal-count-forward-requires-2,
+  count-modal-returns-2,
+  count-modal-shared-slice-read-t12,
+  count-modal-slice-aggregate-past-node,
+  count-modal-past-node-requires,
+  count-modal-enum-told,
+  count-modal-sub-count-tree,
+  count-modal-sub-count-tree-2,
+  count-modal-part-count-tree-start,
+  count-modal-part-count-tree-end,
+  count-modal-sub-count-tree-3,
+  count-modal-count-tree-requires,
+  count-modal-add-result,
+  count-modal-enum-told-2,
+  count-modal-returns-3,
+  count-modal-returns-4,
+}
+use Rattle.dividing.proofs.count.+count_disjunct+count_disjuncts+count_forward+count_modal+count_tree.Proof.Forwards.{
+  count-forward-shared-slice-read-list-disjuncts,
+  count-forward-shared-slice-read-t13,
+  count-forward-sub-list-disjuncts,
+  count-forward-element-copy-out-list-disjuncts,
+  count-forward-slice-aggregate-list-disjuncts,
+  count-forward-list-disjuncts-requires,
+  count-forward-array-share-prefix-disjuncts,
+  count-forward-slice-aggregate-count-disjuncts,
+  count-forward-sub-count-disjuncts,
+  count-forward-part-count-disjuncts-start,
+  count-forward-part-count-disjuncts-end,
+  count-forward-count-disjuncts-requires,
+  count-forward-returns,
+}
+use Rattle.dividing.proofs.count.+count_disjunct+count_disjuncts+count_forward+count_modal+count_tree.Proof.Disjuncts.{
+  count-disjuncts-count-disjunct-requires,
+  count-disjuncts-returns,
+  count-disjuncts-returns-2,
+  count-disjuncts-sub-count-disjunct,
+  count-disjuncts-count-disjunct-requires-2,
+  count-disjuncts-add-result,
+  count-disjuncts-returns-3,
+  count-disjuncts-sub-count-disjuncts,
+  count-disjuncts-part-count-disjuncts-start,
+  count-disjuncts-part-count-disjuncts-end,
+  count-disjuncts-sub-count-disjuncts-2,
+  count-disjuncts-sub-count-disjuncts-3,
+  count-disjuncts-count-disjuncts-requires,
+  count-disjuncts-add-result-2,
+  count-disjuncts-add-result-3,
+  count-disjuncts-returns-4,
+  count-disjunct-returns,
+  count-disjunct-element-copy-out-a,
+  count-disjunct-add-b,
+  count-disjunct-element-copy-out-b,
+  count-disjunct-shared-slice-read-run,
+  count-disjunct-element-write-run,
+  count-disjunct-shared-slice-read-run-2,
+  count-disjunct-add-run,
+  count-disjunct-element-write-run-2,
+  count-disjunct-add-count-tree,
+  count-disjunct-sub-count-tree,
+  count-disjunct-count-tree-requires,
+  count-disjunct-element-write-run-3,
+  count-disjunct-add-run-2,
+  count-disjunct-element-write-run-4,
+  count-disjunct-add-result,
+  count-disjunct-returns-2,
+}
 mod Measures
 mod Trees
 mod Modalities
@@ -91,10 +204,8 @@ pub +count-disjunct+count-disjuncts+count-forward+count-modal+count-tree-spec :
     (count-modal-returns t)
     (count-modal-count-forward-requires-2 t)
     (count-modal-returns-2 t)
-    (count-modal-returns-3 t)
-    (count-modal-shared-slice-read-t11 t)
-    (count-modal-sub-t18 t)
-    (count-modal-element-copy-out-t21 t)
+    (count-modal-shared-slice-read-t12 t)
+    (count-modal-slice-aggregate-past-node t)
     (count-modal-past-node-requires t)
     (count-modal-enum-told t)
     (count-modal-sub-count-tree t)
@@ -105,8 +216,8 @@ pub +count-disjunct+count-disjuncts+count-forward+count-modal+count-tree-spec :
     (count-modal-count-tree-requires t)
     (count-modal-add-result t)
     (count-modal-enum-told-2 t)
-    (count-modal-returns-4 t)
-    (count-modal-returns-5 t))
+    (count-modal-returns-3 t)
+    (count-modal-returns-4 t))
     λ t. count-tree-lts.spec (count-tree-claims t) (count-tree-at t)
     count-tree.Post
     (count-tree-shared-slice-read-operator t)

@@ -1,64 +1,44 @@
--- The operator first, then the last step's label beside the operator's.
+-- No step, or the one that is read.
+use Rattle.dividing.proofs.Nodes.{no-steps, last-there, last-none}
 use borrow.Author.Needs.{needs}
 use Rattle.dividing.proofs.node.past_node.Statement.{statement}
 use Rattle.dividing.proofs.node.past_node.Tie as tie
-use mathlib.Core.Path.{sym, _∙_}
-use borrow.Author.Tests.{not-true, not-false}
-use Rattle.dividing.proofs.Nodes.{idle-idle, idle-moved, label-idle, label-same, label-other, label-shaken, label-alone}
-
-is-idle-requires : tie.Need-is-idle-requires
-is-idle-requires c κs = search needs
 
 returns : tie.Need-returns
-returns c = idle-idle _ _ _ _ (c .before .before .if1 .taken) (sym (c .before .is-idle .ensures) ∙ c .if2 .taken)
+returns c = no-steps _ _ _ _ (c .if1 .taken)
 
-returns-2 : tie.Need-returns-2
-returns-2 c = idle-moved _ _ _ _ (c .before .before .if1 .taken) (sym (c .before .is-idle .ensures) ∙ c .if2 .left)
+sub-step-at : tie.Need-sub-step-at
+sub-step-at c = search needs
 
-is-idle-requires-2 : tie.Need-is-idle-requires-2
-is-idle-requires-2 c κs = search needs
+step-at-requires : tie.Need-step-at-requires
+step-at-requires c κs = search needs
 
-returns-3 : tie.Need-returns-3
-returns-3 c = label-idle _ _ _ _ (c .before .before .if1 .left) (sym (c .before .is-idle2 .ensures) ∙ c .if3 .taken)
+enum-known-last : tie.Need-enum-known-last
+enum-known-last c = search needs
 
-returns-4 : tie.Need-returns-4
-returns-4 c = label-same _ _ _ _ (c .before .before .before .before .before .if1 .left) (sym (c .before .before .before .before .is-idle2 .ensures) ∙ c .before .before .before .if3 .left) (c .if4 .taken)
-
-is-silent-requires : tie.Need-is-silent-requires
-is-silent-requires c κs = search needs
-
-returns-5 : tie.Need-returns-5
-returns-5 c = label-other _ _ _ _ (c .before .before .before .before .before .before .before .if1 .left) (sym (c .before .before .before .before .before .before .is-idle2 .ensures) ∙ c .before .before .before .before .before .if3 .left) (c .before .before .if4 .left) (sym (c .before .is-silent .ensures) ∙ not-true _ (c .if5 .taken))
-
-partner-requires : tie.Need-partner-requires
-partner-requires c κs = search needs
-
-enum-known-partner : tie.Need-enum-known-partner
-enum-known-partner c = search needs
+past-step-requires : tie.Need-past-step-requires
+past-step-requires c κs = search needs
 
 enum-told : tie.Need-enum-told
 enum-told c = search needs
 
-returns-6 : tie.Need-returns-6
-returns-6 c = label-shaken _ _ _ _ (c .before .before .before .before .before .before .before .before .before .before .before .if1 .left) (sym (c .before .before .before .before .before .before .before .before .before .before .is-idle2 .ensures) ∙ c .before .before .before .before .before .before .before .before .before .if3 .left) (c .before .before .before .before .before .before .if4 .left) (sym (c .before .before .before .before .before .is-silent .ensures) ∙ not-false _ (c .before .before .before .before .if5 .left)) _ (sym (c .before .partner2 .given .1) ∙ c .before .before .before .partner .ensures)
+returns-2 : tie.Need-returns-2
+returns-2 c =
+    let c4 = c .before .before .before .before in
+    last-there _ _ _ _ _ (c4 .step-at .ensures) _ (c .before .before .last .given .1) (c .past-step .ensures)
 
-returns-7 : tie.Need-returns-7
-returns-7 c = label-alone _ _ _ _ (c .before .before .before .before .before .before .before .before .before .before .if1 .left) (sym (c .before .before .before .before .before .before .before .before .before .is-idle2 .ensures) ∙ c .before .before .before .before .before .before .before .before .if3 .left) (c .before .before .before .before .before .if4 .left) (sym (c .before .before .before .before .is-silent .ensures) ∙ not-false _ (c .before .before .before .if5 .left)) (sym (c .enum-told .given .1) ∙ c .before .before .partner .ensures)
+returns-3 : tie.Need-returns-3
+returns-3 c = last-none _ _ _ _ _ (c .before .before .step-at .ensures) (c .enum-told .given .1)
 
 pub past-node-spec : {M : Type 1} → statement M
 past-node-spec =
     tie.close
     (tie.spec
-    is-idle-requires
     returns
-    returns-2
-    is-idle-requires-2
-    returns-3
-    returns-4
-    is-silent-requires
-    returns-5
-    partner-requires
-    enum-known-partner
+    sub-step-at
+    step-at-requires
+    enum-known-last
+    past-step-requires
     enum-told
-    returns-6
-    returns-7)
+    returns-2
+    returns-3)

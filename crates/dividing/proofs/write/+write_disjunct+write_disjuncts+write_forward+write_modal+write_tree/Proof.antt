@@ -12,11 +12,145 @@ use Rattle.dividing.proofs.write.+write_disjunct+write_disjuncts+write_
 use Rattle.dividing.proofs.write.+write_disjunct+write_disjuncts+write_forward+write_modal+write_tree.{statement}
 use Rattle.dividing.proofs.write.+write_disjunct+write_disjuncts+write_forward+write_modal+write_tree.Tie.{close}
 use Prim.Native.Nat.{_+_, _-_}
-use Rattle.dividing.proofs.write.+write_disjunct+write_disjuncts+write_forward+write_modal+write_tree.Proof.Measures.{μ-write-disjunct, μ-write-disjuncts, μ-write-forward, μ-write-modal, μ-write-tree, write-disjunct-at, write-disjuncts-at, write-forward-at, write-modal-at, write-tree-at, write-disjunct-claims, write-disjuncts-claims, write-forward-claims, write-modal-claims, write-tree-claims}
-use Rattle.dividing.proofs.write.+write_disjunct+write_disjuncts+write_forward+write_modal+write_tree.Proof.Trees.{write-tree-shared-slice-read-operator, write-tree-write-modal-requires, write-tree-same-length, write-tree-returns, write-tree-put-node-requires, write-tree-same-length-2, write-tree-returns-2, write-tree-sub-write-tree, write-tree-part-write-tree-start, write-tree-part-write-tree-end, write-tree-sub-write-tree-2, write-tree-part-write-tree-start-2, write-tree-part-write-tree-end-2, write-tree-write-tree-requires, write-tree-add-at, write-tree-same-length-3, write-tree-returns-3, write-tree-sub-size, write-tree-mul-size, write-tree-element-copy-out-size, write-tree-mul-second, write-tree-add-second, write-tree-sub-second, write-tree-part-second-start, write-tree-part-second-end, write-tree-sub-write-tree-3, write-tree-part-write-tree-start-3, write-tree-part-write-tree-end-3, write-tree-write-tree-requires-2, write-tree-add-result, write-tree-same-length-4, write-tree-returns-4}
-use Rattle.dividing.proofs.write.+write_disjunct+write_disjuncts+write_forward+write_modal+write_tree.Proof.Modalities.{write-modal-shared-slice-read-operator, write-modal-write-forward-requires, write-modal-same-length, write-modal-returns, write-modal-write-forward-requires-2, write-modal-same-length-2, write-modal-returns-2, write-modal-put-node-requires, write-modal-same-length-3, write-modal-returns-3, write-modal-shared-slice-read-t13, write-modal-sub-t27, write-modal-element-copy-out-t30, write-modal-past-node-requires, write-modal-enum-known-node, write-modal-put-node-requires-2, write-modal-sub-write-tree, write-modal-sub-write-tree-2, write-modal-part-write-tree-start, write-modal-part-write-tree-end, write-modal-sub-write-tree-3, write-modal-part-write-tree-start-2, write-modal-part-write-tree-end-2, write-modal-write-tree-requires, write-modal-add-result, write-modal-enum-told, write-modal-put-node-requires-3, write-modal-same-length-4, write-modal-returns-4, write-modal-same-length-5, write-modal-returns-5}
-use Rattle.dividing.proofs.write.+write_disjunct+write_disjuncts+write_forward+write_modal+write_tree.Proof.Forwards.{write-forward-shared-slice-read-list-disjuncts, write-forward-shared-slice-read-t13, write-forward-sub-list-disjuncts, write-forward-element-copy-out-list-disjuncts, write-forward-slice-aggregate-list-disjuncts, write-forward-list-disjuncts-requires, write-forward-array-share-prefix-disjuncts, write-forward-slice-aggregate-write-disjuncts, write-forward-sub-write-disjuncts, write-forward-part-write-disjuncts-start, write-forward-part-write-disjuncts-end, write-forward-write-disjuncts-requires, write-forward-same-length, write-forward-returns}
-use Rattle.dividing.proofs.write.+write_disjunct+write_disjuncts+write_forward+write_modal+write_tree.Proof.Disjuncts.{write-disjuncts-write-disjunct-requires, write-disjuncts-same-length, write-disjuncts-returns, write-disjuncts-put-node-requires, write-disjuncts-sub-write-disjunct, write-disjuncts-part-write-disjunct-start, write-disjuncts-part-write-disjunct-end, write-disjuncts-write-disjunct-requires-2, write-disjuncts-add-at, write-disjuncts-sub-write-disjuncts, write-disjuncts-part-write-disjuncts-start, write-disjuncts-part-write-disjuncts-end, write-disjuncts-sub-write-disjuncts-2, write-disjuncts-part-write-disjuncts-start-2, write-disjuncts-part-write-disjuncts-end-2, write-disjuncts-write-disjuncts-requires, write-disjuncts-add-result, write-disjuncts-same-length-2, write-disjuncts-returns-2, write-disjunct-shared-slice-read-put-node, write-disjunct-shared-slice-read-put-node-2, write-disjunct-put-node-requires, write-disjunct-element-copy-out-a, write-disjunct-add-b, write-disjunct-element-copy-out-b, write-disjunct-shared-slice-read-run, write-disjunct-element-write-run, write-disjunct-shared-slice-read-run-2, write-disjunct-add-run, write-disjunct-element-write-run-2, write-disjunct-add-write-tree, write-disjunct-sub-write-tree, write-disjunct-part-write-tree-start, write-disjunct-part-write-tree-end, write-disjunct-write-tree-requires, write-disjunct-element-write-run-3, write-disjunct-add-run-2, write-disjunct-element-write-run-4, write-disjunct-add-result, write-disjunct-same-length, write-disjunct-returns}
+use Rattle.dividing.proofs.write.+write_disjunct+write_disjuncts+write_forward+write_modal+write_tree.Proof.Measures.{
+  μ-write-disjunct,
+  μ-write-disjuncts,
+  μ-write-forward,
+  μ-write-modal,
+  μ-write-tree,
+  write-disjunct-at,
+  write-disjuncts-at,
+  write-forward-at,
+  write-modal-at,
+  write-tree-at,
+  write-disjunct-claims,
+  write-disjuncts-claims,
+  write-forward-claims,
+  write-modal-claims,
+  write-tree-claims,
+}
+use Rattle.dividing.proofs.write.+write_disjunct+write_disjuncts+write_forward+write_modal+write_tree.Proof.Trees.{
+  write-tree-shared-slice-read-operator,
+  write-tree-write-modal-requires,
+  write-tree-same-length,
+  write-tree-returns,
+  write-tree-put-node-requires,
+  write-tree-same-length-2,
+  write-tree-returns-2,
+  write-tree-sub-write-tree,
+  write-tree-part-write-tree-start,
+  write-tree-part-write-tree-end,
+  write-tree-sub-write-tree-2,
+  write-tree-part-write-tree-start-2,
+  write-tree-part-write-tree-end-2,
+  write-tree-write-tree-requires,
+  write-tree-add-at,
+  write-tree-same-length-3,
+  write-tree-returns-3,
+  write-tree-sub-size,
+  write-tree-mul-size,
+  write-tree-element-copy-out-size,
+  write-tree-mul-second,
+  write-tree-add-second,
+  write-tree-sub-second,
+  write-tree-part-second-start,
+  write-tree-part-second-end,
+  write-tree-sub-write-tree-3,
+  write-tree-part-write-tree-start-3,
+  write-tree-part-write-tree-end-3,
+  write-tree-write-tree-requires-2,
+  write-tree-add-result,
+  write-tree-same-length-4,
+  write-tree-returns-4,
+}
+use Rattle.dividing.proofs.write.+write_disjunct+write_disjuncts+write_forward+write_modal+write_tree.Proof.Modalities.{
+  write-modal-shared-slice-read-operator,
+  write-modal-write-forward-requires,
+  write-modal-same-length,
+  write-modal-returns,
+  write-modal-write-forward-requires-2,
+  write-modal-same-length-2,
+  write-modal-returns-2,
+  write-modal-shared-slice-read-t14,
+  write-modal-slice-aggregate-past-node,
+  write-modal-past-node-requires,
+  write-modal-enum-known-node,
+  write-modal-put-node-requires,
+  write-modal-sub-write-tree,
+  write-modal-sub-write-tree-2,
+  write-modal-part-write-tree-start,
+  write-modal-part-write-tree-end,
+  write-modal-sub-write-tree-3,
+  write-modal-part-write-tree-start-2,
+  write-modal-part-write-tree-end-2,
+  write-modal-write-tree-requires,
+  write-modal-add-result,
+  write-modal-enum-told,
+  write-modal-put-node-requires-2,
+  write-modal-same-length-3,
+  write-modal-returns-3,
+  write-modal-same-length-4,
+  write-modal-returns-4,
+}
+use Rattle.dividing.proofs.write.+write_disjunct+write_disjuncts+write_forward+write_modal+write_tree.Proof.Forwards.{
+  write-forward-shared-slice-read-list-disjuncts,
+  write-forward-shared-slice-read-t13,
+  write-forward-sub-list-disjuncts,
+  write-forward-element-copy-out-list-disjuncts,
+  write-forward-slice-aggregate-list-disjuncts,
+  write-forward-list-disjuncts-requires,
+  write-forward-array-share-prefix-disjuncts,
+  write-forward-slice-aggregate-write-disjuncts,
+  write-forward-sub-write-disjuncts,
+  write-forward-part-write-disjuncts-start,
+  write-forward-part-write-disjuncts-end,
+  write-forward-write-disjuncts-requires,
+  write-forward-same-length,
+  write-forward-returns,
+}
+use Rattle.dividing.proofs.write.+write_disjunct+write_disjuncts+write_forward+write_modal+write_tree.Proof.Disjuncts.{
+  write-disjuncts-write-disjunct-requires,
+  write-disjuncts-same-length,
+  write-disjuncts-returns,
+  write-disjuncts-put-node-requires,
+  write-disjuncts-sub-write-disjunct,
+  write-disjuncts-part-write-disjunct-start,
+  write-disjuncts-part-write-disjunct-end,
+  write-disjuncts-write-disjunct-requires-2,
+  write-disjuncts-add-at,
+  write-disjuncts-sub-write-disjuncts,
+  write-disjuncts-part-write-disjuncts-start,
+  write-disjuncts-part-write-disjuncts-end,
+  write-disjuncts-sub-write-disjuncts-2,
+  write-disjuncts-part-write-disjuncts-start-2,
+  write-disjuncts-part-write-disjuncts-end-2,
+  write-disjuncts-write-disjuncts-requires,
+  write-disjuncts-add-result,
+  write-disjuncts-same-length-2,
+  write-disjuncts-returns-2,
+  write-disjunct-shared-slice-read-put-node,
+  write-disjunct-shared-slice-read-put-node-2,
+  write-disjunct-put-node-requires,
+  write-disjunct-element-copy-out-a,
+  write-disjunct-add-b,
+  write-disjunct-element-copy-out-b,
+  write-disjunct-shared-slice-read-run,
+  write-disjunct-element-write-run,
+  write-disjunct-shared-slice-read-run-2,
+  write-disjunct-add-run,
+  write-disjunct-element-write-run-2,
+  write-disjunct-add-write-tree,
+  write-disjunct-sub-write-tree,
+  write-disjunct-part-write-tree-start,
+  write-disjunct-part-write-tree-end,
+  write-disjunct-write-tree-requires,
+  write-disjunct-element-write-run-3,
+  write-disjunct-add-run-2,
+  write-disjunct-element-write-run-4,
+  write-disjunct-add-result,
+  write-disjunct-same-length,
+  write-disjunct-returns,
+}
 mod Measures
 mod Trees
 mod Modalities
@@ -102,15 +236,11 @@ pub +write-disjunct+write-disjuncts+write-forward+write-modal+write-tree-spec :
     (write-modal-write-forward-requires-2 t)
     (write-modal-same-length-2 t)
     (write-modal-returns-2 t)
-    (write-modal-put-node-requires t)
-    (write-modal-same-length-3 t)
-    (write-modal-returns-3 t)
-    (write-modal-shared-slice-read-t13 t)
-    (write-modal-sub-t27 t)
-    (write-modal-element-copy-out-t30 t)
+    (write-modal-shared-slice-read-t14 t)
+    (write-modal-slice-aggregate-past-node t)
     (write-modal-past-node-requires t)
     (write-modal-enum-known-node t)
-    (write-modal-put-node-requires-2 t)
+    (write-modal-put-node-requires t)
     (write-modal-sub-write-tree t)
     (write-modal-sub-write-tree-2 t)
     (write-modal-part-write-tree-start t)
@@ -121,11 +251,11 @@ pub +write-disjunct+write-disjuncts+write-forward+write-modal+write-tree-spec :
     (write-modal-write-tree-requires t)
     (write-modal-add-result t)
     (write-modal-enum-told t)
-    (write-modal-put-node-requires-3 t)
+    (write-modal-put-node-requires-2 t)
+    (write-modal-same-length-3 t)
+    (write-modal-returns-3 t)
     (write-modal-same-length-4 t)
-    (write-modal-returns-4 t)
-    (write-modal-same-length-5 t)
-    (write-modal-returns-5 t))
+    (write-modal-returns-4 t))
     λ t. write-tree-lts.spec (write-tree-claims t) (write-tree-at t)
     write-tree.Post
     (write-tree-shared-slice-read-operator t)

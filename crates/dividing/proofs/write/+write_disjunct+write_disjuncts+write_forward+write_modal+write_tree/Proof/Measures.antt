@@ -1,4 +1,5 @@
--- What falls from call to call: the formula's bytes, then the disjuncts left; and what each function of the cycle may rely on.
+-- What falls from call to call: the formula's bytes, then the disjuncts left; and what each function of the cycle may
+-- rely on.
 use Prim.Native.Nat.{ℕ, _<_, _+_, _-_, _*_}
 use borrow.Fn.Kinds.{In}
 use borrow.Fn.PlainCycle.{Measures, is, falls, and}
@@ -106,13 +107,37 @@ abbrev pub write-disjunct-claims : ℕ → write-disjunct-lts.Claims
 write-disjunct-claims t = (put-node-reads.Asked, put-node-reads.Learnt, write-tree-below t, write-tree.Post)
 
 abbrev pub write-disjuncts-claims : ℕ → write-disjuncts-lts.Claims
-write-disjuncts-claims t = (write-disjunct-below t, write-disjunct.Post, put-node-reads.Asked, put-node-reads.Learnt, write-disjuncts-below t, write-disjuncts.Post)
+write-disjuncts-claims t = (
+  write-disjunct-below t,
+  write-disjunct.Post,
+  put-node-reads.Asked,
+  put-node-reads.Learnt,
+  write-disjuncts-below t,
+  write-disjuncts.Post,
+)
 
 abbrev pub write-forward-claims : ℕ → write-forward-lts.Claims
-write-forward-claims t = (list-disjuncts-reads.Asked, list-disjuncts-reads.Learnt, write-disjuncts-below t, write-disjuncts.Post)
+write-forward-claims t =
+    (list-disjuncts-reads.Asked, list-disjuncts-reads.Learnt, write-disjuncts-below t, write-disjuncts.Post)
 
 abbrev pub write-modal-claims : ℕ → write-modal-lts.Claims
-write-modal-claims t = (write-forward-below t, write-forward.Post, put-node-reads.Asked, put-node-reads.Learnt, past-node-reads.Asked, past-node-reads.Learnt, write-tree-below t, write-tree.Post)
+write-modal-claims t = (
+  write-forward-below t,
+  write-forward.Post,
+  past-node-reads.Asked,
+  past-node-reads.Learnt,
+  put-node-reads.Asked,
+  put-node-reads.Learnt,
+  write-tree-below t,
+  write-tree.Post,
+)
 
 abbrev pub write-tree-claims : ℕ → write-tree-lts.Claims
-write-tree-claims t = (write-modal-below t, write-modal.Post, put-node-reads.Asked, put-node-reads.Learnt, write-tree-below t, write-tree.Post)
+write-tree-claims t = (
+  write-modal-below t,
+  write-modal.Post,
+  put-node-reads.Asked,
+  put-node-reads.Learnt,
+  write-tree-below t,
+  write-tree.Post,
+)
