@@ -19,7 +19,8 @@ module _ (d : ℕ) where
       z : suc m + d ≡ suc (m + d)
       z = omega arith
 
-      go : (b : Bool) → ltb n 10 ≡ b → (n / 10 < m → digitsWithin (m + d) (n / 10) ≡ digitsWithin m (n / 10)) → digitsWithin (suc m + d) n ≡ digitsWithin (suc m) n
+      go : (b : Bool) → ltb n 10 ≡ b → (n / 10 < m → digitsWithin (m + d) (n / 10) ≡ digitsWithin m (n / 10))
+          → digitsWithin (suc m + d) n ≡ digitsWithin (suc m) n
       go true e r = rw (z, e)
       go false e r = rw (z, e) (ap (_++ ((48 + n % 10) ∷ [])) (r (omega (arith, ltb-false n 10 e, h))))
 
@@ -33,14 +34,17 @@ pub decimal-more : (n : ℕ) → 10 ≤ n → decimal n ≡ decimal (n / 10) ++ 
 unfolding decimal digitsWithin
 decimal-more n h =
     let z : n ≡ suc (n / 10) + (n - suc (n / 10)) = omega arith in
-    rw (le-ltb n 10 h) (ap (λ m. digitsWithin m (n / 10) ++ ((48 + n % 10) ∷ [])) z ∙ ap (_++ ((48 + n % 10) ∷ [])) (wider (n - suc (n / 10)) (suc (n / 10)) (n / 10) (omega arith)))
+    rw (le-ltb n 10 h)
+    (ap (λ m. digitsWithin m (n / 10) ++ ((48 + n % 10) ∷ [])) z
+    ∙ ap (_++ ((48 + n % 10) ∷ [])) (wider (n - suc (n / 10)) (suc (n / 10)) (n / 10) (omega arith)))
 
 -- their number
 pub count-small : (n : ℕ) → n < 10 → length (decimal n) ≡ 1
 count-small n h = ap length (decimal-small n h)
 
 pub count-more : (n m : ℕ) → 10 ≤ n → length (decimal (n / 10)) ≡ m → length (decimal n) ≡ suc m
-count-more n m h e = ap length (decimal-more n h) ∙ omega (arith, length-append (decimal (n / 10)) ((48 + n % 10) ∷ []), e)
+count-more n m h e =
+    ap length (decimal-more n h) ∙ omega (arith, length-append (decimal (n / 10)) ((48 + n % 10) ∷ []), e)
 
 -- of numbers below 10, 100 and so on
 pub count-2 : (n : ℕ) → 10 ≤ n → n < 100 → length (decimal n) ≡ 2
@@ -93,18 +97,23 @@ decimal-3 n h i =
     let z : n / 10 / 10 ≡ n / 100 = omega arith in
     decimal-more n (omega arith) ∙ ap (_++ ((48 + n % 10) ∷ [])) (decimal-2 (n / 10) (omega arith) (omega arith)) ∙ rw z
 
-pub decimal-4 : (n : ℕ) → 1000 ≤ n → n < 10000 → decimal n ≡ (48 + n / 1000) ∷ (48 + n / 100 % 10) ∷ (48 + n / 10 % 10) ∷ (48 + n % 10) ∷ []
+pub decimal-4 : (n : ℕ) → 1000 ≤ n → n < 10000
+    → decimal n ≡ (48 + n / 1000) ∷ (48 + n / 100 % 10) ∷ (48 + n / 10 % 10) ∷ (48 + n % 10) ∷ []
 decimal-4 n h i =
     let z : n / 10 / 100 ≡ n / 1000 = omega arith in
     let w : n / 10 / 10 ≡ n / 100 = omega arith in
-    decimal-more n (omega arith) ∙ ap (_++ ((48 + n % 10) ∷ [])) (decimal-3 (n / 10) (omega arith) (omega arith)) ∙ rw (z, w)
+    decimal-more n (omega arith) ∙ ap (_++ ((48 + n % 10) ∷ [])) (decimal-3 (n / 10) (omega arith) (omega arith))
+    ∙ rw (z, w)
 
-pub decimal-5 : (n : ℕ) → 10000 ≤ n → n < 100000 → decimal n ≡ (48 + n / 10000) ∷ (48 + n / 1000 % 10) ∷ (48 + n / 100 % 10) ∷ (48 + n / 10 % 10) ∷ (48 + n % 10) ∷ []
+pub decimal-5 : (n : ℕ) → 10000 ≤ n → n < 100000
+    → decimal n ≡ (48 + n / 10000) ∷ (48 + n / 1000 % 10) ∷ (48 + n / 100 % 10) ∷ (48 + n / 10 % 10) ∷ (48 + n % 10) ∷
+    []
 decimal-5 n h i =
     let z : n / 10 / 1000 ≡ n / 10000 = omega arith in
     let w : n / 10 / 100 ≡ n / 1000 = omega arith in
     let v : n / 10 / 10 ≡ n / 100 = omega arith in
-    decimal-more n (omega arith) ∙ ap (_++ ((48 + n % 10) ∷ [])) (decimal-4 (n / 10) (omega arith) (omega arith)) ∙ rw (z, w, v)
+    decimal-more n (omega arith) ∙ ap (_++ ((48 + n % 10) ∷ [])) (decimal-4 (n / 10) (omega arith) (omega arith))
+    ∙ rw (z, w, v)
 
 -- a number below 1000 has three digits at most, one below 100000 five
 count-step : (n m : ℕ) → length (decimal (n / 10)) ≤ m → length (decimal n) ≤ suc m

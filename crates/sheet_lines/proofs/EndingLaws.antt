@@ -45,7 +45,8 @@ module _ (parts : Check) (tree : Option Formula) (out : List ℕ) where
       let (c, _) = both-sound (refusedIf (ltb (length out) (2 * nodesOf tree)) OutputTooShort) _ b in
       ltb-false (length out) (2 * nodesOf tree) (unrefused _ _ c)
 
-  written-bytes : (n : ℕ) → answerOf parts tree (length out) ≡ quotient.Written n → (take n (outputAfter parts tree out) ≡ textOf tree) × (n ≡ length (textOf tree)) × (n ≤ length out)
+  written-bytes : (n : ℕ) → answerOf parts tree (length out) ≡ quotient.Written n
+      → (take n (outputAfter parts tree out) ≡ textOf tree) × (n ≡ length (textOf tree)) × (n ≤ length out)
   unfolding answerOf outputAfter inFront
   written-bytes n e = go (checkTree parts tree (length out)) refl e
     where
@@ -64,49 +65,73 @@ module _ (k : ℕ) (l r w f : List ℕ) (letter t : ℕ) where
 
   module _ (text : List ℕ) (size : length text ≡ 8192) where
     module _ (n : ℕ) (told : byNumber k l r w f t side.Right q (length text) ≡ quotient.Written n) where
-      pub text-told : (z : List ℕ) → z ≡ byNumberOutput k l r w f t side.Right q text → (take n z ≡ textAt k l r w f q t) × (n ≡ length (textAt k l r w f q t)) × (n ≤ 8192)
+      pub text-told : (z : List ℕ) → z ≡ byNumberOutput k l r w f t side.Right q text
+          → (take n z ≡ textAt k l r w f q t) × (n ≡ length (textAt k l r w f q t)) × (n ≤ 8192)
       unfolding textAt byNumber byNumberOutput
       text-told z e =
-          let (a, b, c) = written-bytes (checkByNumber k l r w f t q) (treeByNumber k l r w f t side.Right q) text n told in
+          let (a, b, c) = written-bytes (checkByNumber k l r w f t q) (treeByNumber k l r w f t side.Right q) text n
+          told in
           (ap (take n) e ∙ a, b, omega (arith, c, size))
 
-      pub ending-written : endingIn k l r w f letter t ≡ hexadecimal (textAt k l r w f q t) ++ (blank ∷ letter ∷ lineFeed ∷ [])
+      pub ending-written : endingIn k l r w f letter t
+          ≡ hexadecimal (textAt k l r w f q t) ++ (blank ∷ letter ∷ lineFeed ∷ [])
       unfolding endingIn endingOf quotientAt
       ending-written = let e : byNumber k l r w f t side.Right q textRoom ≡ quotient.Written n = rw size at told in rw e
 
-    pub ending-refused : (x : Refusal) → byNumber k l r w f t side.Right q (length text) ≡ quotient.Refused x → endingIn k l r w f letter t ≡ decimal (numberOf x) ++ (blank ∷ dash ∷ lineFeed ∷ [])
+    pub ending-refused : (x : Refusal) → byNumber k l r w f t side.Right q (length text) ≡ quotient.Refused x
+        → endingIn k l r w f letter t ≡ decimal (numberOf x) ++ (blank ∷ dash ∷ lineFeed ∷ [])
     unfolding endingIn endingOf quotientAt
-    ending-refused x told = let e : byNumber k l r w f t side.Right q textRoom ≡ quotient.Refused x = rw size at told in rw e
+    ending-refused x told =
+        let e : byNumber k l r w f t side.Right q textRoom ≡ quotient.Refused x = rw size at told in rw e
 
 -- an ending that was written to the front of a buffer
-pub ending-front : (xs ys e d : List ℕ) (n : ℕ) → length xs ≡ 16387 → e ≡ d → n ≡ length d → n ≤ 16387 → ys ≡ putAt xs 0 d → (n ≡ length e) × (take n ys ≡ e) × (n ≤ 16387)
+pub ending-front : (xs ys e d : List ℕ) (n : ℕ) → length xs ≡ 16387 → e ≡ d → n ≡ length d → n ≤ 16387
+    → ys ≡ putAt xs 0 d → (n ≡ length e) × (take n ys ≡ e) × (n ≤ 16387)
 unfolding inFront
-ending-front xs ys e d n s q m h f =
-    (m ∙ ap length (sym q), ap (take n) (f ∙ put-first xs d (omega (arith, m, h, s))) ∙ take-at d (drop (length d) xs) n (sym m) ∙ sym q, h)
+ending-front xs ys e d n s q m h f = (
+  m ∙ ap length (sym q),
+  ap (take n) (f ∙ put-first xs d (omega (arith, m, h, s))) ∙ take-at d (drop (length d) xs) n (sym m) ∙ sym q,
+  h,
+)
 
-pub length-fields : (text : List ℕ) (letter : ℕ) → length (hexadecimal text ++ (blank ∷ letter ∷ lineFeed ∷ [])) ≡ 2 * length text + 3
-length-fields text letter = omega (arith, length-append (hexadecimal text) (blank ∷ letter ∷ lineFeed ∷ []), length-hexadecimal text)
+pub length-fields : (text : List ℕ) (letter : ℕ)
+    → length (hexadecimal text ++ (blank ∷ letter ∷ lineFeed ∷ [])) ≡ 2 * length text + 3
+length-fields text letter =
+    omega (arith, length-append (hexadecimal text) (blank ∷ letter ∷ lineFeed ∷ []), length-hexadecimal text)
 
-pub length-refusal : (x : Refusal) → (length (decimal (numberOf x) ++ (blank ∷ dash ∷ lineFeed ∷ [])) ≡ length (decimal (numberOf x)) + 3) × (length (decimal (numberOf x)) ≤ 2)
-length-refusal x = (omega (arith, length-append (decimal (numberOf x)) (blank ∷ dash ∷ lineFeed ∷ [])), digits-two (numberOf x) (number-small x))
+pub length-refusal : (x : Refusal)
+    → (length (decimal (numberOf x) ++ (blank ∷ dash ∷ lineFeed ∷ [])) ≡ length (decimal (numberOf x)) + 3)
+    × (length (decimal (numberOf x)) ≤ 2)
+length-refusal x = (
+  omega (arith, length-append (decimal (numberOf x)) (blank ∷ dash ∷ lineFeed ∷ [])),
+  digits-two (numberOf x) (number-small x),
+)
 
 -- what is then written to a buffer is the ending
-module _ (k : ℕ) (l r w f : List ℕ) (letter t : ℕ) (text : List ℕ) (size : length text ≡ 8192) (xs ys : List ℕ) (room : length xs ≡ 16387) (m : ℕ) where
+module _ (k : ℕ) (l r w f : List ℕ) (letter t : ℕ) (text : List ℕ) (size : length text ≡ 8192) (xs ys : List ℕ)
+    (room : length xs ≡ 16387) (m : ℕ) where
   abbrev Ending : Type 0
   Ending = (m ≡ length (endingIn k l r w f letter t)) × (take m ys ≡ endingIn k l r w f letter t) × (m ≤ 16387)
 
-  pub fields-ending : (n : ℕ) → byNumber k l r w f t side.Right (length w / 3) (length text) ≡ quotient.Written n → (z : List ℕ) → z ≡ byNumberOutput k l r w f t side.Right (length w / 3) text
-      → m ≡ 2 * length (take n z) + 3 → ys ≡ putAt xs 0 (hexadecimal (take n z) ++ (blank ∷ letter ∷ lineFeed ∷ [])) → Ending
+  pub fields-ending : (n : ℕ) → byNumber k l r w f t side.Right (length w / 3) (length text) ≡ quotient.Written n
+      → (z : List ℕ) → z ≡ byNumberOutput k l r w f t side.Right (length w / 3) text
+      → m ≡ 2 * length (take n z) + 3 → ys ≡ putAt xs 0 (hexadecimal (take n z) ++ (blank ∷ letter ∷ lineFeed ∷ []))
+      → Ending
   fields-ending n told z e p q =
       let (a, b, c) = text-told k l r w f letter t text size n told z e in
       let d = length-fields (take n z) letter in
-      ending-front xs ys _ _ m room (ending-written k l r w f letter t text size n told ∙ ap (λ x. hexadecimal x ++ (blank ∷ letter ∷ lineFeed ∷ [])) (sym a)) (p ∙ sym d) (omega (arith, p, ap length a, b, c)) q
+      ending-front xs ys _ _ m room
+      (ending-written k l r w f letter t text size n told
+      ∙ ap (λ x. hexadecimal x ++ (blank ∷ letter ∷ lineFeed ∷ [])) (sym a)) (p ∙ sym d)
+      (omega (arith, p, ap length a, b, c)) q
 
   pub refusal-ending : (x : Refusal) → byNumber k l r w f t side.Right (length w / 3) (length text) ≡ quotient.Refused x
-      → m ≡ length (decimal (numberOf x)) + 3 → ys ≡ putAt xs 0 (decimal (numberOf x) ++ (blank ∷ dash ∷ lineFeed ∷ [])) → Ending
+      → m ≡ length (decimal (numberOf x)) + 3 → ys ≡ putAt xs 0 (decimal (numberOf x) ++ (blank ∷ dash ∷ lineFeed ∷ []))
+      → Ending
   refusal-ending x told p q =
       let (d, few) = length-refusal x in
-      ending-front xs ys _ _ m room (ending-refused k l r w f letter t text size x told) (p ∙ sym d) (omega (arith, p, few)) q
+      ending-front xs ys _ _ m room (ending-refused k l r w f letter t text size x told) (p ∙ sym d)
+      (omega (arith, p, few)) q
 
 -- an ending is short: 4,096 nodes of four digits each, and three bytes
 pub any-ending-short : (k : ℕ) (l r s f : List ℕ) (point n letter : ℕ)
@@ -123,7 +148,8 @@ any-ending-short k l r s f point n letter = go (byNumber k l r s f n side.Right 
     size : length room ≡ 8192
     size = length-replicate {A = ℕ} 8192 0
 
-    go : (a : Quotient) → byNumber k l r s f n side.Right point textRoom ≡ a → length (endingOf a (textOf tree) letter) ≤ 16387
+    go : (a : Quotient) → byNumber k l r s f n side.Right point textRoom ≡ a
+        → length (endingOf a (textOf tree) letter) ≤ 16387
     go (quotient.Written m) e =
         let (_, b, c) = written-bytes (checkByNumber k l r s f n point) tree room m (rw size e) in
         omega (arith, length-fields (textOf tree) letter, b, c, size)

@@ -41,7 +41,12 @@ number-small refusal.OutputTooShort = omega arith
 -- the head: two numbers, a letter and three blanks
 pub length-head : (p n a : ℕ) → length (headOf p n a) ≡ length (decimal p) + length (decimal n) + 4
 unfolding headOf
-length-head p n a = omega (arith, length-append (decimal p) (blank ∷ (decimal n ++ (blank ∷ a ∷ blank ∷ []))), length-append (decimal n) (blank ∷ a ∷ blank ∷ []))
+length-head p n a =
+    omega (
+      arith,
+      length-append (decimal p) (blank ∷ (decimal n ++ (blank ∷ a ∷ blank ∷ []))),
+      length-append (decimal n) (blank ∷ a ∷ blank ∷ []),
+    )
 
 -- a point of three digits at most, and a splitting's number of five
 pub head-short : (p n a : ℕ) → p < 1000 → n < 100000 → length (headOf p n a) ≤ 12
@@ -59,23 +64,30 @@ digits-two n h = go (ltb n 10) refl
     go false e = omega (arith, count-2 n (ltb-false n 10 e) h)
 
 -- the head, piece by piece
-pub head-put : (xs y z : List ℕ) (at first second p n a : ℕ) → first ≡ at + length (decimal p) → y ≡ putAt xs at (decimal p) → second ≡ first + 1 + length (decimal n) → z ≡ putAt (set y first blank) (first + 1) (decimal n)
+pub head-put : (xs y z : List ℕ) (at first second p n a : ℕ) → first ≡ at + length (decimal p)
+    → y ≡ putAt xs at (decimal p) → second ≡ first + 1 + length (decimal n)
+    → z ≡ putAt (set y first blank) (first + 1) (decimal n)
     → set (set (set z second blank) (second + 1) a) (second + 2) blank ≡ putAt xs at (headOf p n a)
 unfolding headOf
 head-put xs y z at first second p n a u e v f =
     let b = decimal p ++ (blank ∷ []) in
     let l : first + 1 ≡ at + length b = omega (arith, u, length-append (decimal p) (blank ∷ [])) in
-    let g = behind-piece xs (set y first blank) at (first + 1) b l (behind-one xs y at first (decimal p) u e blank) z (decimal n) f in
+    let g = behind-piece xs (set y first blank) at (first + 1) b l (behind-one xs y at first (decimal p) u e blank) z
+    (decimal n) f in
     let m : second ≡ at + length (b ++ decimal n) = omega (arith, v, l, length-append b (decimal n)) in
-    let w : (b ++ decimal n) ++ (blank ∷ a ∷ blank ∷ []) ≡ decimal p ++ (blank ∷ (decimal n ++ (blank ∷ a ∷ blank ∷ []))) = simp append-assoc in
+    let w : (b ++ decimal n) ++ (blank ∷ a ∷ blank ∷ [])
+    ≡ decimal p ++ (blank ∷ (decimal n ++ (blank ∷ a ∷ blank ∷ []))) = simp append-assoc in
     behind-three xs z at second (b ++ decimal n) m g blank a blank ∙ ap (putAt xs at) w
 
 -- the line of a refusal
-pub refused-put : (xs z : List ℕ) (n m : ℕ) (x : Refusal) → n ≡ numberOf x → m ≡ 2 + length (decimal n) → z ≡ putAt (set (set xs 0 82) 1 blank) 2 (decimal n) → set z m lineFeed ≡ putAt xs 0 (refusedLine x)
+pub refused-put : (xs z : List ℕ) (n m : ℕ) (x : Refusal) → n ≡ numberOf x → m ≡ 2 + length (decimal n)
+    → z ≡ putAt (set (set xs 0 82) 1 blank) 2 (decimal n) → set z m lineFeed ≡ putAt xs 0 (refusedLine x)
 unfolding refusedLine
 refused-put xs z n m x e u f =
-    let g = behind-piece xs (set (set xs 0 82) 1 blank) 0 2 (82 ∷ blank ∷ []) (omega arith) (put-two xs 0 82 blank) z (decimal n) f in
-    behind-one xs z 0 m ((82 ∷ blank ∷ []) ++ decimal n) (omega (arith, u)) g lineFeed ∙ ap (λ k. putAt xs 0 (82 ∷ blank ∷ (decimal k ++ (lineFeed ∷ [])))) e
+    let g = behind-piece xs (set (set xs 0 82) 1 blank) 0 2 (82 ∷ blank ∷ []) (omega arith) (put-two xs 0 82 blank) z
+    (decimal n) f in
+    behind-one xs z 0 m ((82 ∷ blank ∷ []) ++ decimal n) (omega (arith, u)) g lineFeed
+    ∙ ap (λ k. putAt xs 0 (82 ∷ blank ∷ (decimal k ++ (lineFeed ∷ [])))) e
 
 -- a refused casebook's or count's line, where none of it is asked for
 module _ (x : List ℕ) where

@@ -1,7 +1,8 @@
--- The longest line that a sheet can have: 16,399 bytes.
+-- The longest line that a sheet can have: 16,399 bytes. A point has at most 3 digits, a splitting's number 5, the joint
+-- verdict one letter, each with a blank behind it; the quotient 16,384 digits; then a blank, a letter and a line feed.
 use Prim.Native.Nat.{ℕ, zero, suc, _+_, _*_, _/_, _%_, _≤_, _<_}
-use mathlib.Core.Path.{_≡_, refl, sym, _∙_, ap}
-use mathlib.Core.Logic.{_⊎_, inl, inr}
+use mathlib.Core.Path.{_≡_, refl, ap}
+use mathlib.Core.Logic.{inl, inr}
 use mathlib.Core.List.{List, [], _∷_, _++_}
 use mathlib.Core.List.{List·Memᴰ·not-nil as nowhere, List·Memᴰ·cases-cons as ∈-cons}
 use native.Mathlib.Omega.{arith}
@@ -19,21 +20,24 @@ use Rattle.splitting.specs.Splittings.{splittingLimit, countOf}
 use Rattle.splitting.specs.declared.count.Counted.{Counted}
 use Rattle.splitting.specs.declared.count.Counted.the-variants as count
 use Rattle.splitting.proofs.LogRuns.{sound-log}
-use Rattle.sheet_lines.specs.Sheets.{headOf, endingOf, lineOf, listed, refusedLine, partsLines, readLines, sheetOf}
+use Rattle.sheet_lines.specs.Sheets.{headOf, endingOf, lineOf, listed, refusedLine, partsLines, readLines}
+use Rattle.sheet_lines.specs.Sheets.{sheetOf}
 use Rattle.sheet_lines.specs.Working.{Asked, Numbered, numberedLine}
 use Rattle.sheet_lines.proofs.LineLaws.{number-small, digits-two, head-short, length-refused}
 use Rattle.sheet_lines.proofs.EndingLaws.{any-ending-short}
 use Rattle.sheet_lines.proofs.PartsLines.{numbered-log, lines-are, refused-count, read-asked}
 
+-- the three first fields, and the ending
 together-short : (h e : List ℕ) → length h ≤ 12 → length e ≤ 16387 → length (h ++ e) ≤ 16399
 together-short h e a b = omega (arith, length-append h e, a, b)
 
-line-short : (k : ℕ) (l r s f : List ℕ) (point n : ℕ) → point < 1000 → n < 100000 → length (lineOf k l r s f point n) ≤ 16399
+line-short : (k : ℕ) (l r s f : List ℕ) (point n : ℕ) → point < 1000 → n < 100000
+    → length (lineOf k l r s f point n) ≤ 16399
 unfolding lineOf
 line-short k l r s f point n p h =
     together-short (headOf point n _) (endingOf _ _ _) (head-short point n _ p h) (any-ending-short k l r s f point n _)
 
--- what stands in a list of the values of g
+-- what stands in a list of g's values
 in-listed : (g : ℕ → List ℕ) (i m : ℕ) (x : List ℕ) → x ∈ listed g i m → (j : ℕ) × (j < i + m) × (x ≡ g j)
 unfolding listed
 in-listed g i zero x h = absurd (nowhere h)
@@ -46,15 +50,18 @@ refused-short : (x : Refusal) → length (refusedLine x) ≤ 16399
 refused-short x = omega (arith, length-refused x, digits-two (numberOf x) (number-small x))
 
 refused-lines-short : (x : Refusal) (line : List ℕ) → line ∈ (refusedLine x ∷ []) → length line ≤ 16399
-refused-lines-short x line h = elim (∈-cons h) [ inl e ↦ omega (arith, ap length e, refused-short x) | inr t ↦ absurd (nowhere t) ]
+refused-lines-short x line h =
+    elim (∈-cons h) [ inl e ↦ omega (arith, ap length e, refused-short x) | inr t ↦ absurd (nowhere t) ]
 
 -- the lines of a log and a question: line i is that of point i / c and splitting i % c
 module _ (k : ℕ) (l r s f : List ℕ) (asked : Asked k l r s f) where
-  numbered-short : (c : ℕ) → Numbered k l r s f c → (i : ℕ) → i < suc (steps (jointOf s)) * c → length (numberedLine k l r s f c i) ≤ 16399
+  numbered-short : (c : ℕ) → Numbered k l r s f c → (i : ℕ) → i < suc (steps (jointOf s)) * c
+      → length (numberedLine k l r s f c i) ≤ 16399
   unfolding numberedLine splittingLimit
   numbered-short c n i h =
       let some : 0 < c = omega (arith, n .some) in
-      let point : i / c < suc (steps (jointOf s)) = div-lt-iff-lt-mul {k = c} {x = i} {y = suc (steps (jointOf s))} some .1 h in
+      let point : i / c < suc (steps (jointOf s)) = div-lt-iff-lt-mul {k = c} {x = i} {y = suc (steps (jointOf s))}
+      some .1 h in
       let steps-few = sound-log k l r s (asked .log) .run .few in
       line-short k l r s f (i / c) (i % c) (omega (arith, point, steps-few)) (omega (arith, mod-lt i some, n .few))
 
@@ -63,7 +70,8 @@ module _ (k : ℕ) (l r s f : List ℕ) (asked : Asked k l r s f) where
     where
       go : (c : Counted) → countOf k l r s ≡ c → length line ≤ 16399
       go (count.Splittings n) e =
-          let (i, b, q) = in-listed (numberedLine k l r s f n) 0 (suc (steps (jointOf s)) * n) line (rw (lines-are k l r s f asked n e) at h) in
+          let (i, b, q) = in-listed (numberedLine k l r s f n) 0 (suc (steps (jointOf s)) * n) line
+          (rw (lines-are k l r s f asked n e) at h) in
           omega (arith, ap length q, numbered-short n (numbered-log k l r s f asked n e) i (omega (arith, b)))
       go (count.Refused x) e = refused-lines-short x line (rw (refused-count k l r s f x e) at h)
 
@@ -73,5 +81,6 @@ unfolding sheetOf readLines
 sheet-line-short s line h = go (readOf s) refl h
   where
     go : (r : Reading) → readOf s ≡ r → line ∈ readLines s r → length line ≤ 16399
-    go (reading.Casebook c) e m = parts-short (c .pairs) _ _ _ _ (read-asked s 0 0 c e _ _ _ _ refl refl refl refl) line m
+    go (reading.Casebook c) e m =
+        parts-short (c .pairs) _ _ _ _ (read-asked s 0 0 c e _ _ _ _ refl refl refl refl) line m
     go (reading.Refused x) e m = refused-lines-short x line m

@@ -1,15 +1,12 @@
--- What a program that prints a sheet block by block relies on: a sheet has few lines, and a block no more of them than are left.
+-- A sheet has few lines (`sheet-short`), so the call for a block asks for all that are left.
 use Prim.Native.Nat.{ℕ, suc, _-_, _*_, _≤_}
 use mathlib.Core.Path.{_≡_, refl, _∙_, ap}
 use mathlib.Core.List.{List}
 use native.Mathlib.Omega.{arith}
-use lib.ListN.{length, take, drop, length-take, length-drop}
+use lib.ListN.{length, drop, length-drop}
 use lib.Seq.{take-all}
-use Rattle.hml.proofs.Tests.{apart}
 use Rattle.hml.specs.System.{steps}
 use Rattle.labels.specs.Refusals.{inFront}
-use Rattle.labels.specs.declared.refusal.Check.{Check}
-use Rattle.labels.specs.declared.refusal.Check.the-variants as check
 use Rattle.machines.specs.Joints.{jointOf}
 use Rattle.casebook.specs.Reading.{readOf}
 use Rattle.casebook.specs.declared.read.Reading.{Reading}
@@ -17,15 +14,12 @@ use Rattle.casebook.specs.declared.read.Reading.the-variants as reading
 use Rattle.splitting.specs.Splittings.{countOf}
 use Rattle.splitting.specs.declared.count.Counted.{Counted}
 use Rattle.splitting.specs.declared.count.Counted.the-variants as count
-use Rattle.sheet_lines.specs.Sheets.{partsLines, readLines, sheetOf, bytesOf, fitting, linesDue, checkRoom, writtenOr, blockAnswer}
+use Rattle.sheet_lines.specs.Sheets.{partsLines, readLines, sheetOf, bytesOf, fitting, linesDue}
 use Rattle.sheet_lines.specs.Blocks.{blockFrom, blockOf}
 use Rattle.sheet_lines.specs.Working.{Asked, numberedLine, fittedOf, fittedOutput}
 use Rattle.sheet_lines.specs.declared.lines.Fitted.{Fitted}
-use Rattle.sheet_lines.specs.declared.lines.Block.{Block}
-use Rattle.sheet_lines.specs.declared.lines.Lines.the-variants as answer
 use Rattle.sheet_lines.proofs.Filling.{length-listed}
-use Rattle.sheet_lines.proofs.SheetLines.{fitting-room}
-use Rattle.sheet_lines.proofs.FillLaws.{fitting-few, sheet-small}
+use Rattle.sheet_lines.proofs.FillLaws.{sheet-small}
 use Rattle.sheet_lines.proofs.PartsLines.{numbered-log, lines-are, refused-count, read-asked}
 
 -- a sheet has at most 201 times 65,535 lines
@@ -34,7 +28,8 @@ parts-short k l r s f asked = go (countOf k l r s) refl
   where
     go : (c : Counted) → countOf k l r s ≡ c → length (partsLines k l r s f) ≤ 13172535
     go (count.Splittings n) e =
-        let z = ap length (lines-are k l r s f asked n e) ∙ length-listed (numberedLine k l r s f n) 0 (suc (steps (jointOf s)) * n) in
+        let z = ap length (lines-are k l r s f asked n e)
+        ∙ length-listed (numberedLine k l r s f n) 0 (suc (steps (jointOf s)) * n) in
         omega (arith, z, sheet-small k l r s f n (numbered-log k l r s f asked n e))
     go (count.Refused x) e = omega (arith, ap length (refused-count k l r s f x e))
 
@@ -45,20 +40,6 @@ sheet-short s = go (readOf s) refl
     go : (r : Reading) → readOf s ≡ r → length (readLines s r) ≤ 13172535
     go (reading.Casebook c) e = parts-short (c .pairs) _ _ _ _ (read-asked s 0 0 c e _ _ _ _ refl refl refl refl)
     go (reading.Refused x) e = omega arith
-
--- a block that was written
-pub block-within : (s : List ℕ) (first most room : ℕ) (b : Block) → blockAnswer (linesDue s first most) room ≡ answer.Written b → (b .lines ≤ length (sheetOf s) - first) × (b .bytes ≤ room)
-unfolding blockAnswer linesDue writtenOr
-block-within s first most room b e = go (checkRoom due room) e
-  where
-    due : List (List ℕ)
-    due = take most (drop first (sheetOf s))
-
-    go : (c : Check) → writtenOr c (fitting room due) ≡ answer.Written b → (b .lines ≤ length (sheetOf s) - first) × (b .bytes ≤ room)
-    go check.Sound w =
-        let z : _≡_ {A = Block} (record { lines = length (fitting room due); bytes = length (bytesOf (fitting room due)) }) b = cc in
-        (omega (arith, ap (λ (x : Block). x .lines) z, fitting-few room due, length-take most (drop first (sheetOf s)), length-drop first (sheetOf s)), omega (arith, ap (λ (x : Block). x .bytes) z, fitting-room room due))
-    go (check.Refused x) w = absurd (apart cc)
 
 -- all lines that are left are asked for
 all-due : (s : List ℕ) (first : ℕ) → linesDue s first 13172535 ≡ drop first (sheetOf s)

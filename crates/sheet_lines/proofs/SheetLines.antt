@@ -14,18 +14,8 @@ use Rattle.hml.specs.System.{steps}
 use Rattle.machines.specs.Joints.{jointOf}
 use Rattle.labels.specs.Refusals.{inFront}
 use Rattle.labels.specs.declared.refusal.Refusal.the-variants.{OutputTooShort}
-use Rattle.sheet_lines.specs.Sheets.{
-  lineOf,
-  linesOf,
-  listed,
-  bytesOf,
-  fitting,
-  firstTooLong,
-  checkRoom,
-  writtenOr,
-  blockAnswer,
-  blockOutput,
-}
+use Rattle.sheet_lines.specs.Sheets.{lineOf, linesOf, listed, bytesOf, fitting, firstTooLong, checkRoom}
+use Rattle.sheet_lines.specs.Sheets.{writtenOr, blockAnswer, blockOutput}
 use Rattle.sheet_lines.specs.Working.{putAt, Full, numberedLine, fittedOf, fittedOutput}
 use Rattle.sheet_lines.specs.declared.lines.Fitted.{Fitted}
 use Rattle.sheet_lines.specs.declared.lines.Lines.the-variants as answer
@@ -52,27 +42,33 @@ module _ {A : Type 0} (f : ℕ → ℕ → A) (c : ℕ) (some : 1 ≤ c) where
   stretches p (suc m) =
       let z : suc m * c ≡ c + m * c = suc-mul m c ∙ omega arith in
       let w : suc p * c ≡ p * c + c = suc-mul p c ∙ omega arith in
-      ap₂ _++_ (stretch p) (stretches (suc p) m ∙ ap (λ x. listed flat x (m * c)) w) ∙ sym (listed-behind flat (p * c) c (m * c)) ∙ ap (listed flat (p * c)) (sym z)
+      ap₂ _++_ (stretch p) (stretches (suc p) m ∙ ap (λ x. listed flat x (m * c)) w)
+      ∙ sym (listed-behind flat (p * c) c (m * c)) ∙ ap (listed flat (p * c)) (sym z)
 
 -- the lines of a sheet by their numbers
-pub lines-numbered : (k : ℕ) (l r s f : List ℕ) (c : ℕ) → 1 ≤ c → linesOf k l r s f c ≡ listed (numberedLine k l r s f c) 0 (suc (steps (jointOf s)) * c)
+pub lines-numbered : (k : ℕ) (l r s f : List ℕ) (c : ℕ) → 1 ≤ c
+    → linesOf k l r s f c ≡ listed (numberedLine k l r s f c) 0 (suc (steps (jointOf s)) * c)
 unfolding linesOf numberedLine
 lines-numbered k l r s f c h =
     let z : 0 * c ≡ 0 = zero-mul c in
-    stretches (lineOf k l r s f) c h 0 (suc (steps (jointOf s))) ∙ ap (λ x. listed (λ i. lineOf k l r s f (i / c) (i % c)) x (suc (steps (jointOf s)) * c)) z
+    stretches (lineOf k l r s f) c h 0 (suc (steps (jointOf s)))
+    ∙ ap (λ x. listed (λ i. lineOf k l r s f (i / c) (i % c)) x (suc (steps (jointOf s)) * c)) z
 
 module _ {A : Type 0} (g : ℕ → A) where
   -- those behind the first ones
   drop-listed : (n i m : ℕ) → drop n (listed g i (n + m)) ≡ listed g (i + n) m
   unfolding listed
   drop-listed zero i m = let z : i + 0 ≡ i = omega arith in let w : 0 + m ≡ m = omega arith in rw (z, w)
-  drop-listed (suc n) i m = let z : suc i + n ≡ i + suc n = omega arith in let w : suc n + m ≡ suc (n + m) = omega arith in rw w (drop-listed n (suc i) m ∙ ap (λ x. listed g x m) z)
+  drop-listed (suc n) i m =
+      let z : suc i + n ≡ i + suc n = omega arith in
+      let w : suc n + m ≡ suc (n + m) = omega arith in rw w (drop-listed n (suc i) m ∙ ap (λ x. listed g x m) z)
 
   -- the first ones
   take-listed : (n i m : ℕ) → take n (listed g i (n + m)) ≡ listed g i n
   unfolding listed
   take-listed zero i m = refl
-  take-listed (suc n) i m = let w : suc n + m ≡ suc (n + m) = omega arith in rw w (ap (g i ∷_) (take-listed n (suc i) m))
+  take-listed (suc n) i m =
+      let w : suc n + m ≡ suc (n + m) = omega arith in rw w (ap (g i ∷_) (take-listed n (suc i) m))
 
   take-short : (n i m : ℕ) → m ≤ n → take n (listed g i m) ≡ listed g i m
   unfolding listed
@@ -87,13 +83,17 @@ module _ {A : Type 0} (g : ℕ → A) where
   drop-short (suc n) i (suc m) h = drop-short n (suc i) m (omega arith)
 
   -- the lines that are asked for
-  pub due-listed : (first most total : ℕ) → first ≤ total → take most (drop first (listed g 0 total)) ≡ listed g first (min most (total - first))
+  pub due-listed : (first most total : ℕ) → first ≤ total
+      → take most (drop first (listed g 0 total)) ≡ listed g first (min most (total - first))
   due-listed first most total h =
       let z : total ≡ first + (total - first) = omega (arith, h) in
       let w : 0 + first ≡ first = omega arith in
-      ap (λ x. take most (drop first (listed g 0 x))) z ∙ ap (take most) (drop-listed first 0 (total - first) ∙ ap (λ x. listed g x (total - first)) w) ∙ go (leb most (total - first)) refl
+      ap (λ x. take most (drop first (listed g 0 x))) z
+      ∙ ap (take most) (drop-listed first 0 (total - first) ∙ ap (λ x. listed g x (total - first)) w)
+      ∙ go (leb most (total - first)) refl
     where
-      go : (b : Bool) → leb most (total - first) ≡ b → take most (listed g first (total - first)) ≡ listed g first (min most (total - first))
+      go : (b : Bool) → leb most (total - first) ≡ b
+          → take most (listed g first (total - first)) ≡ listed g first (min most (total - first))
       go true e =
           let y = leb-true most (total - first) e in
           let u : total - first ≡ most + (total - first - most) = omega (arith, y) in
@@ -113,8 +113,11 @@ unfolding bytesOf fitting
 fitting-room room [] = omega arith
 fitting-room room (x ∷ due) = go (leb (length x) room) refl (fitting-room (room - length x) due)
   where
-    go : (b : Bool) → leb (length x) room ≡ b → length (bytesOf (fitting (room - length x) due)) ≤ room - length x → length (bytesOf (fitting room (x ∷ due))) ≤ room
-    go true e l = let h = leb-true (length x) room e in rw e (omega (arith, length-append x (bytesOf (fitting (room - length x) due)), l, h))
+    go : (b : Bool) → leb (length x) room ≡ b → length (bytesOf (fitting (room - length x) due)) ≤ room - length x
+        → length (bytesOf (fitting room (x ∷ due))) ≤ room
+    go true e l =
+        let h = leb-true (length x) room e in
+        rw e (omega (arith, length-append x (bytesOf (fitting (room - length x) due)), l, h))
     go false e l = rw e (omega arith)
 
 -- no lines are due
@@ -136,13 +139,18 @@ module _ (room : ℕ) (x : List ℕ) (due : List (List ℕ)) where
       go : (b : Bool) → leb (length x) room ≡ b → ltb room (length x) ≡ eqb (length (fitting room (x ∷ due))) 0
       go true t =
           let h = leb-true (length x) room t in
-          rw (le-ltb room (length x) h, fitting-first room x due h, ne-eqb (suc (length (fitting (room - length x) due))) 0 (λ e. omega (arith, e)))
+          rw (
+            le-ltb room (length x) h,
+            fitting-first room x due h,
+            ne-eqb (suc (length (fitting (room - length x) due))) 0 (λ e. omega (arith, e)),
+          )
       go false t = let h = leb-false (length x) room t in rw (lt-ltb room (length x) h, fitting-none room x due h)
 
 -- lines are due, and those that fit were filled in
 module _ (g : ℕ → List ℕ) (i m : ℕ) (some : 1 ≤ m) (xs ys : List ℕ) (at j : ℕ)
     (full : Full (fitting (length xs) (listed g i m)) xs 0 i ys at j) where
-  short-listed : (n : ℕ) → 1 ≤ n → firstTooLong (length xs) (listed g i n) ≡ eqb (length (fitting (length xs) (listed g i n))) 0
+  short-listed : (n : ℕ) → 1 ≤ n
+      → firstTooLong (length xs) (listed g i n) ≡ eqb (length (fitting (length xs) (listed g i n))) 0
   unfolding listed
   short-listed zero h = absurd (omega arith)
   short-listed (suc n) h = none-if-short (length xs) (g i) (listed g (suc i) n)
@@ -171,7 +179,8 @@ module _ (due : List (List ℕ)) (x out : List ℕ) (e : due ≡ x ∷ []) where
   refused-block ys n m h p =
       let fits : length x ≤ length out = omega (arith, m, h) in
       let alone : bytesOf (x ∷ []) ≡ x = append-nil x in
-      rw (e, le-ltb (length out) (length x) fits, fitting-first (length out) x [] fits, alone, m) (refl, p ∙ put-first out x fits)
+      rw (e, le-ltb (length out) (length x) fits, fitting-first (length out) x [] fits, alone, m)
+      (refl, p ∙ put-first out x fits)
 
 -- the answer of a call for lines, from what fitted
 none-written : (due : List (List ℕ)) (out : List ℕ) → firstTooLong (length out) due ≡ true → fittedOutput due out ≡ out

@@ -1,11 +1,12 @@
--- Blocks of lines, asked for one after the other, are together the whole sheet, and none is refused: `sheet-printed`, for
--- the calls of `write_lines`, and the laws of the blocks of `write_block` behind it.
+-- Blocks of lines, asked for one after the other, are together the whole sheet, and none is refused: `sheet-printed`,
+-- for the calls of `write_lines`, and the laws of the blocks of `write_block` behind it.
 use Prim.Native.Nat.{ℕ, zero, suc, _+_, _-_, _≤_, _<_}
 use mathlib.Core.Path.{_≡_, refl, sym, _∙_, ap}
-use mathlib.Core.Logic.{_⊎_, inl, inr}
+use mathlib.Core.Logic.{inl, inr}
 use mathlib.Core.Bool.{Bool, true, false}
 use mathlib.Core.List.{List, [], _∷_, _++_, append-assoc, append-nil}
-use mathlib.Core.List.{List·Memᴰ·head as here, List·Memᴰ·tail as there, List·Memᴰ·not-nil as nowhere, List·Memᴰ·cases-cons as ∈-cons}
+use mathlib.Core.List.{List·Memᴰ·head as here, List·Memᴰ·tail as there, List·Memᴰ·not-nil as nowhere}
+use mathlib.Core.List.{List·Memᴰ·cases-cons as ∈-cons}
 use native.Mathlib.Omega.{arith}
 use lib.ListN.{length, take, drop, take-append-drop, length-take, length-drop, drop-of-length-le}
 use lib.Dec.{leb}
@@ -15,22 +16,13 @@ use Rattle.hml.proofs.Tests.{apart}
 use Rattle.hml.specs.Lists.{_∈_}
 use Rattle.labels.specs.Refusals.{inFront}
 use Rattle.labels.specs.declared.refusal.Refusal.{Refusal}
-use Rattle.sheet_lines.specs.Sheets.{
-  sheetOf,
-  bytesOf,
-  fitting,
-  linesDue,
-  firstTooLong,
-  checkRoom,
-  writtenOr,
-  blockAnswer,
-  blockOutput,
-}
+use Rattle.sheet_lines.specs.Sheets.{sheetOf, bytesOf, fitting, linesDue, firstTooLong, checkRoom, writtenOr}
+use Rattle.sheet_lines.specs.Sheets.{blockAnswer, blockOutput}
 use Rattle.sheet_lines.specs.Blocks.{blockRoom, blockFrom, blockOf}
 use Rattle.sheet_lines.specs.declared.lines.Block.{Block}
 use Rattle.sheet_lines.specs.declared.lines.Lines.{Lines}
 use Rattle.sheet_lines.specs.declared.lines.Lines.the-variants as answer
-use Rattle.sheet_lines.proofs.Filling.{bytes-behind, fitting-first, fitting-none}
+use Rattle.sheet_lines.proofs.Filling.{bytes-behind, fitting-first}
 use Rattle.sheet_lines.proofs.SheetLines.{fitting-room}
 use Rattle.sheet_lines.proofs.FillLaws.{fitting-few}
 use Rattle.sheet_lines.proofs.LongestLine.{sheet-line-short}
@@ -75,11 +67,13 @@ unfoldable pub reached : List ℕ → ℕ → List Call → ℕ
 reached s first [] = first
 reached s first (c ∷ calls) = reached s (first + linesBy (answerTo s first c)) calls
 
--- what is claimed of such calls: none is refused; what they printed and what is left are together the sheet from the line
--- where they begin; a call that writes no line comes when nothing is left; as many calls as there are lines are enough
+-- what is claimed of such calls: none is refused; what they printed and what is left are together the sheet from the
+-- line where they begin; a call that writes no line comes when nothing is left; as many calls as there are lines are
+-- enough
 pub record Together (s : List ℕ) (first : ℕ) (calls : List Call) : Type 0 where
   pub granted : (x : Refusal) → answer.Refused x ∈ answersTo s first calls → ⊥
-  pub front : printed s first calls ++ bytesOf (drop (reached s first calls) (sheetOf s)) ≡ bytesOf (drop first (sheetOf s))
+  pub front : printed s first calls ++ bytesOf (drop (reached s first calls) (sheetOf s))
+      ≡ bytesOf (drop first (sheetOf s))
   pub ended : (c : Call) → Roomy c → linesBy (answerTo s (reached s first calls) c) ≡ 0
       → printed s first calls ≡ bytesOf (drop first (sheetOf s))
   pub whole : length (sheetOf s) ≤ first + length calls → printed s first calls ≡ bytesOf (drop first (sheetOf s))
@@ -102,7 +96,8 @@ unfolding fitting
 fitting-front room [] = refl
 fitting-front room (x ∷ due) = go (leb (length x) room) refl (fitting-front (room - length x) due)
   where
-    go : (b : Bool) → leb (length x) room ≡ b → fitting (room - length x) due ≡ take (length (fitting (room - length x) due)) due
+    go : (b : Bool) → leb (length x) room ≡ b
+        → fitting (room - length x) due ≡ take (length (fitting (room - length x) due)) due
         → fitting room (x ∷ due) ≡ take (length (fitting room (x ∷ due))) (x ∷ due)
     go true e h = rw e (ap (x ∷_) h)
     go false e h = rw e
@@ -114,7 +109,8 @@ module _ (room : ℕ) where
   not-short [] h = refl
   not-short (x ∷ due) h = le-ltb room (length x) (h x (here refl))
 
-  fitting-one : (due : List (List ℕ)) → ((x : List ℕ) → x ∈ due → length x ≤ room) → 1 ≤ length due → 1 ≤ length (fitting room due)
+  fitting-one : (due : List (List ℕ)) → ((x : List ℕ) → x ∈ due → length x ≤ room) → 1 ≤ length due
+      → 1 ≤ length (fitting room due)
   fitting-one [] h n = absurd (omega arith)
   fitting-one (x ∷ due) h n = omega (arith, ap length (fitting-first room x due (h x (here refl))))
 
@@ -219,12 +215,15 @@ module _ (s : List ℕ) where
   all-reached first [] roomy h = omega (arith, h)
   all-reached first (c ∷ calls) roomy h =
       let r = roomy c (here refl) in
-      all-reached (first + linesBy (answerTo s first c)) calls (λ d m. roomy d (there m)) (go (leb (length (sheetOf s)) first) refl r)
+      all-reached (first + linesBy (answerTo s first c)) calls (λ d m. roomy d (there m))
+      (go (leb (length (sheetOf s)) first) refl r)
     where
-      go : (b : Bool) → leb (length (sheetOf s)) first ≡ b → Roomy c → length (sheetOf s) ≤ first + linesBy (answerTo s first c) + length calls
+      go : (b : Bool) → leb (length (sheetOf s)) first ≡ b → Roomy c
+          → length (sheetOf s) ≤ first + linesBy (answerTo s first c) + length calls
       go true e r = omega (arith, leb-true (length (sheetOf s)) first e)
       go false e r =
-          let some = block-some s first (c .most) (length (c .out)) (r .room) (r .asks) (leb-false (length (sheetOf s)) first e) in
+          let some = block-some s first (c .most) (length (c .out)) (r .room) (r .asks)
+          (leb-false (length (sheetOf s)) first e) in
           omega (arith, h, lines-are s first c r, some)
 
   nothing-left : (first : ℕ) (b : List ℕ) (i : ℕ) → b ++ bytesOf (drop i (sheetOf s)) ≡ bytesOf (drop first (sheetOf s))
@@ -233,16 +232,20 @@ module _ (s : List ℕ) where
   nothing-left first b i e h = sym (append-nil b) ∙ rw (drop-of-length-le (sheetOf s) {i = i} h) at e
 
 -- blocks of calls that ask for a line and have room for the longest are never refused, and are together the sheet
-pub sheet-printed : (s : List ℕ) (first : ℕ) (calls : List Call) → ((c : Call) → c ∈ calls → Roomy c) → Together s first calls
+pub sheet-printed : (s : List ℕ) (first : ℕ) (calls : List Call) → ((c : Call) → c ∈ calls → Roomy c)
+    → Together s first calls
 sheet-printed s first calls roomy =
     record {
       granted = all-granted s first calls roomy;
       front = front;
-      ended = λ c r e. nothing-left s first _ (reached s first calls) front (over c r e (leb (length (sheetOf s)) (reached s first calls)) refl);
+      ended =
+          λ c r e. nothing-left s first _ (reached s first calls) front
+          (over c r e (leb (length (sheetOf s)) (reached s first calls)) refl);
       whole = λ h. nothing-left s first _ (reached s first calls) front (all-reached s first calls roomy h);
     }
   where
-    front : printed s first calls ++ bytesOf (drop (reached s first calls) (sheetOf s)) ≡ bytesOf (drop first (sheetOf s))
+    front : printed s first calls ++ bytesOf (drop (reached s first calls) (sheetOf s))
+        ≡ bytesOf (drop first (sheetOf s))
     front = all-front s first calls roomy
 
     over : (c : Call) → Roomy c → linesBy (answerTo s (reached s first calls) c) ≡ 0
@@ -250,23 +253,18 @@ sheet-printed s first calls roomy =
     over c r e true t = leb-true (length (sheetOf s)) (reached s first calls) t
     over c r e false t =
         let i = reached s first calls in
-        let some = block-some s i (c .most) (length (c .out)) (r .room) (r .asks) (leb-false (length (sheetOf s)) i t) in
+        let some = block-some s i (c .most) (length (c .out)) (r .room) (r .asks)
+        (leb-false (length (sheetOf s)) i t) in
         absurd (omega (arith, e, lines-are s i c r, some))
 
 -- the blocks of `write_block`
 module _ (s : List ℕ) (first : ℕ) where
-  from-is : blockFrom s first ≡ take (length (blockFrom s first)) (drop first (sheetOf s))
+  -- no more lines than are left
+  pub block-left : length (blockFrom s first) ≤ length (sheetOf s) - first
   unfolding blockFrom
-  from-is = fitting-front blockRoom (drop first (sheetOf s))
+  block-left = omega (arith, fitting-few blockRoom (drop first (sheetOf s)), length-drop first (sheetOf s))
 
-  from-few : length (blockFrom s first) ≤ length (sheetOf s) - first
-  unfolding blockFrom
-  from-few = omega (arith, fitting-few blockRoom (drop first (sheetOf s)), length-drop first (sheetOf s))
-
-  from-room : length (bytesOf (blockFrom s first)) ≤ 3145728
-  unfolding blockFrom
-  from-room = fitting-room blockRoom (drop first (sheetOf s))
-
+  -- no line only if none is left
   from-some : first < length (sheetOf s) → 1 ≤ length (blockFrom s first)
   unfolding blockFrom
   from-some h =
@@ -274,7 +272,18 @@ module _ (s : List ℕ) (first : ℕ) where
       = λ x m. omega (arith, sheet-line-short s x (in-drop x first (sheetOf s) m)) in
       fitting-one blockRoom (drop first (sheetOf s)) short (omega (arith, h, length-drop first (sheetOf s)))
 
+  pub block-last : length (blockFrom s first) ≡ 0 → length (sheetOf s) ≤ first
+  block-last z = go (leb (length (sheetOf s)) first) refl
+    where
+      go : (t : Bool) → leb (length (sheetOf s)) first ≡ t → length (sheetOf s) ≤ first
+      go true h = leb-true (length (sheetOf s)) first h
+      go false h = absurd (omega (arith, z, from-some (leb-false (length (sheetOf s)) first h)))
+
   -- the lines in front of a block, and the block
+  from-is : blockFrom s first ≡ take (length (blockFrom s first)) (drop first (sheetOf s))
+  unfolding blockFrom
+  from-is = fitting-front blockRoom (drop first (sheetOf s))
+
   from-next : bytesOf (take first (sheetOf s)) ++ bytesOf (blockFrom s first)
       ≡ bytesOf (take (first + length (blockFrom s first)) (sheetOf s))
   from-next =
@@ -283,36 +292,28 @@ module _ (s : List ℕ) (first : ℕ) where
       ∙ sym (bytes-behind (take first (sheetOf s)) (take n (drop first (sheetOf s))))
       ∙ ap bytesOf (sym (take-add first n (sheetOf s)))
 
+  -- what the call gives
   module _ (b : Block) (e : b ≡ blockOf (blockFrom s first)) where
-    lines-of : b .lines ≡ length (blockFrom s first)
+    pub lines-counted : b .lines ≡ length (blockFrom s first)
     unfolding blockOf
-    lines-of = ap (λ (x : Block). x .lines) e
+    lines-counted = ap (λ (x : Block). x .lines) e
 
-    bytes-of : b .bytes ≡ length (bytesOf (blockFrom s first))
+    bytes-counted : b .bytes ≡ length (bytesOf (blockFrom s first))
     unfolding blockOf
-    bytes-of = ap (λ (x : Block). x .bytes) e
+    bytes-counted = ap (λ (x : Block). x .bytes) e
 
-    pub block-lines-left : b .lines ≤ length (sheetOf s) - first
-    block-lines-left = omega (arith, lines-of, from-few)
-
-    pub block-in-room : b .bytes ≤ 3145728
-    block-in-room = omega (arith, bytes-of, from-room)
-
-    -- it has no line only if none is left
-    pub block-last : b .lines ≡ 0 → length (sheetOf s) ≤ first
-    block-last z = go (leb (length (sheetOf s)) first) refl
-      where
-        go : (t : Bool) → leb (length (sheetOf s)) first ≡ t → length (sheetOf s) ≤ first
-        go true h = leb-true (length (sheetOf s)) first h
-        go false h = absurd (omega (arith, z, lines-of, from-some (leb-false (length (sheetOf s)) first h)))
+    pub bytes-in-room : b .bytes ≤ 3145728
+    unfolding blockFrom
+    bytes-in-room = omega (arith, bytes-counted, fitting-room blockRoom (drop first (sheetOf s)))
 
     -- its bytes are those of the next lines
-    pub block-next : (out ys : List ℕ) → ys ≡ inFront (bytesOf (blockFrom s first)) out
+    pub next-bytes : (out ys : List ℕ) → ys ≡ inFront (bytesOf (blockFrom s first)) out
         → bytesOf (take first (sheetOf s)) ++ take (b .bytes) ys ≡ bytesOf (take (first + b .lines) (sheetOf s))
     unfolding inFront
-    block-next out ys w =
+    next-bytes out ys w =
         let d = bytesOf (blockFrom s first) in
-        let t : take (b .bytes) ys ≡ d = ap (take (b .bytes)) w ∙ take-at d (drop (length d) out) (b .bytes) (sym bytes-of) in
+        let front = take-at d (drop (length d) out) (b .bytes) (sym bytes-counted) in
+        let t : take (b .bytes) ys ≡ d = ap (take (b .bytes)) w ∙ front in
         ap (bytesOf (take first (sheetOf s)) ++_) t
         ∙ from-next
-        ∙ ap (λ n. bytesOf (take (first + n) (sheetOf s))) (sym lines-of)
+        ∙ ap (λ n. bytesOf (take (first + n) (sheetOf s))) (sym lines-counted)

@@ -1,5 +1,5 @@
--- The sheet of any bytes in blocks, as the sheet program prints it: each block has the lines that fit into 3 MiB, whole.
--- No line is longer than 16,399 bytes, so there is one in each block until none is left (proofs/WholeSheet).
+-- The sheet of any bytes in blocks, as the sheet program prints it: each block has the lines that fit into 3 MiB,
+-- whole. No line is longer than 16,399 bytes, so there is one in each block until none is left (proofs/WholeSheet).
 use Prim.Native.Nat.{ℕ}
 use mathlib.Core.List.{List}
 use lib.ListN.{length, drop}

@@ -16,27 +16,20 @@ use Rattle.splitting.specs.declared.count.Counted.the-variants as count
 use Rattle.sheet_lines.specs.declared.point.Point.{Point}
 use Rattle.sheet_lines.specs.declared.kept.Kept.{Kept}
 use Rattle.sheet_lines.specs.declared.lines.Fitted.{Fitted}
-use Rattle.sheet_lines.specs.Sheets.{
-  endingOf,
-  headOf,
-  lineOf,
-  quotientAt,
-  textAt,
-  listed,
-  bytesOf,
-  fitting,
-  firstTooLong,
-}
+use Rattle.sheet_lines.specs.Sheets.{endingOf, headOf, lineOf, quotientAt, textAt, listed, bytesOf, fitting}
+use Rattle.sheet_lines.specs.Sheets.{firstTooLong}
 
 -- bytes written over those of a list, from a place on
 unfoldable pub putAt : List ℕ → ℕ → List ℕ → List ℕ
 putAt xs at bytes = sets xs at bytes
 
--- lines i to j are written behind a place, where an output xs begins, and those up to `end` are due: the output is ys now, and the next line's place is `at`
+-- lines i to j are written behind a place, where an output xs begins, and those up to `end` are due: the output is ys
+-- now, and the next line's place is `at`
 pub record Filled (g : ℕ → List ℕ) (xs : List ℕ) (start i end : ℕ) (ys : List ℕ) (at j : ℕ) : Type 0 where
   pub written : ys ≡ putAt xs start (bytesOf (listed g i (j - i)))
   pub place : at ≡ start + length (bytesOf (listed g i (j - i)))
-  pub left : fitting (length xs - start) (listed g i (end - i)) ≡ listed g i (j - i) ++ fitting (length xs - at) (listed g j (end - j))
+  pub left : fitting (length xs - start) (listed g i (end - i))
+      ≡ listed g i (j - i) ++ fitting (length xs - at) (listed g j (end - j))
   pub begun : i ≤ j
   pub due : j ≤ end
   pub room : at ≤ length xs
@@ -65,7 +58,8 @@ numberedLine k l r s f count i = lineOf k l r s f (i / count) (i % count)
 
 -- the ending of the lines whose splitting has number t in a window, at the window's end
 unfoldable pub endingIn : ℕ → List ℕ → List ℕ → List ℕ → List ℕ → ℕ → ℕ → List ℕ
-endingIn k l r w f letter t = endingOf (quotientAt k l r w f (length w / 3) t) (textAt k l r w f (length w / 3) t) letter
+endingIn k l r w f letter t =
+    endingOf (quotientAt k l r w f (length w / 3) t) (textAt k l r w f (length w / 3) t) letter
 
 -- such a line
 unfoldable pub lineIn : ℕ → List ℕ → List ℕ → List ℕ → List ℕ → ℕ → ℕ → ℕ → ℕ → List ℕ
@@ -91,19 +85,21 @@ Tens n end = (n ≤ end) × (end ≤ n - n % 10 + 10)
 unfoldable pub lineBy : ℕ → List ℕ → List ℕ → List ℕ → List ℕ → Point → ℕ → List ℕ
 lineBy k l r w f p n = lineIn k l r w f (p .letter) (p .number) n (n / p .after % p .ways)
 
--- where endings stand in an output, from one place to another in front of `at`, for each number below `ways`; 0 as the second place if it stands nowhere
+-- where endings stand in an output, from one place to another in front of `at`, for each number below `ways`; 0 as the
+-- second place if it stands nowhere
 unfoldable pub Standing : (ℕ → List ℕ) → List ℕ → ℕ → ℕ → ℕ → ℕ → Type 0
 Standing e out at from end t = (take (length (e t)) (drop from out) ≡ e t) × (from + length (e t) ≡ end) × (end ≤ at)
 
 unfoldable pub EndingsKnown : (ℕ → List ℕ) → ℕ → List ℕ → List ℕ → List ℕ → ℕ → Type 0
-EndingsKnown e ways froms ends out at = (t : ℕ) → t < ways → (getD ends t 0 ≡ 0) ⊎ Standing e out at (getD froms t 0) (getD ends t 0) t
+EndingsKnown e ways froms ends out at =
+    (t : ℕ) → t < ways → (getD ends t 0 ≡ 0) ⊎ Standing e out at (getD froms t 0) (getD ends t 0) t
 
 -- what the writing of lines works with: where endings stand in the output, a quotient's bytes, and a line
 pub record Scratch (froms ends text line : List ℕ) : Type 0 where
   pub fromsSize : length froms ≡ 8192
   pub endsSize : length ends ≡ 8192
   pub textSize : length text ≡ 8192
-  pub lineSize : length line ≡ 16401
+  pub lineSize : length line ≡ 16399
 
 -- the entries for endings, when lines were written from one place to another that end with `len` bytes
 unfoldable pub fromsAfter : List ℕ → ℕ → ℕ → ℕ → ℕ → List ℕ
@@ -121,7 +117,8 @@ countedAs (count.Refused x) = 1
 unfoldable pub Forgotten : List ℕ → ℕ → Type 0
 Forgotten ends n = (t : ℕ) → t < n → getD ends t 0 ≡ 0
 
--- by how many splittings numbers are divided to find their number in a window: by as many as follow it, or by any number if the window has one splitting
+-- by how many splittings numbers are divided to find their number in a window: by as many as follow it, or by any
+-- number if the window has one splitting
 unfoldable pub afterOf : ℕ → ℕ → ℕ
 afterOf ways n = cond (eqb ways 1) 65536 n
 
@@ -146,7 +143,8 @@ pub record PartHalves (k : ℕ) (l r w : List ℕ) (kept : Kept) (halves : List 
   pub counted : kept .ways ≡ length (splittingsOf k l r (newerPart w (kept .older)))
   pub fewOlder : length (splittingsOf k l r (olderPart w (kept .older))) ≤ 256
   pub fewNewer : kept .ways ≤ 256
-  pub olderHalves : HalvesAt k l r (olderPart w (kept .older)) halves 0 (length (splittingsOf k l r (olderPart w (kept .older))))
+  pub olderHalves : HalvesAt k l r (olderPart w (kept .older)) halves 0
+      (length (splittingsOf k l r (olderPart w (kept .older))))
   pub newerHalves : HalvesAt k l r (newerPart w (kept .older)) halves 256 (kept .ways)
 
 -- the table has room for 512 halves, and holds those of the window's parts, or none are kept
@@ -154,14 +152,16 @@ pub record Halved (k : ℕ) (l r w : List ℕ) (kept : Kept) (halves : List ℕ)
   pub size : length halves ≡ 205312
   pub stands : (kept .ways ≡ 0) ⊎ PartHalves k l r w kept halves
 
--- what the lines of a point share: a window and a question that no check refuses, how many splittings the window has, and their halves
+-- what the lines of a point share: a window and a question that no check refuses, how many splittings the window has,
+-- and their halves
 pub record Shared (k : ℕ) (l r w f : List ℕ) (p : Point) (halves : List ℕ) : Type 0 where
   pub asked : Asked k l r w f
   pub counted : p .ways ≡ length (splittingsOf k l r w)
   pub few : length (splittingsOf k l r w) ≤ splittingLimit
   pub halved : Halved k l r w (p .kept) halves
 
--- lines that are due, as far as they fit into so many bytes, and whether the first of them is longer; the output afterwards
+-- lines that are due, as far as they fit into so many bytes, and whether the first of them is longer; the output
+-- afterwards
 unfoldable pub fittedOf : List (List ℕ) → ℕ → Fitted
 fittedOf due room =
     record {

@@ -10,7 +10,8 @@ ghost use Rattle.sheet_lines.specs.Blocks.{blockFrom, blockOf};
 // line always fits. No sheet has over 13,172,535 lines: 201 points, and 65,535 splittings.
 pub fn write_block(casebook: &[u8], first: usize, out: &mut [u8; 3145728]) -> Block
     ensures { λ r. ⌜ r ≡ blockOf (blockFrom (now (casebook .entry)) first) ⌝ }
-    ensures { λ r. ⌜ now (out .exit) ≡ inFront (bytesOf (blockFrom (now (casebook .entry)) first)) (now (out .entry)) ⌝ }
+    ensures { λ r. ⌜ now (out .exit)
+        ≡ inFront (bytesOf (blockFrom (now (casebook .entry)) first)) (now (out .entry)) ⌝ }
 {
     let fitted = fit_lines(casebook, first, 13172535, out);
     Block {

@@ -10,8 +10,8 @@ ghost use lib.ListN.{length, take, drop, set};
 ghost use Rattle.sheet_lines.specs.Sheets.{headOf, listed, fitting};
 ghost use Rattle.sheet_lines.specs.Working.{putAt, lineWith, digitLine, Full, Tens};
 
-// Writes the lines of the splittings from `number` on, and not that of `until`, behind a place, as many as fit. They end with the `len` bytes that `line`
-// has behind its first 14, and those are room for the fields in front.
+// Writes the lines of the splittings from `number` on, and not that of `until`, behind a place, as many as fit. They
+// end with the `len` bytes that `line` has behind its first 12, and those are room for the fields in front.
 pub(crate) fn write_turn(
     point: Point,
     number: usize,
@@ -21,9 +21,12 @@ pub(crate) fn write_turn(
     out: &mut [u8],
     line: &mut [u8],
 ) -> Progress
-    requires { ⌜ (point .number < 100000) × (number ≤ until) × (until ≤ 65536) × (at ≤ length (now out)) ⌝ }
-    requires { ⌜ 14 + len ≤ length (now line) ⌝ }
-    ensures { λ r. ⌜ Full (fitting (length (now (out .entry)) - at) (listed (lineWith point (take len (drop 14 (now (line .entry))))) number (until - number))) (now (out .entry)) at number (now (out .exit)) (r .at) (r .number) ⌝ }
+    requires { ⌜ (point .number < 1000) × (number ≤ until) × (until ≤ 65536) × (at ≤ length (now out)) ⌝ }
+    requires { ⌜ 12 + len ≤ length (now line) ⌝ }
+    ensures { λ r. ⌜ Full
+        (fitting (length (now (out .entry)) - at)
+        (listed (lineWith point (take len (drop 12 (now (line .entry))))) number (until - number))) (now (out .entry))
+        at number (now (out .exit)) (r .at) (r .number) ⌝ }
 {
     let mut i = number;
     let mut to = at;
@@ -49,15 +52,18 @@ fn write_tens(
     out: &mut [u8],
     line: &mut [u8],
 ) -> Progress
-    requires { ⌜ (point .number < 100000) × (until ≤ 65536) × (at ≤ length (now out)) ⌝ }
-    requires { ⌜ Tens number until × (14 + len ≤ length (now line)) ⌝ }
-    ensures { λ r. ⌜ Full (fitting (length (now (out .entry)) - at) (listed (lineWith point (take len (drop 14 (now (line .entry))))) number (until - number))) (now (out .entry)) at number (now (out .exit)) (r .at) (r .number) ⌝ }
-    ensures { λ r. ⌜ take len (drop 14 (now (line .exit))) ≡ take len (drop 14 (now (line .entry))) ⌝ }
+    requires { ⌜ (point .number < 1000) × (until ≤ 65536) × (at ≤ length (now out)) ⌝ }
+    requires { ⌜ Tens number until × (12 + len ≤ length (now line)) ⌝ }
+    ensures { λ r. ⌜ Full
+        (fitting (length (now (out .entry)) - at)
+        (listed (lineWith point (take len (drop 12 (now (line .entry))))) number (until - number))) (now (out .entry))
+        at number (now (out .exit)) (r .at) (r .number) ⌝ }
+    ensures { λ r. ⌜ take len (drop 12 (now (line .exit))) ≡ take len (drop 12 (now (line .entry))) ⌝ }
 {
     let head = head_length(point, number);
-    let start = 14 - head;
+    let start = 12 - head;
     put_head(point, number, start, line);
-    write_digits(number, until, &line[start..14 + len], head - 4, at, out)
+    write_digits(number, until, &line[start..12 + len], head - 4, at, out)
 }
 
 // The same from the whole line of the first number: the others are copies of it, with another last digit in its place.
@@ -70,7 +76,10 @@ fn write_digits(
     out: &mut [u8],
 ) -> Progress
     requires { ⌜ Tens number until × (until ≤ 65536) × (place < length (now line)) × (at ≤ length (now out)) ⌝ }
-    ensures { λ r. ⌜ Full (fitting (length (now (out .entry)) - at) (listed (digitLine (now (line .entry)) place number) number (until - number))) (now (out .entry)) at number (now (out .exit)) (r .at) (r .number) ⌝ }
+    ensures { λ r. ⌜ Full
+        (fitting (length (now (out .entry)) - at)
+        (listed (digitLine (now (line .entry)) place number) number (until - number))) (now (out .entry)) at number
+        (now (out .exit)) (r .at) (r .number) ⌝ }
 {
     let mut digit = 48 + (number % 10) as u8;
     let mut i = number;
@@ -98,16 +107,16 @@ fn put_line(line: &[u8], place: usize, digit: u8, at: usize, out: &mut [u8])
 
 // How many bytes the three first fields have, each with the blank behind it.
 fn head_length(point: Point, number: usize) -> usize
-    requires { ⌜ (point .number < 100000) × (number < 100000) ⌝ }
+    requires { ⌜ (point .number < 1000) × (number < 100000) ⌝ }
     ensures { λ r. ⌜ r ≡ length (headOf (point .number) number (point .letter)) ⌝ }
-    ensures few { λ r. ⌜ r ≤ 14 ⌝ }
+    ensures few { λ r. ⌜ r ≤ 12 ⌝ }
 {
     digit_count(point.number) + digit_count(number) + 4
 }
 
 // Writes the three first fields at a place, each with the blank behind it, and gives the place behind them.
 fn put_head(point: Point, number: usize, at: usize, out: &mut [u8]) -> usize
-    requires { ⌜ (point .number < 100000) × (number < 100000) ⌝ }
+    requires { ⌜ (point .number < 1000) × (number < 100000) ⌝ }
     requires { ⌜ at + length (headOf (point .number) number (point .letter)) ≤ length (now out) ⌝ }
     ensures { λ r. ⌜ r ≡ at + length (headOf (point .number) number (point .letter)) ⌝ }
     ensures { λ r. ⌜ now (out .exit) ≡ putAt (now (out .entry)) at (headOf (point .number) number (point .letter)) ⌝ }

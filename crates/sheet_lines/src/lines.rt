@@ -16,7 +16,8 @@ ghost use Prim.Native.Nat.{suc, _+_, _*_, _≤_};
 ghost use lib.ListN.{length, take, drop};
 ghost use Rattle.hml.specs.System.{steps};
 ghost use Rattle.machines.specs.Joints.{jointOf};
-ghost use Rattle.sheet_lines.specs.Sheets.{refusedLine, partsLines, linesDue, listed, fitting, blockAnswer, blockOutput};
+ghost use Rattle.sheet_lines.specs.Sheets.{refusedLine, partsLines, linesDue, listed, fitting, blockAnswer};
+ghost use Rattle.sheet_lines.specs.Sheets.{blockOutput};
 ghost use Rattle.sheet_lines.specs.Working.{putAt, Asked, Numbered, numberedLine, Full, fittedOf, fittedOutput};
 
 // How many lines were written, and how many bytes they are.
@@ -93,10 +94,12 @@ fn fit_parts<'a>(
 ) -> Fitted
     requires { ⌜ Asked k (now left) (now right) (now run) (now question) ⌝ }
     ensures { λ r. ⌜ r ≡ fittedOf
-        (take most (drop first (partsLines k (now (left .entry)) (now (right .entry)) (now (run .entry)) (now (question .entry)))))
+        (take most (drop first
+        (partsLines k (now (left .entry)) (now (right .entry)) (now (run .entry)) (now (question .entry)))))
         (length (now (out .entry))) ⌝ }
     ensures { λ r. ⌜ now (out .exit) ≡ fittedOutput
-        (take most (drop first (partsLines k (now (left .entry)) (now (right .entry)) (now (run .entry)) (now (question .entry)))))
+        (take most (drop first
+        (partsLines k (now (left .entry)) (now (right .entry)) (now (run .entry)) (now (question .entry)))))
         (now (out .entry)) ⌝ }
 {
     match count(k, left, right, run) {
@@ -138,10 +141,12 @@ fn fit_sheet<'a>(
     requires { ⌜ Numbered k (now left) (now right) (now run) (now question) splittings ⌝ }
     requires { ⌜ (1 ≤ due) × (first + due ≤ suc (steps (jointOf (now run))) * splittings) ⌝ }
     ensures { λ r. ⌜ r ≡ fittedOf
-        (listed (numberedLine k (now (left .entry)) (now (right .entry)) (now (run .entry)) (now (question .entry)) splittings) first due)
+        (listed (numberedLine k (now (left .entry)) (now (right .entry)) (now (run .entry)) (now (question .entry))
+        splittings) first due)
         (length (now (out .entry))) ⌝ }
     ensures { λ r. ⌜ now (out .exit) ≡ fittedOutput
-        (listed (numberedLine k (now (left .entry)) (now (right .entry)) (now (run .entry)) (now (question .entry)) splittings) first due)
+        (listed (numberedLine k (now (left .entry)) (now (right .entry)) (now (run .entry)) (now (question .entry))
+        splittings) first due)
         (now (out .entry)) ⌝ }
 {
     let done = fill(k, left, right, run, question, splittings, first, due, out);
@@ -153,8 +158,8 @@ fn fit_sheet<'a>(
     }
 }
 
-// Fills an output with lines, point by point: line i is that of point i / splittings and of splitting i % splittings. Gives the line that is due next, and
-// how many bytes are written.
+// Fills an output with lines, point by point: line i is that of point i / splittings and of splitting i % splittings.
+// Gives the line that is due next, and how many bytes are written.
 fn fill<'a>(
     k: u8,
     left: &'a [u8],
@@ -168,14 +173,17 @@ fn fill<'a>(
 ) -> Progress
     requires { ⌜ Numbered k (now left) (now right) (now run) (now question) splittings ⌝ }
     requires { ⌜ first + due ≤ suc (steps (jointOf (now run))) * splittings ⌝ }
-    ensures { λ r. ⌜ Full (fitting (length (now (out .entry))) (listed (numberedLine k (now (left .entry)) (now (right .entry)) (now (run .entry)) (now (question .entry)) splittings) first due)) (now (out .entry)) 0 first (now (out .exit)) (r .at) (r .number) ⌝ }
+    ensures { λ r. ⌜ Full
+        (fitting (length (now (out .entry)))
+        (listed (numberedLine k (now (left .entry)) (now (right .entry)) (now (run .entry)) (now (question .entry))
+        splittings) first due)) (now (out .entry)) 0 first (now (out .exit)) (r .at) (r .number) ⌝ }
 {
     let back = back_depth(question);
     let mut froms = [0usize; 8192];
     let mut ends = [0usize; 8192];
     let mut halves = [0u8; 205312];
     let mut text = [0u8; 8192];
-    let mut line = [0u8; 16401];
+    let mut line = [0u8; 16399];
     let end = first + due;
     let mut i = first;
     let mut at: usize = 0;
@@ -213,7 +221,8 @@ fn fill<'a>(
 // The line of a refused casebook or count, if it is among the lines asked for.
 fn fit_refused(refusal: Refusal, first: usize, most: usize, out: &mut [u8]) -> Fitted
     ensures { λ r. ⌜ r ≡ fittedOf (take most (drop first (refusedLine refusal ∷ []))) (length (now (out .entry))) ⌝ }
-    ensures { λ r. ⌜ now (out .exit) ≡ fittedOutput (take most (drop first (refusedLine refusal ∷ []))) (now (out .entry)) ⌝ }
+    ensures { λ r. ⌜ now (out .exit)
+        ≡ fittedOutput (take most (drop first (refusedLine refusal ∷ []))) (now (out .entry)) ⌝ }
 {
     if 0 < first {
         return Fitted {

@@ -16,10 +16,12 @@ ghost use Rattle.machines.specs.Joints.{jointOf};
 ghost use Rattle.splitting.specs.Splittings.{splittingsOf, splittingLimit, countOf};
 ghost use Rattle.formulas.specs.Backs.{backsOf};
 ghost use Rattle.sheet_lines.specs.Sheets.{letterOf, lineOf, listed, fitting};
-ghost use Rattle.sheet_lines.specs.Working.{Asked, Full, countedAs, afterOf, Forgotten, Scratch, endingIn, lineBy, EndingsKnown, Shared, fromsAfter, endsAfter};
+ghost use Rattle.sheet_lines.specs.Working.{Asked, Full, countedAs, afterOf, Forgotten, Scratch, endingIn};
+ghost use Rattle.sheet_lines.specs.Working.{lineBy, EndingsKnown, Shared, fromsAfter, endsAfter};
 
-// What the lines of a point share: the point's number, the joint verdict's letter, how many splittings there are of its window, the steps before it by
-// which quotients differ, and of what follows it, and how the halves of the window's splittings are kept.
+// What the lines of a point share: the point's number, the joint verdict's letter, how many splittings there are of its
+// window, the steps before it by which quotients differ, and of what follows it, and how the halves of the window's
+// splittings are kept.
 pub(crate) struct Point {
     pub number: usize,
     pub letter: u8,
@@ -34,8 +36,8 @@ pub(crate) struct Progress {
     pub at: usize,
 }
 
-// Writes the lines of a point from splitting `number` on, behind a place, as many as fit, and not that of splitting `until`. The question looks back at most
-// `back` steps.
+// Writes the lines of a point from splitting `number` on, behind a place, as many as fit, and not that of splitting
+// `until`. The question looks back at most `back` steps.
 pub(crate) fn write_point<'a>(
     k: u8,
     left: &'a [u8],
@@ -56,9 +58,14 @@ pub(crate) fn write_point<'a>(
 ) -> Progress
     requires { ⌜ Asked k (now left) (now right) (now run) (now question) ⌝ }
     requires { ⌜ (back ≡ backsOf (now question)) × (point ≤ steps (jointOf (now run))) ⌝ }
-    requires { ⌜ (number ≤ until) × (until ≤ length (splittingsOf k (now left) (now right) (now run))) × (length (splittingsOf k (now left) (now right) (now run)) ≤ splittingLimit) ⌝ }
-    requires { ⌜ (at ≤ length (now out)) × (length (now halves) ≡ 205312) × Scratch (now froms) (now ends) (now text) (now line) ⌝ }
-    ensures { λ r. ⌜ Full (fitting (length (now (out .entry)) - at) (listed (lineOf k (now (left .entry)) (now (right .entry)) (now (run .entry)) (now (question .entry)) point) number (until - number))) (now (out .entry)) at number (now (out .exit)) (r .at) (r .number) ⌝ }
+    requires { ⌜ (number ≤ until) × (until ≤ length (splittingsOf k (now left) (now right) (now run)))
+        × (length (splittingsOf k (now left) (now right) (now run)) ≤ splittingLimit) ⌝ }
+    requires { ⌜ (at ≤ length (now out)) × (length (now halves) ≡ 205312)
+        × Scratch (now froms) (now ends) (now text) (now line) ⌝ }
+    ensures { λ r. ⌜ Full
+        (fitting (length (now (out .entry)) - at)
+        (listed (lineOf k (now (left .entry)) (now (right .entry)) (now (run .entry)) (now (question .entry)) point)
+        number (until - number))) (now (out .entry)) at number (now (out .exit)) (r .at) (r .number) ⌝ }
     ensures { λ r. ⌜ Scratch (now (froms .exit)) (now (ends .exit)) (now (text .exit)) (now (line .exit)) ⌝ }
 {
     let first = window_start(point, back);
@@ -95,8 +102,8 @@ pub(crate) fn write_point<'a>(
     )
 }
 
-// The same with what the lines of the point share: turn by turn, until a line does not fit. A turn has the splittings that follow each other and have the same
-// number t in the window, so that their lines end alike.
+// The same with what the lines of the point share: turn by turn, until a line does not fit. A turn has the splittings
+// that follow each other and have the same number t in the window, so that their lines end alike.
 fn write_numbers<'a>(
     k: u8,
     left: &'a [u8],
@@ -114,12 +121,16 @@ fn write_numbers<'a>(
     text: &mut [u8],
     line: &mut [u8],
 ) -> Progress
-    requires { ⌜ (point .number < 100000) × (number ≤ until) × (until ≤ 65536) × (at ≤ length (now out)) ⌝ }
+    requires { ⌜ (point .number < 1000) × (number ≤ until) × (until ≤ 65536) × (at ≤ length (now out)) ⌝ }
     requires { ⌜ (0 < point .after) × (0 < point .ways) × (point .after ≤ 65536) ⌝ }
     requires { ⌜ Shared k (now left) (now right) (now window) (now question) point (now halves) ⌝ }
     requires { ⌜ Scratch (now froms) (now ends) (now text) (now line) ⌝ }
-    requires { ⌜ EndingsKnown (endingIn k (now left) (now right) (now window) (now question) (point .letter)) (point .ways) (now froms) (now ends) (now out) at ⌝ }
-    ensures { λ r. ⌜ Full (fitting (length (now (out .entry)) - at) (listed (lineBy k (now (left .entry)) (now (right .entry)) (now (window .entry)) (now (question .entry)) point) number (until - number))) (now (out .entry)) at number (now (out .exit)) (r .at) (r .number) ⌝ }
+    requires { ⌜ EndingsKnown (endingIn k (now left) (now right) (now window) (now question) (point .letter))
+        (point .ways) (now froms) (now ends) (now out) at ⌝ }
+    ensures { λ r. ⌜ Full
+        (fitting (length (now (out .entry)) - at)
+        (listed (lineBy k (now (left .entry)) (now (right .entry)) (now (window .entry)) (now (question .entry)) point)
+        number (until - number))) (now (out .entry)) at number (now (out .exit)) (r .at) (r .number) ⌝ }
     ensures { λ r. ⌜ Scratch (now (froms .exit)) (now (ends .exit)) (now (text .exit)) (now (line .exit)) ⌝ }
 {
     let after = point.after;
@@ -155,8 +166,8 @@ fn write_numbers<'a>(
     Progress { number: n, at: to }
 }
 
-// Puts the ending of the lines by splitting t of the window behind the first 14 bytes of `line`, and gives its length: copied from the output in front of
-// `at`, if it stands there, else made anew.
+// Puts the ending of the lines by splitting t of the window behind the first 12 bytes of `line`, and gives its length:
+// copied from the output in front of `at`, if it stands there, else made anew.
 fn take_ending<'a>(
     k: u8,
     left: &'a [u8],
@@ -176,16 +187,21 @@ fn take_ending<'a>(
     requires { ⌜ (t < point .ways) × (at ≤ length (now out)) ⌝ }
     requires { ⌜ Shared k (now left) (now right) (now window) (now question) point (now halves) ⌝ }
     requires { ⌜ Scratch (now froms) (now ends) (now text) (now line) ⌝ }
-    requires { ⌜ EndingsKnown (endingIn k (now left) (now right) (now window) (now question) (point .letter)) (point .ways) (now froms) (now ends) (now out) at ⌝ }
-    ensures { λ r. ⌜ r ≡ length (endingIn k (now (left .entry)) (now (right .entry)) (now (window .entry)) (now (question .entry)) (point .letter) t) ⌝ }
-    ensures { λ r. ⌜ take r (drop 14 (now (line .exit))) ≡ endingIn k (now (left .entry)) (now (right .entry)) (now (window .entry)) (now (question .entry)) (point .letter) t ⌝ }
+    requires { ⌜ EndingsKnown (endingIn k (now left) (now right) (now window) (now question) (point .letter))
+        (point .ways) (now froms) (now ends) (now out) at ⌝ }
+    ensures { λ r. ⌜ r ≡ length
+        (endingIn k (now (left .entry)) (now (right .entry)) (now (window .entry)) (now (question .entry))
+        (point .letter) t) ⌝ }
+    ensures { λ r. ⌜ take r (drop 12 (now (line .exit)))
+        ≡ endingIn k (now (left .entry)) (now (right .entry)) (now (window .entry)) (now (question .entry))
+        (point .letter) t ⌝ }
     ensures { λ r. ⌜ r ≤ 16387 ⌝ }
 {
     if t < 8192 {
         let end = ends[t];
         if end != 0 {
             let from = froms[t];
-            return bytes::copy(&out[from..end], &mut line[14..]);
+            return bytes::copy(&out[from..end], &mut line[12..]);
         }
     }
     find_ending(
@@ -199,11 +215,12 @@ fn take_ending<'a>(
         halves,
         point.letter,
         text,
-        &mut line[14..],
+        &mut line[12..],
     )
 }
 
-// Remembers that an ending of `len` bytes stands in the output in front of `to`, if a line was written, behind `at`, and if there is an entry for it.
+// Remembers that an ending of `len` bytes stands in the output in front of `to`, if a line was written, behind `at`,
+// and if there is an entry for it.
 fn remember(
     t: usize,
     len: usize,
@@ -256,9 +273,11 @@ pub(crate) fn splittings_of(k: u8, left: &[u8], right: &[u8], run: &[u8]) -> usi
     }
 }
 
-// By how many splittings numbers are divided to find their number in the window. Where the window has one splitting only, all numbers fall to it.
+// By how many splittings numbers are divided to find their number in the window. Where the window has one splitting
+// only, all numbers fall to it.
 fn splittings_after(k: u8, left: &[u8], right: &[u8], rest: &[u8], ways: usize) -> usize
-    ensures { λ r. ⌜ r ≡ afterOf ways (countedAs (countOf k (now (left .entry)) (now (right .entry)) (now (rest .entry)))) ⌝ }
+    ensures { λ r. ⌜ r ≡ afterOf ways
+        (countedAs (countOf k (now (left .entry)) (now (right .entry)) (now (rest .entry)))) ⌝ }
 {
     if ways == 1 {
         return 65536;

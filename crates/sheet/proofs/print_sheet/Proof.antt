@@ -1,42 +1,57 @@
-use borrow.Author.Needs.{needs}
 use Rattle.sheet.proofs.print_sheet.Statement.{statement}
 use Rattle.sheet.proofs.print_sheet.Tie as tie
-use Prim.Native.Nat.{_+_, _-_, _≤_}
-use mathlib.Core.Path.{_≡_, refl, _∙_}
+use Prim.Native.Nat.{ℕ, zero, suc, _+_, _-_, _≤_}
+use mathlib.Core.Path.{_≡_, sym, _∙_}
+use mathlib.Core.Bool.{false≢true}
 use native.Mathlib.Omega.{arith}
 use lib.ListN.{length}
+use borrow.Author.Tests.{not-true}
 use Rattle.sheet_lines.specs.Sheets.{sheetOf}
-use Rattle.sheet_lines.proofs.SheetBlocks.{sheet-short}
+use Rattle.sheet_lines.proofs.WholeSheet.{block-left, block-last}
 
+-- the lines in front of `first` are handed over, and those from it on are left
 abbrev Inv-loop : tie.InvT-loop
-Inv-loop casebook out₀ first₀ lines₀ out first lines = (first + lines ≤ length (sheetOf casebook)) × (length out ≡ length out₀)
+Inv-loop casebook out₀ first₀ out first = first ≤ length (sheetOf casebook)
 
 abbrev μ-loop : tie.MeasureT-loop
-μ-loop casebook out₀ first₀ lines₀ out first lines = length (sheetOf casebook) - first
+μ-loop casebook out₀ first₀ out first = length (sheetOf casebook) - first
 
-print-block-requires : tie.Need-print-block-requires Inv-loop μ-loop
-print-block-requires c κs = omega arith
+-- a block that ends elsewhere than it begins has a line
+some-line : (first n : ℕ) → (first + n ≡ first → ⊥) → 1 ≤ n
+some-line first zero h = absurd (h (omega arith))
+some-line first (suc n) h = omega arith
 
 loop-holds : tie.Need-loop-holds Inv-loop μ-loop
-loop-holds c = (c .before .before .print-block .ensures, refl)
+loop-holds c = omega arith
 
-add-first : tie.Need-add-first Inv-loop μ-loop
-add-first c = omega (arith, c .before .loop .inv .0, sheet-short (c .before .before .before .before .before .before .before .before .args .casebook .now))
-
-print-block-requires-2 : tie.Need-print-block-requires-2 Inv-loop μ-loop
-print-block-requires-2 c κs = c .before .before .loop .inv .0
-
-loop-less : tie.Need-loop-less Inv-loop μ-loop
-loop-less c = omega (arith, c .before .before .before .before .before .loop .inv .0)
-
-loop-again : tie.Need-loop-again Inv-loop μ-loop
-loop-again c = (c .before .before .print-block2 .ensures, c .before .before .print-block2 .kept .1 .1 .0 ∙ c .before .before .before .before .before .loop .inv .1)
-
-same-length : tie.Need-same-length Inv-loop μ-loop
-same-length c = c .before .loop .inv .1 ∙ c .before .before .before .before .print-block .kept .1 .1 .0
+print-block-requires : tie.Need-print-block-requires Inv-loop μ-loop
+print-block-requires c κs = c .before .loop .inv
 
 returns : tie.Need-returns Inv-loop μ-loop
-returns c = search needs
+returns c = λ e. absurd (false≢true (sym (not-true _ (c .if1 .taken)) ∙ e))
+
+returns-2 : tie.Need-returns-2 Inv-loop μ-loop
+returns-2 c = λ e.
+    let call = c .before .before .before .before in
+    let loop = call .before .before .loop in
+    let bytes = call .before .before .before .before .args .casebook .now in
+    let last = block-last bytes (loop .first) (omega (arith, c .if2 .taken, call .print-block .ensures)) in
+    omega (arith, c .if2 .taken, loop .inv, last)
+
+loop-less : tie.Need-loop-less Inv-loop μ-loop
+loop-less c =
+    let call = c .before .before .before .before in
+    let loop = call .before .before .loop in
+    let bytes = call .before .before .before .before .args .casebook .now in
+    let some = some-line (loop .first) _ (λ e. c .if2 .left (call .print-block .ensures ∙ e)) in
+    omega (arith, some, call .print-block .ensures, block-left bytes (loop .first))
+
+loop-again : tie.Need-loop-again Inv-loop μ-loop
+loop-again c =
+    let call = c .before .before .before .before in
+    let loop = call .before .before .loop in
+    let bytes = call .before .before .before .before .args .casebook .now in
+    omega (arith, loop .inv, call .print-block .ensures, block-left bytes (loop .first))
 
 pub print-sheet-spec : {M : Type 1} → statement M
 print-sheet-spec =
@@ -44,11 +59,9 @@ print-sheet-spec =
     (tie.spec
     Inv-loop
     μ-loop
-    print-block-requires
     loop-holds
-    add-first
-    print-block-requires-2
+    print-block-requires
+    returns
+    returns-2
     loop-less
-    loop-again
-    same-length
-    returns)
+    loop-again)

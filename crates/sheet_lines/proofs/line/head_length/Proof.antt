@@ -2,7 +2,7 @@ use borrow.Author.Needs.{needs}
 use Rattle.sheet_lines.proofs.line.head_length.Statement.{statement}
 use Rattle.sheet_lines.proofs.line.head_length.Tie as tie
 use native.Mathlib.Omega.{arith}
-use Rattle.sheet_lines.proofs.LineLaws.{length-head}
+use Rattle.sheet_lines.proofs.LineLaws.{length-head, head-short}
 
 digit-count-requires : tie.Need-digit-count-requires
 digit-count-requires c κs = search needs
@@ -17,7 +17,12 @@ add-result-2 : tie.Need-add-result-2
 add-result-2 c = search needs
 
 returns : tie.Need-returns
-returns c = (omega (arith, length-head (c .before .before .args .point .number) (c .before .before .args .number) (c .before .before .args .point .letter)), omega arith)
+returns c =
+    let s = c .before .before in
+    let a = s .args in
+    let counted = length-head (a .point .number) (a .number) (a .point .letter) in
+    let short = head-short (a .point .number) (a .number) (a .point .letter) (s .pre .0) (s .pre .1) in
+    (omega (arith, counted), omega (arith, counted, short))
 
 pub head-length-spec : {M : Type 1} → statement M
 head-length-spec =

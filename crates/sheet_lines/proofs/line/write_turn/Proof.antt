@@ -10,7 +10,9 @@ use Rattle.sheet_lines.proofs.Filling.{kept, filled-none, filled-end}
 use Rattle.sheet_lines.proofs.TurnLaws.{tens-of, tens-done, tens-full}
 
 abbrev Inv-loop : tie.InvT-loop
-Inv-loop point number until len at out₀ line₀ i₀ to₀ out line i to = Filled (lineWith point (take len (drop 14 line₀))) out₀ at number until out to i × (take len (drop 14 line) ≡ take len (drop 14 line₀)) × (length line ≡ length line₀)
+Inv-loop point number until len at out₀ line₀ i₀ to₀ out line i to =
+    Filled (lineWith point (take len (drop 12 line₀))) out₀ at number until out to i
+    × (take len (drop 12 line) ≡ take len (drop 12 line₀)) × (length line ≡ length line₀)
 
 abbrev μ-loop : tie.MeasureT-loop
 μ-loop point number until len at out₀ line₀ i₀ to₀ out line i to = until - i
@@ -29,23 +31,48 @@ smaller-requires c κs = search needs
 
 write-tens-requires : tie.Need-write-tens-requires Inv-loop μ-loop
 write-tens-requires c κs = let s = c .before .before .before .before .before .before .before in
-    let inv = c .before .before .before .before .loop .inv in
-    ((s .pre .0 .0, omega (arith, c .before .before .smaller .ensures, s .pre .0 .2), omega (arith, inv .0 .room, kept _ _ _ _ _ _ _ _ (inv .0))), (tens-of _ _ _ (c .before .before .smaller .ensures) (omega arith), omega (arith, s .pre .1, inv .2)))
+    let inv = c .before .before .before .before .loop .inv in (
+      (
+        s .pre .0 .0,
+        omega (arith, c .before .before .smaller .ensures, s .pre .0 .2),
+        omega (arith, inv .0 .room, kept _ _ _ _ _ _ _ _ (inv .0)),
+      ),
+      (tens-of _ _ _ (c .before .before .smaller .ensures) (omega arith), omega (arith, s .pre .1, inv .2)),
+    )
 
 same-length : tie.Need-same-length Inv-loop μ-loop
-same-length c = c .before .before .before .before .before .write-tens .kept .1 .1 .1 .1 .1 .0 ∙ kept _ _ _ _ _ _ _ _ (c .before .before .before .before .before .before .before .before .before .before .loop .inv .0)
+same-length c =
+    c .before .before .before .before .before .write-tens .kept .1 .1 .1 .1 .1 .0
+    ∙ kept _ _ _ _ _ _ _ _
+    (c .before .before .before .before .before .before .before .before .before .before .loop .inv .0)
 
 same-length-2 : tie.Need-same-length-2 Inv-loop μ-loop
-same-length-2 c = c .before .before .before .before .before .write-tens .kept .1 .1 .1 .1 .1 .1 .0 ∙ c .before .before .before .before .before .before .before .before .before .before .loop .inv .2
+same-length-2 c =
+    c .before .before .before .before .before .write-tens .kept .1 .1 .1 .1 .1 .1 .0
+    ∙ c .before .before .before .before .before .before .before .before .before .before .loop .inv .2
 
 returns : tie.Need-returns Inv-loop μ-loop
-returns c = tens-full _ _ _ _ _ _ _ _ _ _ _ _ _ _ (c .before .before .before .before .before .before .before .before .before .before .loop .inv .1) (c .before .before .before .before .before .before .before .before .before .before .loop .inv .0) (omega (arith, c .before .before .before .before .before .before .before .before .smaller .ensures)) (omega (arith, c .before .before .before .before .before .before .before .before .smaller .ensures, c .before .before .before .before .before .before .before .before .before .loop-test .taken)) (c .before .before .before .before .before .write-tens .ensures .0) (omega (arith, c .if1 .taken))
+returns c =
+    let c1 = c .before .before .before .before .before .before .before .before in
+    let c2 = c1 .before .before in
+    tens-full _ _ _ _ _ _ _ _ _ _ _ _ _ _ (c2 .loop .inv .1) (c2 .loop .inv .0) (omega (arith, c1 .smaller .ensures))
+    (omega (arith, c1 .smaller .ensures, c1 .before .loop-test .taken))
+    (c .before .before .before .before .before .write-tens .ensures .0) (omega (arith, c .if1 .taken))
 
 loop-less : tie.Need-loop-less Inv-loop μ-loop
-loop-less c = omega (arith, c .before .before .before .before .before .before .before .before .smaller .ensures, c .if1 .left)
+loop-less c =
+    omega (arith, c .before .before .before .before .before .before .before .before .smaller .ensures, c .if1 .left)
 
 loop-again : tie.Need-loop-again Inv-loop μ-loop
-loop-again c = (tens-done _ _ _ _ _ _ _ _ _ _ _ _ _ _ (c .before .before .before .before .before .before .before .before .before .before .loop .inv .1) (c .before .before .before .before .before .before .before .before .before .before .loop .inv .0) (omega (arith, c .before .before .before .before .before .before .before .before .smaller .ensures)) (omega (arith, c .before .before .before .before .before .before .before .before .smaller .ensures, c .before .before .before .before .before .before .before .before .before .loop-test .taken)) (c .before .before .before .before .before .write-tens .ensures .0) (omega (arith, c .if1 .left)), c .before .before .before .before .before .write-tens .ensures .1 ∙ c .before .before .before .before .before .before .before .before .before .before .loop .inv .1, c .before .before .before .before .before .write-tens .kept .1 .1 .1 .1 .1 .1 .0 ∙ c .before .before .before .before .before .before .before .before .before .before .loop .inv .2)
+loop-again c =
+    let c1 = c .before .before .before .before .before in
+    let c2 = c1 .before .before .before in (
+      tens-done _ _ _ _ _ _ _ _ _ _ _ _ _ _ (c2 .before .before .loop .inv .1) (c2 .before .before .loop .inv .0)
+          (omega (arith, c2 .smaller .ensures)) (omega (arith, c2 .smaller .ensures, c2 .before .loop-test .taken))
+          (c1 .write-tens .ensures .0) (omega (arith, c .if1 .left)),
+      c1 .write-tens .ensures .1 ∙ c2 .before .before .loop .inv .1,
+      c1 .write-tens .kept .1 .1 .1 .1 .1 .1 .0 ∙ c2 .before .before .loop .inv .2,
+    )
 
 same-length-3 : tie.Need-same-length-3 Inv-loop μ-loop
 same-length-3 c = kept _ _ _ _ _ _ _ _ (c .before .loop .inv .0)

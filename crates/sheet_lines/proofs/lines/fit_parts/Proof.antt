@@ -8,7 +8,8 @@ use lib.ListN.{length}
 use Rattle.sheet_lines.specs.Working.{fittedOf, fittedOutput}
 use Rattle.sheet_lines.proofs.SheetLines.{nothing-fits, nothing-output}
 use Rattle.sheet_lines.proofs.FillLaws.{sheet-small}
-use Rattle.sheet_lines.proofs.PartsLines.{points-are, numbered-log, lines-over, lines-due, due-within, none-asked, refused-count}
+use Rattle.sheet_lines.proofs.PartsLines.{points-are, numbered-log, lines-over, lines-due, due-within}
+use Rattle.sheet_lines.proofs.PartsLines.{none-asked, refused-count}
 
 count-requires : tie.Need-count-requires
 count-requires c κs = search needs
@@ -21,17 +22,28 @@ add-total c = search needs
 
 mul-total : tie.Need-mul-total
 mul-total c =
-    let n = numbered-log _ _ _ _ _ (c .before .before .before .before .before .before .before .before .before .pre) _ (sym (c .before .before .before .count .ensures) ∙ c .before .splittings .given .1) in
-    omega (arith, sheet-small _ _ _ _ _ _ n, ap (_* (c .before .splittings .given .0 .0)) (points-are _ _ _ _ _ (c .before .before .before .before .before .before .before .before .before .pre)))
+    let s = c .before .before .before .before .before .before .before .before .before in
+    let n = numbered-log _ _ _ _ _ (s .pre) _
+    (sym (c .before .before .before .count .ensures) ∙ c .before .splittings .given .1) in
+    omega (
+      arith,
+      sheet-small _ _ _ _ _ _ n,
+      ap (_* (c .before .splittings .given .0 .0)) (points-are _ _ _ _ _ (s .pre)),
+    )
 
 returns : tie.Need-returns
 returns c =
-    let e = lines-over _ _ _ _ _ (c .before .before .before .before .before .before .before .before .before .before .pre) _ (sym (c .before .before .before .before .count .ensures) ∙ c .before .before .splittings .given .1) (c .before .before .before .before .before .before .before .before .before .before .args .first) (c .before .before .before .before .before .before .before .before .before .before .args .most) _ refl (omega arith) in
+    let s = c .before .before .before .before .before .before .before .before .before .before in
+    let e = lines-over _ _ _ _ _ (s .pre) _
+    (sym (c .before .before .before .before .count .ensures) ∙ c .before .before .splittings .given .1) (s .args .first)
+    (s .args .most) _ refl (omega arith) in
     (nothing-fits _ e _, nothing-output _ e _)
 
 returns-2 : tie.Need-returns-2
 returns-2 c =
-    let e = none-asked _ (c .before .before .before .before .before .before .before .before .before .before .before .args .most) (c .if2 .taken) in
+    let e = none-asked _
+    (c .before .before .before .before .before .before .before .before .before .before .before .args .most)
+    (c .if2 .taken) in
     (nothing-fits _ e _, nothing-output _ e _)
 
 sub-smaller : tie.Need-sub-smaller
@@ -42,8 +54,13 @@ smaller-requires c κs = search needs
 
 fit-sheet-requires : tie.Need-fit-sheet-requires
 fit-sheet-requires c κs =
-    let told = sym (c .before .before .before .before .before .before .before .count .ensures) ∙ c .before .before .before .before .before .splittings .given .1 in
-    (numbered-log _ _ _ _ _ (c .before .before .before .before .before .before .before .before .before .before .before .before .before .pre) _ told, due-within _ _ _ _ _ (c .before .before .before .before .before .before .before .before .before .before .before .before .before .pre) _ told (c .before .before .before .before .before .before .before .before .before .before .before .before .before .args .first) (c .before .before .before .before .before .before .before .before .before .before .before .before .before .args .most) _ _ refl (omega arith) (c .before .before .if2 .left) (c .before .smaller .ensures))
+    let c1 = c .before .before .before .before .before in
+    let s = c1 .before .before .before .before .before .before .before .before in
+    let told = sym (c1 .before .before .count .ensures) ∙ c1 .splittings .given .1 in (
+      numbered-log _ _ _ _ _ (s .pre) _ told,
+      due-within _ _ _ _ _ (s .pre) _ told (s .args .first) (s .args .most) _ _ refl (omega arith)
+          (c .before .before .if2 .left) (c .before .smaller .ensures),
+    )
 
 enum-known-refusal : tie.Need-enum-known-refusal
 enum-known-refusal c = search needs
@@ -56,16 +73,24 @@ same-length c = search needs
 
 returns-3 : tie.Need-returns-3
 returns-3 c =
-    let told = sym (c .before .before .before .before .before .before .before .before .before .before .count .ensures) ∙ c .before .before .before .before .before .before .before .before .splittings .given .1 in
-    let e = lines-due _ _ _ _ _ (c .before .before .before .before .before .before .before .before .before .before .before .before .before .before .before .before .pre) _ told (c .before .before .before .before .before .before .before .before .before .before .before .before .before .before .before .before .args .first) (c .before .before .before .before .before .before .before .before .before .before .before .before .before .before .before .before .args .most) _ _ refl (omega arith) (c .before .before .before .before .smaller .ensures) in
-    (c .before .before .fit-sheet .ensures .0 ∙ ap (λ d. fittedOf d (length (c .before .before .before .before .before .before .before .before .before .before .before .before .before .before .before .before .args .out .now))) (sym e), c .before .before .fit-sheet .ensures .1 ∙ ap (λ d. fittedOutput d (c .before .before .before .before .before .before .before .before .before .before .before .before .before .before .before .before .args .out .now)) (sym e))
+    let c1 = c .before .before .before .before .before .before .before .before in
+    let s = c1 .before .before .before .before .before .before .before .before in
+    let told = sym (c1 .before .before .count .ensures) ∙ c1 .splittings .given .1 in
+    let e = lines-due _ _ _ _ _ (s .pre) _ told (s .args .first) (s .args .most) _ _ refl (omega arith)
+    (c .before .before .before .before .smaller .ensures) in (
+      c .before .before .fit-sheet .ensures .0 ∙ ap (λ d. fittedOf d (length (s .args .out .now))) (sym e),
+      c .before .before .fit-sheet .ensures .1 ∙ ap (λ d. fittedOutput d (s .args .out .now)) (sym e),
+    )
 
 same-length-2 : tie.Need-same-length-2
 same-length-2 c = search needs
 
 returns-4 : tie.Need-returns-4
 returns-4 c =
-    let e = refused-count _ _ _ _ (c .before .before .before .before .before .before .before .before .before .before .before .before .before .args .question .now) _ (sym (c .before .before .before .before .before .before .before .count .ensures) ∙ c .before .before .before .before .before .refusal .given .1) in
+    let c1 = c .before .before .before .before .before in
+    let e = refused-count _ _ _ _
+    (c1 .before .before .before .before .before .before .before .before .args .question .now) _
+    (sym (c1 .before .before .count .ensures) ∙ c1 .refusal .given .1) in
     rw (← e) at (c .before .before .fit-refused .ensures)
 
 pub fit-parts-spec : {M : Type 1} → statement M

@@ -35,9 +35,10 @@ same-length c = search needs
 
 returns-4 : tie.Need-returns-4
 returns-4 c =
-    let a = c .before .before .before .before .before .before .before .before .before .args in
-    let e = one-due (refusedLine (a .refusal)) (a .first) (a .most) (omega arith) (c .before .before .before .before .before .before .if2 .left) in
-    refused-block _ _ _ e _ _ (c .before .before .before .before .before .refused-length .ensures) (omega arith) (c .before .before .put-refused .ensures)
+    let c1 = c .before .before .before .before .before in
+    let a = c1 .before .before .before .before .args in
+    let e = one-due (refusedLine (a .refusal)) (a .first) (a .most) (omega arith) (c1 .before .if2 .left) in
+    refused-block _ _ _ e _ _ (c1 .refused-length .ensures) (omega arith) (c .before .before .put-refused .ensures)
 
 pub fit-refused-spec : {M : Type 1} → statement M
 fit-refused-spec =

@@ -22,13 +22,23 @@ element-copy-out-from : tie.Need-element-copy-out-from
 element-copy-out-from c = search needs
 
 sub-copy : tie.Need-sub-copy
-sub-copy c = omega (arith, (standing-within _ _ _ _ _ _ _ (c .before .before .before .before .before .before .before .before .before .before .before .before .pre .1 .1 .1) (c .before .before .before .before .before .before .before .before .before .before .before .before .pre .0 .0) (c .before .if2 .taken)))
+sub-copy c =
+    let s = c .before .before .before .before .before .before .before .before .before .before .before .before in
+    omega (arith, (standing-within _ _ _ _ _ _ _ (s .pre .1 .1 .1) (s .pre .0 .0) (c .before .if2 .taken)))
 
 part-copy-start : tie.Need-part-copy-start
-part-copy-start c = omega (arith, (standing-within _ _ _ _ _ _ _ (c .before .before .before .before .before .before .before .before .before .before .before .before .pre .1 .1 .1) (c .before .before .before .before .before .before .before .before .before .before .before .before .pre .0 .0) (c .before .if2 .taken)))
+part-copy-start c =
+    let s = c .before .before .before .before .before .before .before .before .before .before .before .before in
+    omega (arith, (standing-within _ _ _ _ _ _ _ (s .pre .1 .1 .1) (s .pre .0 .0) (c .before .if2 .taken)))
 
 part-copy-end : tie.Need-part-copy-end
-part-copy-end c = omega (arith, (standing-within _ _ _ _ _ _ _ (c .before .before .before .before .before .before .before .before .before .before .before .before .pre .1 .1 .1) (c .before .before .before .before .before .before .before .before .before .before .before .before .pre .0 .0) (c .before .if2 .taken)), c .before .before .before .before .before .before .before .before .before .before .before .before .pre .0 .1)
+part-copy-end c =
+    let s = c .before .before .before .before .before .before .before .before .before .before .before .before in
+    omega (
+      arith,
+      (standing-within _ _ _ _ _ _ _ (s .pre .1 .1 .1) (s .pre .0 .0) (c .before .if2 .taken)),
+      s .pre .0 .1,
+    )
 
 sub-copy-2 : tie.Need-sub-copy-2
 sub-copy-2 c = search needs
@@ -40,15 +50,52 @@ part-copy-end-2 : tie.Need-part-copy-end-2
 part-copy-end-2 c = search needs
 
 copy-requires : tie.Need-copy-requires
-copy-requires c κs = omega (arith, ap length (standing-bytes (endingIn (c .before .before .before .before .before .before .before .before .before .before .before .before .before .before .args .k) (c .before .before .before .before .before .before .before .before .before .before .before .before .before .before .args .left .now) (c .before .before .before .before .before .before .before .before .before .before .before .before .before .before .args .right .now) (c .before .before .before .before .before .before .before .before .before .before .before .before .before .before .args .window .now) (c .before .before .before .before .before .before .before .before .before .before .before .before .before .before .args .question .now) (c .before .before .before .before .before .before .before .before .before .before .before .before .before .before .args .point .letter)) _ _ _ _ _ _ (c .before .before .before .before .before .before .before .before .before .before .before .before .before .before .pre .1 .1 .1) (c .before .before .before .before .before .before .before .before .before .before .before .before .before .before .pre .0 .0) (c .before .before .before .if2 .taken)), (ending-short (c .before .before .before .before .before .before .before .before .before .before .before .before .before .before .args .k) (c .before .before .before .before .before .before .before .before .before .before .before .before .before .before .args .left .now) (c .before .before .before .before .before .before .before .before .before .before .before .before .before .before .args .right .now) (c .before .before .before .before .before .before .before .before .before .before .before .before .before .before .args .window .now) (c .before .before .before .before .before .before .before .before .before .before .before .before .before .before .args .question .now) (c .before .before .before .before .before .before .before .before .before .before .before .before .before .before .args .point .letter) (c .before .before .before .before .before .before .before .before .before .before .before .before .before .before .args .t)), rest-length 14 (c .before .before .before .before .before .before .before .before .before .before .before .before .before .before .args .line .now), c .before .before .before .before .before .before .before .before .before .before .before .before .before .before .pre .1 .1 .0 .lineSize)
+copy-requires c κs =
+    let s = c .before .before .before .before .before .before .before .before .before .before .before .before .before
+    .before in
+    omega (
+      arith,
+      ap length (standing-bytes
+          (endingIn (s .args .k) (s .args .left .now) (s .args .right .now) (s .args .window .now)
+          (s .args .question .now) (s .args .point .letter)) _ _ _ _ _ _ (s .pre .1 .1 .1) (s .pre .0 .0)
+          (c .before .before .before .if2 .taken)),
+      (ending-short (s .args .k) (s .args .left .now) (s .args .right .now) (s .args .window .now)
+          (s .args .question .now) (s .args .point .letter) (s .args .t)),
+      rest-length 12 (s .args .line .now),
+      s .pre .1 .1 .0 .lineSize,
+    )
 
 same-length : tie.Need-same-length
 same-length c = search needs
 
 returns : tie.Need-returns
-returns c = let b = (standing-bytes (endingIn (c .before .before .before .before .before .before .before .before .before .before .before .before .before .before .before .before .before .args .k) (c .before .before .before .before .before .before .before .before .before .before .before .before .before .before .before .before .before .args .left .now) (c .before .before .before .before .before .before .before .before .before .before .before .before .before .before .before .before .before .args .right .now) (c .before .before .before .before .before .before .before .before .before .before .before .before .before .before .before .before .before .args .window .now) (c .before .before .before .before .before .before .before .before .before .before .before .before .before .before .before .before .before .args .question .now) (c .before .before .before .before .before .before .before .before .before .before .before .before .before .before .before .before .before .args .point .letter)) _ _ _ _ _ _ (c .before .before .before .before .before .before .before .before .before .before .before .before .before .before .before .before .before .pre .1 .1 .1) (c .before .before .before .before .before .before .before .before .before .before .before .before .before .before .before .before .before .pre .0 .0) (c .before .before .before .before .before .before .if2 .taken)) in
-    let z = c .before .before .copy .ensures .0 ∙ ap length b in
-    (z, (copied-ending (c .before .before .before .before .before .before .before .before .before .before .before .before .before .before .before .before .before .args .line .now) _ _ _ (c .before .before .copy .ensures .0) (omega (arith, ap length b, (ending-short (c .before .before .before .before .before .before .before .before .before .before .before .before .before .before .before .before .before .args .k) (c .before .before .before .before .before .before .before .before .before .before .before .before .before .before .before .before .before .args .left .now) (c .before .before .before .before .before .before .before .before .before .before .before .before .before .before .before .before .before .args .right .now) (c .before .before .before .before .before .before .before .before .before .before .before .before .before .before .before .before .before .args .window .now) (c .before .before .before .before .before .before .before .before .before .before .before .before .before .before .before .before .before .args .question .now) (c .before .before .before .before .before .before .before .before .before .before .before .before .before .before .before .before .before .args .point .letter) (c .before .before .before .before .before .before .before .before .before .before .before .before .before .before .before .before .before .args .t)), c .before .before .before .before .before .before .before .before .before .before .before .before .before .before .before .before .before .pre .1 .1 .0 .lineSize)) (c .before .before .copy .ensures .1) ∙ b, omega (arith, z, (ending-short (c .before .before .before .before .before .before .before .before .before .before .before .before .before .before .before .before .before .args .k) (c .before .before .before .before .before .before .before .before .before .before .before .before .before .before .before .before .before .args .left .now) (c .before .before .before .before .before .before .before .before .before .before .before .before .before .before .before .before .before .args .right .now) (c .before .before .before .before .before .before .before .before .before .before .before .before .before .before .before .before .before .args .window .now) (c .before .before .before .before .before .before .before .before .before .before .before .before .before .before .before .before .before .args .question .now) (c .before .before .before .before .before .before .before .before .before .before .before .before .before .before .before .before .before .args .point .letter) (c .before .before .before .before .before .before .before .before .before .before .before .before .before .before .before .before .before .args .t)))))
+returns c =
+    let c1 = c .before .before in
+    let s = c1 .before .before .before .before .before .before .before .before .before .before .before .before .before
+    .before .before in
+    let b = (standing-bytes
+    (endingIn (s .args .k) (s .args .left .now) (s .args .right .now) (s .args .window .now) (s .args .question .now)
+    (s .args .point .letter)) _ _ _ _ _ _ (s .pre .1 .1 .1) (s .pre .0 .0)
+    (c1 .before .before .before .before .if2 .taken)) in
+    let z = c1 .copy .ensures .0 ∙ ap length b in (
+      z,
+      (
+        copied-ending (s .args .line .now) _ _ _ (c1 .copy .ensures .0)
+            (omega (
+              arith,
+              ap length b,
+              (ending-short (s .args .k) (s .args .left .now) (s .args .right .now) (s .args .window .now)
+                  (s .args .question .now) (s .args .point .letter) (s .args .t)),
+              s .pre .1 .1 .0 .lineSize,
+            )) (c1 .copy .ensures .1) ∙ b,
+        omega (
+          arith,
+          z,
+          (ending-short (s .args .k) (s .args .left .now) (s .args .right .now) (s .args .window .now)
+              (s .args .question .now) (s .args .point .letter) (s .args .t)),
+        ),
+      ),
+    )
 
 sub-find-ending : tie.Need-sub-find-ending
 sub-find-ending c = search needs
@@ -60,7 +107,14 @@ part-find-ending-end : tie.Need-part-find-ending-end
 part-find-ending-end c = search needs
 
 find-ending-requires : tie.Need-find-ending-requires
-find-ending-requires c κs = ((c .before .before .before .before .before .before .before .before .before .before .before .pre .1 .0 .asked, c .before .before .before .before .before .before .before .before .before .before .before .pre .1 .0 .halved), ((omega (arith, c .before .before .before .before .before .before .before .before .before .before .before .pre .0 .0, c .before .before .before .before .before .before .before .before .before .before .before .pre .1 .0 .counted), c .before .before .before .before .before .before .before .before .before .before .before .pre .1 .0 .few), (c .before .before .before .before .before .before .before .before .before .before .before .pre .1 .1 .0 .textSize, rest-length 14 (c .before .before .before .before .before .before .before .before .before .before .before .args .line .now) ∙ omega (arith, c .before .before .before .before .before .before .before .before .before .before .before .pre .1 .1 .0 .lineSize))))
+find-ending-requires c κs =
+    let s = c .before .before .before .before .before .before .before .before .before .before .before in (
+      (s .pre .1 .0 .asked, s .pre .1 .0 .halved),
+      (
+        (omega (arith, s .pre .0 .0, s .pre .1 .0 .counted), s .pre .1 .0 .few),
+        (s .pre .1 .1 .0 .textSize, rest-length 12 (s .args .line .now) ∙ omega (arith, s .pre .1 .1 .0 .lineSize)),
+      ),
+    )
 
 same-length-2 : tie.Need-same-length-2
 same-length-2 c = search needs
@@ -69,7 +123,16 @@ same-length-3 : tie.Need-same-length-3
 same-length-3 c = search needs
 
 returns-2 : tie.Need-returns-2
-returns-2 c = (c .before .before .before .before .find-ending .ensures .0, (made-ending (c .before .before .before .before .before .before .before .before .before .before .before .before .before .before .before .before .args .line .now) (c .before .before .before .before .find-ending .last .1 .1 .1 .1 .1 .1 .1 .1 .1 .1 .0) (c .before .before .before .before .find-ending .result) _ (omega (arith, c .before .before .before .before .before .before .before .before .before .before .before .before .before .before .before .before .pre .1 .1 .0 .lineSize)) (c .before .before .before .before .find-ending .ensures .1 .0), c .before .before .before .before .find-ending .ensures .1 .1))
+returns-2 c =
+    let c1 = c .before .before .before .before in
+    let s = c1 .before .before .before .before .before .before .before .before .before .before .before .before in (
+      c1 .find-ending .ensures .0,
+      (
+        made-ending (s .args .line .now) (c1 .find-ending .last .1 .1 .1 .1 .1 .1 .1 .1 .1 .1 .0)
+            (c1 .find-ending .result) _ (omega (arith, s .pre .1 .1 .0 .lineSize)) (c1 .find-ending .ensures .1 .0),
+        c1 .find-ending .ensures .1 .1,
+      ),
+    )
 
 pub take-ending-spec : {M : Type 1} → statement M
 take-ending-spec =
