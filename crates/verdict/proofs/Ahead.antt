@@ -9,11 +9,13 @@ use native.Mathlib.Nat.{add-zero}
 use lib.ListN.{length, getD, drop}
 use lib.Seq.{getD-drop, drop-drop}
 use borrow.Author.Tests.{eq-eqb, ne-eqb, eqb-true}
-use Rattle.hml.specs.Tests.{same, apart, denied, decided-same, decided-alike, and-cong}
-use Rattle.hml.specs.Lists.{any, present, any-cong, any-false}
+use Rattle.hml.specs.Lists.{same, any, present}
+use Rattle.hml.proofs.Tests.{apart, denied, decided-same, decided-alike, and-cong}
+use Rattle.hml.proofs.Lists.{any-cong, any-false}
 use Rattle.hml.specs.System.{Run, _▸_, move, last, Pairing}
 use Rattle.hml.specs.Formula.{Formula, fwd, holds}
-use Rattle.hml.specs.Compose.{shakes, decided-shakes, beside, beside-composed, Composed}
+use Rattle.hml.specs.Compose.{shakes, beside}
+use Rattle.hml.proofs.Composition.{decided-shakes, beside-composed, Composed}
 use Rattle.labels.specs.Labels.{pairing, partnerFound}
 use Rattle.labels.specs.declared.label.Label.{Label}
 use Rattle.labels.specs.declared.label.Labels.{Labels}

@@ -9,7 +9,8 @@ use lib.ListN.{length, getD, take, drop}
 use lib.Seq.{getD-take, length-take-le}
 use lib.Dec.{eqb, leb}
 use borrow.Author.Tests.{leb-true}
-use Rattle.hml.specs.Tests.{same, both-true, Decides, decides, decided-or, decided-same}
+use Rattle.hml.specs.Lists.{same}
+use Rattle.hml.proofs.Tests.{both-true, Decides, decides, decided-or, decided-same}
 use Rattle.hml.specs.System.{Run, _▸_, move, idle}
 use Rattle.hml.specs.Formula.{Formula, not, and, or, fwd, back, fwdIdle, backIdle, size, nesting, labelled, holds}
 use Rattle.hml.specs.Labels.{count}

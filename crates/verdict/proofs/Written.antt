@@ -6,8 +6,8 @@ use mathlib.Core.List.{List}
 use native.Mathlib.Omega.{arith}
 use lib.ListN.{length, getD, take, set, length-set}
 use lib.Seq.{set-comm, set-set, set-getD, getD-set-same, getD-set-other}
-use Rattle.hml.specs.Tests.{same}
-use Rattle.hml.specs.Lists.{any-cong}
+use Rattle.hml.specs.Lists.{same}
+use Rattle.hml.proofs.Lists.{any-cong}
 use Rattle.hml.specs.System.{_▸_}
 use Rattle.hml.specs.Formula.{Formula}
 use Rattle.labels.specs.declared.label.Labels.{Labels}

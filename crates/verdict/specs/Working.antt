@@ -5,8 +5,7 @@ use mathlib.Core.Bool.{Bool, true, false, cond, _&&_}
 use mathlib.Core.List.{List, [], _∷_}
 use lib.ListN.{length, getD, drop}
 use lib.Dec.{eqb}
-use Rattle.hml.specs.Tests.{same}
-use Rattle.hml.specs.Lists.{any, present}
+use Rattle.hml.specs.Lists.{same, any, present}
 use Rattle.hml.specs.System.{System, Run, Pairing}
 use Rattle.hml.specs.Formula.{Formula, holds, nesting, labelled}
 use Rattle.hml.specs.Compose.{beside}
