@@ -6,6 +6,7 @@ use mathlib.Core.Bool.{Bool, true, false, cond, _&&_, _||_, not as negate, false
 use mathlib.Core.List.{List}
 use native.Mathlib.Omega.{arith}
 use lib.ListN.{length, getD, take, drop}
+use lib.Seq.{getD-take, length-take-le}
 use lib.Dec.{eqb, leb}
 use borrow.Author.Tests.{leb-true}
 use Rattle.hml.specs.Lists.{same}
@@ -17,12 +18,14 @@ use Rattle.labels.specs.declared.label.Labels.{Labels}
 use Rattle.labels.proofs.Slices.{rest, rest-of, rest-length}
 use Rattle.halves.specs.Runs.{stepOf}
 use Rattle.machines.specs.Joints.{jointOf}
+use Rattle.machines.specs.Steps.{jointStepAt, jointRead}
+use Rattle.machines.specs.declared.step.JointRead.the-variants as read
+use Rattle.machines.proofs.Steps.{step-there}
 use Rattle.machines.proofs.Buffers.{Held, held-empty, held-shorter, held-step}
 use Rattle.formulas.specs.Trees.{Tree, treeOf}
 use Rattle.formulas.proofs.Operators.{Unary, at}
 use Rattle.formulas.proofs.Operands.{Part, Connective, connected, operand-part, operand-is, first-part, second-part, size-read, second-room, operands-are, nesting-connected, labelled-connected}
-use Rattle.verdict.specs.declared.step.Step.the-variants as step
-use Rattle.verdict.specs.Working.{Ready, Shown, jointStep, grants, judged, statesOf}
+use Rattle.verdict.specs.Working.{Ready, Shown, grants, judged}
 
 -- the operator, from the tests that it passed and failed
 pub five-up : (o : ℕ) → (o ≡ 0 → ⊥) → (o ≡ 1 → ⊥) → (o ≡ 2 → ⊥) → (o ≡ 3 → ⊥) × (o ≡ 4 → ⊥) → 5 ≤ o
@@ -197,22 +200,49 @@ module _ (labels : Labels) (l r f xs : List ℕ) (n : ℕ) (t : Tree f) (h : Hel
   back-empty s = ⊎-elim (λ e. rw (at f t 6 e .is, held-empty xs n h s)) (λ e. rw (at f t 8 e .is, held-empty xs n h s)) o
 
   module _ (s : 5 ≤ n) where
-    -- the verdict by the last step
-    back-step : (a : ℕ) (u : ℕ × ℕ) (j : Run (ℕ × ℕ)) → judged labels l r (treeOf f) (j ▸ stepOf a u)
-        ≡ (grants (getD f 0 0) (getD f 1 0) (jointStep a (u .0) (u .1)) && judged labels l r (treeOf (drop 2 f)) j)
-    unfolding judged holds grants jointStep stepOf
+    -- the last step, as it is read
+    last-label : jointStepAt (take n xs) (n / 3 - 1) .label .0 ≡ getD xs (n - 3) 0
+    unfolding jointStepAt
+    last-label =
+        let place : 3 * (n / 3 - 1) + 2 ≡ n - 3 = omega (arith, h .whole, s) in
+        getD-take n xs (3 * (n / 3 - 1) + 2) 0 (omega (arith, place, s)) ∙ ap (λ i. getD xs i 0) place
+
+    last-read : read.Step (jointStepAt (take n xs) (n / 3 - 1)) ≡ jointRead (take n xs) (n / 3 - 1)
+    last-read =
+        let whole = length-take-le n xs (h .within) in
+        step-there (take n xs) (n / 3 - 1) (rw whole (h .whole)) (omega (arith, whole, s))
+
+    -- the verdict by its label
+    abbrev granted : ℕ → Bool
+    granted a = cond (eqb a 255) (eqb (getD f 0 0) 8) (eqb (getD f 0 0) 6 && eqb a (getD f 1 0))
+
+    last-granted : grants (getD f 0 0) (getD f 1 0) (jointRead (take n xs) (n / 3 - 1)) ≡ granted (getD xs (n - 3) 0)
+    unfolding grants
+    last-granted = rw (← last-read, last-label)
+
+    back-step : (a : ℕ) (u : ℕ × ℕ) (j : Run (ℕ × ℕ))
+        → judged labels l r (treeOf f) (j ▸ stepOf a u) ≡ (granted a && judged labels l r (treeOf (drop 2 f)) j)
+    unfolding judged holds stepOf
     back-step a u j = go (eqb a 255) o
       where
-        go : (b : Bool) → (getD f 0 0 ≡ 6) ⊎ (getD f 0 0 ≡ 8) → judged labels l r (treeOf f) (j ▸ cond b idle (move a u))
-            ≡ (grants (getD f 0 0) (getD f 1 0) (cond b step.Idle (step.Move (record { label = record { 0 = a }; to = statesOf (u .0) (u .1) }))) && judged labels l r (treeOf (drop 2 f)) j)
+        go : (b : Bool) → (getD f 0 0 ≡ 6) ⊎ (getD f 0 0 ≡ 8)
+            → judged labels l r (treeOf f) (j ▸ cond b idle (move a u))
+            ≡ (cond b (eqb (getD f 0 0) 8) (eqb (getD f 0 0) 6 && eqb a (getD f 1 0))
+            && judged labels l r (treeOf (drop 2 f)) j)
         go true (inl e) = rw (at f t 6 e .is, e)
         go true (inr e) = rw (at f t 8 e .is, e)
         go false (inl e) = rw (at f t 6 e .is, e)
         go false (inr e) = rw (at f t 8 e .is, e)
 
-    module _ (b : Bool) (g : b ≡ grants (getD f 0 0) (getD f 1 0) (jointStep (getD xs (n - 3) 0) (getD xs (n - 2) 0) (getD xs (n - 1) 0))) where
-      pub back-other : b ≡ false → false ≡ judged labels l r (treeOf f) (jointOf (take n xs))
-      back-other e = rw (held-step xs n h s, back-step (getD xs (n - 3) 0) (getD xs (n - 2) 0, getD xs (n - 1) 0) (jointOf (take (n - 3) xs)), ← g, e)
+    back-judged : judged labels l r (treeOf f) (jointOf (take n xs))
+        ≡ (grants (getD f 0 0) (getD f 1 0) (jointRead (take n xs) (n / 3 - 1))
+        && judged labels l r (treeOf (drop 2 f)) (jointOf (take (n - 3) xs)))
+    back-judged = rw (held-step xs n h s, last-granted) (back-step (getD xs (n - 3) 0) _ (jointOf (take (n - 3) xs)))
 
-      pub back-same : (v : Bool) → b ≡ true → v ≡ judged labels l r (treeOf (rest 2 f)) (jointOf (take (n - 3) xs)) → v ≡ judged labels l r (treeOf f) (jointOf (take n xs))
-      back-same v e p = rw (held-step xs n h s, back-step (getD xs (n - 3) 0) (getD xs (n - 2) 0, getD xs (n - 1) 0) (jointOf (take (n - 3) xs)), ← g, e) (rw (rest-of 2 f) at p)
+    module _ (b : Bool) (g : b ≡ grants (getD f 0 0) (getD f 1 0) (jointRead (take n xs) (n / 3 - 1))) where
+      pub back-other : b ≡ false → false ≡ judged labels l r (treeOf f) (jointOf (take n xs))
+      back-other e = rw (back-judged, ← g, e)
+
+      pub back-same : (v : Bool) → b ≡ true → v ≡ judged labels l r (treeOf (rest 2 f)) (jointOf (take (n - 3) xs))
+          → v ≡ judged labels l r (treeOf f) (jointOf (take n xs))
+      back-same v e p = rw (back-judged, ← g, e) (rw (rest-of 2 f) at p)

@@ -1,7 +1,7 @@
 -- What functions inside the crate promise each other. No public promise cites this file.
 use Prim.Native.Nat.{ℕ, zero, suc, _+_, _*_, _≤_, _<_}
 use mathlib.Core.Path.{_≡_}
-use mathlib.Core.Bool.{Bool, true, cond, _&&_}
+use mathlib.Core.Bool.{Bool, true, false, cond, _&&_}
 use mathlib.Core.List.{List, [], _∷_}
 use lib.ListN.{length, getD, drop}
 use lib.Dec.{eqb}
@@ -13,22 +13,13 @@ use Rattle.hml.specs.Labels.{count}
 use Rattle.labels.specs.Labels.{pairing}
 use Rattle.labels.specs.declared.label.Labels.{Labels}
 use Rattle.tables.specs.Tables.{tableOf}
+use Rattle.machines.specs.declared.step.JointRead.{JointRead}
+use Rattle.machines.specs.declared.step.JointRead.the-variants as read
 use Rattle.machines.proofs.Buffers.{Held}
 use Rattle.formulas.specs.Trees.{Tree, treeOf}
 use Rattle.formulas.specs.Sizes.{Sized}
-use Rattle.verdict.specs.declared.step.States.{States}
-use Rattle.verdict.specs.declared.step.Step.{Step}
-use Rattle.verdict.specs.declared.step.Step.the-variants as step
 use Rattle.verdict.specs.declared.trial.Mover.{Mover}
 use Rattle.verdict.specs.declared.trial.Mover.the-variants as mover
-
--- two states, as the program holds them
-abbrev pub statesOf : ℕ → ℕ → States
-statesOf p q = record { left = p; right = q }
-
--- a step of a joint run by its three bytes
-unfoldable pub jointStep : ℕ → ℕ → ℕ → Step
-jointStep a p q = cond (eqb a 255) step.Idle (step.Move (record { label = record { 0 = a }; to = statesOf p q }))
 
 -- the states after a move of one side
 unfoldable pub targetsOf : Mover → ℕ → ℕ → ℕ × ℕ
@@ -45,10 +36,10 @@ unfoldable pub placeOf : Mover → ℕ → ℕ
 placeOf mover.Left n = n + 1
 placeOf mover.Right n = n + 2
 
--- does a back modality fit the last step: 6 a move of its label, 8 the joint idle?
-unfoldable pub grants : ℕ → ℕ → Step → Bool
-grants o a (step.Move m) = eqb o 6 && eqb (m .label .0) a
-grants o a step.Idle = eqb o 8
+-- does a back modality fit the last step, as it was read: 8 the joint idle, 6 a move of its label?
+unfoldable pub grants : ℕ → ℕ → JointRead → Bool
+grants o a (read.Step x) = cond (eqb (x .label .0) 255) (eqb o 8) (eqb o 6 && eqb (x .label .0) a)
+grants o a read.NoSuchStep = false
 
 -- a label that a move can show
 abbrev pub Shown : ℕ → Type 0

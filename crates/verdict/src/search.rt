@@ -1,11 +1,11 @@
 // The verdict of a formula on a joint run that stands in a buffer. A look ahead writes one step behind the run, judges
 // the longer run, and puts back what stood there: after a back modality these are steps of the log. The two grids have
 // one lifetime, so that the grid of the side that moves can be chosen.
+use crate::back::back_fits;
+use crate::back::last_step;
 use crate::grid::Rows;
 use crate::grid::rows_before;
 use crate::grid::rows_from;
-use crate::step::back_fits;
-use crate::step::step_of;
 use crate::trial::Mover;
 use crate::trial::Moves;
 use crate::trial::Trial;
@@ -140,8 +140,7 @@ fn modal<'a>(
     if len < 5 {
         return false;
     }
-    let last = step_of(Label(run[len - 3]), run[len - 2], run[len - 1]);
-    if !back_fits(operator, f[1], last) {
+    if !back_fits(operator, f[1], last_step(run, len)) {
         return false;
     }
     holds(labels, left, right, sizes, run, len - 3, body)

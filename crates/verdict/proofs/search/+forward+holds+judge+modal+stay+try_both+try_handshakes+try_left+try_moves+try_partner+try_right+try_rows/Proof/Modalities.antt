@@ -39,9 +39,9 @@ pub modal-part-body-end : (t : ℕ)
     → modal-lts.Need-part-body-end (modal-claims t) (modal-at t) modal.Post
 modal-part-body-end t c = omega arith
 
-pub modal-shared-slice-read-t19 : (t : ℕ)
-    → modal-lts.Need-shared-slice-read-t19 (modal-claims t) (modal-at t) modal.Post
-modal-shared-slice-read-t19 t c =
+pub modal-shared-slice-read-t18 : (t : ℕ)
+    → modal-lts.Need-shared-slice-read-t18 (modal-claims t) (modal-at t) modal.Post
+modal-shared-slice-read-t18 t c =
     let s = c .before .before .before .before .before .before in
     let f = s .args .f .now in
     let y = s .pre .1 .1 .0 in
@@ -98,52 +98,21 @@ modal-returns-3 t c =
     let o = back-operator f (y .tree) (s .pre .1 .1 .1) (a .if1 .left) (b .if2 .left) in
     (operands.back-empty _ _ _ f _ _ (y .tree) (y .held) o (c .if3 .taken), refl)
 
-pub modal-sub-t14 : (t : ℕ)
-    → modal-lts.Need-sub-t14 (modal-claims t) (modal-at t) modal.Post
-modal-sub-t14 t c = omega (arith, c .if3 .left)
-
-pub modal-element-copy-out-t12 : (t : ℕ)
-    → modal-lts.Need-element-copy-out-t12 (modal-claims t) (modal-at t) modal.Post
-modal-element-copy-out-t12 t c =
-    let s = c .before .before .before .before .before .before in
-    let y = s .pre .1 .1 .0 in
-    omega (arith, y .held .within, y .size, c .if3 .left)
-
-pub modal-sub-step-of : (t : ℕ)
-    → modal-lts.Need-sub-step-of (modal-claims t) (modal-at t) modal.Post
-modal-sub-step-of t c = omega (arith, c .before .if3 .left)
-
-pub modal-element-copy-out-step-of : (t : ℕ)
-    → modal-lts.Need-element-copy-out-step-of (modal-claims t) (modal-at t) modal.Post
-modal-element-copy-out-step-of t c =
-    let e = c .before in
-    let s = e .before .before .before .before .before .before in
-    let y = s .pre .1 .1 .0 in
-    omega (arith, y .held .within, y .size, e .if3 .left)
-
-pub modal-sub-step-of-2 : (t : ℕ)
-    → modal-lts.Need-sub-step-of-2 (modal-claims t) (modal-at t) modal.Post
-modal-sub-step-of-2 t c = omega (arith, c .before .before .if3 .left)
-
-pub modal-element-copy-out-step-of-2 : (t : ℕ)
-    → modal-lts.Need-element-copy-out-step-of-2 (modal-claims t) (modal-at t) modal.Post
-modal-element-copy-out-step-of-2 t c =
-    let e = c .before .before in
-    let s = e .before .before .before .before .before .before in
-    let y = s .pre .1 .1 .0 in
-    omega (arith, y .held .within, y .size, e .if3 .left)
-
-pub modal-step-of-requires : (t : ℕ)
-    → modal-lts.Need-step-of-requires (modal-claims t) (modal-at t) modal.Post
-modal-step-of-requires t c κs = tt
-
 pub modal-shared-slice-read-back-fits : (t : ℕ)
     → modal-lts.Need-shared-slice-read-back-fits (modal-claims t) (modal-at t) modal.Post
 modal-shared-slice-read-back-fits t c =
-    let s = c .before .before .before .before .before .before .before .before .before .before .before in
+    let s = c .before .before .before .before .before .before .before in
     let f = s .args .f .now in
     let y = s .pre .1 .1 .0 in
     omega (arith, node-room f (y .tree))
+
+pub modal-last-step-requires : (t : ℕ)
+    → modal-lts.Need-last-step-requires (modal-claims t) (modal-at t) modal.Post
+modal-last-step-requires t c κs =
+    let e = c .before .before .before in
+    let s = e .before .before .before .before .before .before in
+    let y = s .pre .1 .1 .0 in
+    (e .if3 .left, y .held .within)
 
 pub modal-back-fits-requires : (t : ℕ)
     → modal-lts.Need-back-fits-requires (modal-claims t) (modal-at t) modal.Post
@@ -153,7 +122,7 @@ pub modal-returns-4 : (t : ℕ)
     → modal-lts.Need-returns-4 (modal-claims t) (modal-at t) modal.Post
 modal-returns-4 t c =
     let w = c .before in
-    let p = w .before .before in
+    let p = w .before in
     let e = p .before .before .before .before in
     let b = e .before in
     let a = b .before in
@@ -161,19 +130,21 @@ modal-returns-4 t c =
     let f = s .args .f .now in
     let y = s .pre .1 .1 .0 in
     let o = back-operator f (y .tree) (s .pre .1 .1 .1) (a .if1 .left) (b .if2 .left) in
-    let g = rw (p .step-of .ensures) at (w .back-fits .ensures) in
-    (operands.back-other _ _ _ f _ _ (y .tree) (y .held) o (e .if3 .left) _ g (not-true _ (c .if4 .taken)), refl)
+    let g = rw (p .last-step .ensures) at (w .back-fits .ensures) in (
+      operands.back-other _ _ _ f _ _ (y .tree) (y .held) o (e .if3 .left) _ g (not-true _ (c .if4 .taken)),
+      refl,
+    )
 
 pub modal-sub-holds : (t : ℕ)
     → modal-lts.Need-sub-holds (modal-claims t) (modal-at t) modal.Post
 modal-sub-holds t c =
-    let e = c .before .before .before .before .before .before .before .before in
+    let e = c .before .before .before .before .before .before .before in
     omega (arith, e .if3 .left)
 
 pub modal-holds-requires : (t : ℕ)
     → modal-lts.Need-holds-requires (modal-claims t) (modal-at t) modal.Post
 modal-holds-requires t c κs =
-    let e = c .before .before .before .before .before .before .before .before in
+    let e = c .before .before .before .before .before .before .before in
     let b = e .before in
     let a = b .before in
     let s = a .before .before .before .before in
@@ -189,7 +160,7 @@ pub modal-returns-5 : (t : ℕ)
 modal-returns-5 t c =
     let d = c .before .before in
     let w = d .before in
-    let p = w .before .before in
+    let p = w .before in
     let e = p .before .before .before .before in
     let b = e .before in
     let a = b .before in
@@ -197,7 +168,7 @@ modal-returns-5 t c =
     let f = s .args .f .now in
     let y = s .pre .1 .1 .0 in
     let o = back-operator f (y .tree) (s .pre .1 .1 .1) (a .if1 .left) (b .if2 .left) in
-    let g = rw (p .step-of .ensures) at (w .back-fits .ensures) in (
+    let g = rw (p .last-step .ensures) at (w .back-fits .ensures) in (
       operands.back-same _ _ _ f _ _ (y .tree) (y .held) o (e .if3 .left) _ g _ (not-false _ (d .if4 .left))
           (c .holds .ensures .0),
       c .holds .ensures .1,
