@@ -8,7 +8,7 @@ use lib.ListN.{length, take}
 use lib.Seq.{take-at}
 use lib.Dec.{ltb, leb}
 use borrow.Author.Tests.{le-ltb, ltb-false, leb-false}
-use Rattle.hml.specs.Tests.{apart}
+use Rattle.hml.proofs.Tests.{apart}
 use Rattle.hml.specs.System.{steps}
 use Rattle.labels.specs.Refusals.{thenOf, firstOf, refusedIf, inFront}
 use Rattle.labels.specs.Labels.{checkPairs}

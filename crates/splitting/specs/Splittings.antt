@@ -6,10 +6,10 @@ use mathlib.Core.Bool.{_||_}
 use mathlib.Core.List.{List, [], _∷_}
 use lib.ListN.{length, getD}
 use lib.Dec.{leb, ltb}
-use Rattle.hml.specs.Tests.{tested-ℕ}
 use Rattle.hml.specs.System.{Run, start, steps}
 use Rattle.hml.specs.Split.{splits}
 use Rattle.hml.specs.Labels.{pairs}
+use Rattle.hml.specs.Lists.{same}
 use Rattle.labels.specs.Refusals.{refusedIf, firstOf, outputOf, Answer, refusedAs, giving}
 use Rattle.labels.specs.Labels.{checkPairs}
 use Rattle.labels.specs.declared.refusal.Check.{Check}
@@ -25,7 +25,7 @@ use Rattle.splitting.specs.declared.split.Splitting.the-variants as spli
 
 -- the splittings of a joint run of two tables, in order: pairs of half runs
 unfoldable pub splittingsOf : ℕ → List ℕ → List ℕ → List ℕ → List (Run ℕ × Run ℕ)
-splittingsOf k l r s = splits (pairs k) tested-ℕ tested-ℕ (tableOf l) (tableOf r) (jointOf s)
+splittingsOf k l r s = splits (pairs k) same same (tableOf l) (tableOf r) (jointOf s)
 
 -- the parts of a log, in record order
 unfoldable pub checkLog : ℕ → List ℕ → List ℕ → List ℕ → Check
