@@ -30,6 +30,7 @@ use Rattle.joining.specs.Joinings.{checkHalves}
 use Rattle.splitting.specs.Splittings.{splittingsOf, checkLog, splittingLimit, checkCount, checkNumber, checkSplit, leftHalf, rightHalf, halfLength, halved, splitOf, leftOutput, rightOutput}
 use Rattle.splitting.specs.declared.split.Splitting.the-variants as splitting
 use Rattle.splitting.proofs.LogRuns.{sound-log, nth-length}
+use Rattle.splitting.proofs.Values.{half-most}
 use Rattle.splitting.proofs.Outcomes.{halves-answered}
 use Rattle.splitting.proofs.AllSplittings.{splitting-joins}
 use Rattle.dividing.specs.Quotients.{quotientBy, answerOf, outputAfter, checkDivision}
@@ -123,11 +124,6 @@ number-checked k l r s n e =
     let (below, _) = both-sound (refusedIf (leb (length (splittingsOf k l r s)) n) _) _ a in
     (log, ltb-false _ _ (unrefused _ _ few), leb-false _ _ (unrefused _ _ below))
 
--- a half of a sound log has at most 401 bytes
-half-fits : (k : ℕ) (l r s : List ℕ) → checkLog k l r s ≡ Sound → halfLength s ≤ 401
-unfolding halfLength
-half-fits k l r s e = omega (arith, sound-log k l r s e .run .few)
-
 -- what a split's answer says of its checks
 halved-refused : (c : Check) (m : ℕ) (x : Refusal) → halved c m ≡ splitting.Refused x → c ≡ Refused x
 halved-refused Sound m x e = absurd (apart cc)
@@ -196,7 +192,9 @@ module _ (k : ℕ) (l r s f : List ℕ) (n point : ℕ) where
     split-decides x y (i, j) = go (checkNumber k l r s n) refl ∙ sym number-decides
       where
         go : (c : Check) → checkNumber k l r s n ≡ c → thenOf c (thenOf (refusedIf (ltb x (halfLength s) || ltb y (halfLength s)) OutputTooShort) Sound) ≡ c
-        go Sound e = let h = half-fits k l r s (number-checked k l r s n e .0) in rw (le-ltb x (halfLength s) (omega (arith, h, i)), le-ltb y (halfLength s) (omega (arith, h, j)))
+        go Sound e =
+            let h = half-most k l r s (number-checked k l r s n e .0) in
+            rw (le-ltb x (halfLength s) (omega (arith, h, i)), le-ltb y (halfLength s) (omega (arith, h, j)))
         go (Refused z) e = refl
 
     pub split-refuses : (x y : ℕ) (z : Refusal) → splitOf k l r s n x y ≡ splitting.Refused z → (401 ≤ x) × (401 ≤ y) → (side : Side) (out : List ℕ)
@@ -222,7 +220,9 @@ module _ (k : ℕ) (l r s f : List ℕ) (n point : ℕ) where
 
       -- they have room in the outputs
       pub halves-room : (m ≤ x) × (m ≤ y)
-      halves-room = let h = half-fits k l r s (number-checked k l r s n number-sound .0) in omega (arith, h, half-size, room)
+      halves-room =
+          let h = half-most k l r s (number-checked k l r s n number-sound .0) in
+          omega (arith, h, half-size, room)
 
       -- the known one of them is what the division takes
       number-parts : (side : Side) → KnownParts k l r (leftHalf k l r s n) (rightHalf k l r s n) f side point

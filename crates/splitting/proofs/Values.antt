@@ -18,7 +18,7 @@ use Rattle.splitting.proofs.Outcomes.{split-checked}
 
 module _ (k : ℕ) (l r s : List ℕ) where
   -- a count that is not refused is at most the limit
-  count-most : checkCount k l r s ≡ Sound → length (splittingsOf k l r s) ≤ splittingLimit
+  pub count-most : checkCount k l r s ≡ Sound → length (splittingsOf k l r s) ≤ splittingLimit
   unfolding checkCount firstOf
   count-most e =
       let (_, a) = both-sound (checkLog k l r s) _ e in
@@ -35,17 +35,16 @@ module _ (k : ℕ) (l r s : List ℕ) where
       go Sound e = next (count-most e) none
       go (Refused x) e = none
 
-  module _ (n a b : ℕ) where
-    -- a half of a log that no check refuses has at most 200 steps
-    half-most : checkSplit k l r s n a b ≡ Sound → halfLength s ≤ 401
-    unfolding halfLength
-    half-most e = omega (arith, sound-log k l r s (split-checked k l r s n a b e .0) .run .few)
+  -- a half of a sound log has at most 200 steps
+  pub half-most : checkLog k l r s ≡ Sound → halfLength s ≤ 401
+  unfolding halfLength
+  half-most e = omega (arith, sound-log k l r s e .run .few)
 
-    -- of a split: at most 401
-    pub split-within : Within 401 (splitAnswer (splitOf k l r s n a b) .values)
-    unfolding splitOf splitAnswer
-    split-within = go (checkSplit k l r s n a b) refl
-      where
-        go : (c : Check) → checkSplit k l r s n a b ≡ c → Within 401 (splitAnswer (halved c (halfLength s)) .values)
-        go Sound e = next (half-most e) none
-        go (Refused x) e = none
+  -- of a split: at most 401
+  pub split-within : (n a b : ℕ) → Within 401 (splitAnswer (splitOf k l r s n a b) .values)
+  unfolding splitOf splitAnswer
+  split-within n a b = go (checkSplit k l r s n a b) refl
+    where
+      go : (c : Check) → checkSplit k l r s n a b ≡ c → Within 401 (splitAnswer (halved c (halfLength s)) .values)
+      go Sound e = next (half-most (split-checked k l r s n a b e .0)) none
+      go (Refused x) e = none
