@@ -8,7 +8,7 @@ use lib.ListN.{length, take, drop, replicate, length-append, length-replicate}
 use lib.Dec.{ltb}
 use lib.Seq.{take-at}
 use borrow.Author.Tests.{ltb-false}
-use Rattle.hml.specs.Tests.{apart}
+use Rattle.hml.proofs.Tests.{apart}
 use Rattle.hml.specs.Formula.{Formula}
 use Rattle.labels.specs.Refusals.{numberOf, firstOf, refusedIf, inFront, outputOf}
 use Rattle.labels.specs.declared.refusal.Refusal.{Refusal}

@@ -12,7 +12,7 @@ use lib.ListN.{length, take, drop, take-append-drop, length-take, length-drop, d
 use lib.Dec.{leb}
 use lib.Seq.{take-at, take-take, take-add, drop-drop}
 use borrow.Author.Tests.{le-ltb, leb-true, leb-false}
-use Rattle.hml.specs.Tests.{apart}
+use Rattle.hml.proofs.Tests.{apart}
 use Rattle.hml.specs.Lists.{_∈_}
 use Rattle.labels.specs.Refusals.{inFront}
 use Rattle.labels.specs.declared.refusal.Refusal.{Refusal}
