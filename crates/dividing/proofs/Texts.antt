@@ -10,10 +10,12 @@ use lib.ListN.{length, getD, take, length-append}
 use lib.Seq.{length-take-le, getD-take}
 use lib.Dec.{eqb, ltb}
 use borrow.Author.Tests.{eq-eqb, ne-eqb, lt-ltb, eqb-true, eqb-false, ltb-true, ltb-false}
-use Rattle.hml.specs.Tests.{same, apart}
+use Rattle.hml.specs.Lists.{same}
+use Rattle.hml.proofs.Tests.{apart}
 use Rattle.hml.specs.System.{Step, Run, _▸_, move, idle, last}
 use Rattle.hml.specs.Formula.{Formula, not, and, or, back, backIdle, size}
-use Rattle.hml.specs.Spell.{spell, length-spell, spell-append}
+use Rattle.hml.specs.Spell.{spell}
+use Rattle.hml.proofs.Spelling.{length-spell, spell-append}
 use Rattle.hml.specs.Quotient.{backBy, quotient}
 use Rattle.labels.specs.Labels.{pairing}
 use Rattle.labels.specs.declared.label.Labels.{Labels}

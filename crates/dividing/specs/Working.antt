@@ -7,8 +7,7 @@ use mathlib.Core.List.{List, [], _∷_, _++_}
 use mathlib.Core.Option.{Option, none, some}
 use lib.ListN.{length, getD}
 use lib.Dec.{eqb, leb}
-use Rattle.hml.specs.Tests.{same}
-use Rattle.hml.specs.Lists.{each, given}
+use Rattle.hml.specs.Lists.{same, each, given}
 use Rattle.hml.specs.System.{Run, _▸_, Pairing}
 use Rattle.hml.specs.Formula.{nesting}
 use Rattle.hml.specs.Spell.{spell}

@@ -8,7 +8,7 @@ use lib.ListN.{length, getD, drop, drop-of-length-le}
 use lib.Seq.{drop-cons}
 use lib.Dec.{eqb}
 use borrow.Author.Tests.{eq-eqb, ne-eqb, lt-ltb, le-ltb, le-leb, lt-leb}
-use Rattle.hml.specs.Tests.{same}
+use Rattle.hml.specs.Lists.{same}
 use Rattle.hml.specs.System.{System, move, idle}
 use Rattle.labels.specs.Refusals.{firstOf}
 use Rattle.tables.specs.Tables.{statesOf, tableOf, hasMove, checkTable}

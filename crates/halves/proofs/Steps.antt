@@ -7,7 +7,7 @@ use native.Mathlib.Omega.{arith}
 use lib.ListN.{length, getD}
 use lib.Dec.{eqb, ltb}
 use borrow.Author.Tests.{eq-eqb, ne-eqb, lt-ltb, le-ltb, eqb-true, ltb-true, ltb-false}
-use Rattle.hml.specs.Tests.{apart, both-true}
+use Rattle.hml.proofs.Tests.{apart, both-true}
 use Rattle.halves.specs.Runs.{stepOf}
 use Rattle.halves.specs.Steps.{stepRead, stepStruct}
 use Rattle.halves.specs.declared.step.Step.{Step}

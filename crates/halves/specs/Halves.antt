@@ -5,8 +5,7 @@ use mathlib.Core.Bool.{Bool, cond, _&&_, not}
 use mathlib.Core.List.{List, [], _∷_}
 use lib.ListN.{length, getD, drop}
 use lib.Dec.{eqb, leb, ltb}
-use Rattle.hml.specs.Tests.{same}
-use Rattle.hml.specs.Lists.{each}
+use Rattle.hml.specs.Lists.{same, each}
 use Rattle.hml.specs.System.{System, Run, start, steps, first, RunOf}
 use Rattle.labels.specs.Refusals.{refusedIf, firstOf}
 use Rattle.tables.specs.Tables.{statesOf, tableOf, hasMove, checkTable}

@@ -1,7 +1,7 @@
 -- What functions inside the crate promise each other. No public promise cites this file.
 use Prim.Native.Nat.{ℕ}
 use mathlib.Core.Bool.{Bool}
-use Rattle.hml.specs.Tests.{same}
+use Rattle.hml.specs.Lists.{same}
 use Rattle.hml.specs.System.{System}
 use Rattle.tables.specs.Tables.{hasMove}
 use Rattle.halves.specs.declared.step.Step.{Step}

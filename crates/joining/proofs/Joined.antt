@@ -10,11 +10,14 @@ use lib.ListN.{length, getD, take, drop, set, length-set}
 use lib.Seq.{take-all, drop-set-lt, length-take-le}
 use lib.Dec.{eqb}
 use borrow.Author.Tests.{eqb-true, eqb-false}
-use Rattle.hml.specs.Tests.{apart, decides, denied}
-use Rattle.hml.specs.Lists.{guard, present, each-append, length-each}
+use Rattle.hml.proofs.Tests.{apart, decides, denied}
+use Rattle.hml.specs.Lists.{guard, present}
+use Rattle.hml.proofs.Lists.{each-append, length-each}
 use Rattle.hml.specs.System.{Step, move, idle, Run, start, _▸_, last, steps, Pairing}
-use Rattle.hml.specs.Compose.{shakes, decided-shakes, paired, starts, last-join}
-use Rattle.hml.specs.Joining.{joinStep, extend, join, join-sound, join-steps}
+use Rattle.hml.specs.Compose.{shakes, paired}
+use Rattle.hml.proofs.Composition.{decided-shakes, starts, last-join}
+use Rattle.hml.specs.Joining.{joinStep, extend, join}
+use Rattle.hml.proofs.Joins.{join-sound, join-steps}
 use Rattle.hml.specs.Labels.{pairs}
 use Rattle.labels.specs.Labels.{partnerFound}
 use Rattle.labels.specs.Refusals.{inFront}

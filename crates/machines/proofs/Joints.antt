@@ -9,7 +9,8 @@ use lib.ListN.{length, getD, drop, drop-of-length-le}
 use lib.Seq.{drop-cons}
 use lib.Dec.{eqb}
 use borrow.Author.Tests.{eq-eqb, ne-eqb, lt-ltb, le-ltb, le-leb, lt-leb}
-use Rattle.hml.specs.Lists.{any, any-cong, present, guard}
+use Rattle.hml.specs.Lists.{any, present, guard}
+use Rattle.hml.proofs.Lists.{any-cong}
 use Rattle.hml.specs.System.{System, Pairing}
 use Rattle.hml.specs.Labels.{pairs}
 use Rattle.labels.specs.Refusals.{firstOf, thenOf}

@@ -7,7 +7,7 @@ use native.Mathlib.Omega.{arith}
 use lib.ListN.{length}
 use lib.Dec.{eqb, ltb}
 use borrow.Author.Tests.{eq-eqb, ne-eqb, lt-ltb, le-ltb, eqb-true, ltb-true, ltb-false}
-use Rattle.hml.specs.Tests.{apart, both-true}
+use Rattle.hml.proofs.Tests.{apart, both-true}
 use Rattle.machines.specs.Steps.{jointStepAt, jointRead}
 use Rattle.machines.specs.declared.step.JointStep.{JointStep}
 use Rattle.machines.specs.declared.step.JointRead.the-variants as read

@@ -7,8 +7,7 @@ use mathlib.Core.List.{List, [], _∷_, map}
 use mathlib.Core.Option.{Option, none, some}
 use lib.ListN.{length, getD, drop}
 use lib.Dec.{eqb, leb, ltb}
-use Rattle.hml.specs.Tests.{same}
-use Rattle.hml.specs.Lists.{any, present, each, guard}
+use Rattle.hml.specs.Lists.{same, any, present, each, guard}
 use Rattle.hml.specs.System.{System, Run, start, steps, first, RunOf, Pairing}
 use Rattle.hml.specs.Compose.{beside}
 use Rattle.hml.specs.Labels.{pairs}

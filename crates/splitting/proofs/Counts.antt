@@ -9,10 +9,12 @@ use lib.ListN.{length, getD, take}
 use lib.Seq.{take-all}
 use lib.Dec.{leb}
 use borrow.Author.Tests.{leb-true, leb-false}
-use Rattle.hml.specs.Tests.{tested-ℕ}
+use Rattle.hml.proofs.Tests.{tested-ℕ}
 use Rattle.hml.specs.System.{Run, start, _▸_, last}
 use Rattle.hml.specs.Labels.{pairs}
-use Rattle.hml.specs.Split.{splits, splits-count}
+use Rattle.hml.specs.Split.{splits}
+use Rattle.hml.proofs.Splits.{splits-count}
+use Rattle.hml.specs.Lists.{same}
 use Rattle.labels.specs.Labels.{pairing}
 use Rattle.labels.specs.declared.label.Labels.{Labels}
 use Rattle.tables.specs.Tables.{tableOf, rowsOf, rowsFrom, bytesOf, movesIn}
@@ -71,7 +73,7 @@ module _ (k : ℕ) (l r s : List ℕ) where
   upTo i = jointOf (take (3 * i + 2) s)
 
   abbrev pub splitsUpTo : ℕ → List (Run ℕ × Run ℕ)
-  splitsUpTo i = splits (pairs k) tested-ℕ tested-ℕ (tableOf l) (tableOf r) (upTo i)
+  splitsUpTo i = splits (pairs k) same same (tableOf l) (tableOf r) (upTo i)
 
   -- the splittings of step i, from the states before it
   abbrev pub optionsAt : ℕ → List Steps

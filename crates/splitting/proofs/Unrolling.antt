@@ -5,15 +5,17 @@ use mathlib.Core.List.{List, [], _∷_, _++_, append-assoc}
 use native.Mathlib.Omega.{arith}
 use native.Mathlib.Nat.{mul-zero, div-lt-iff-lt-mul}
 use lib.ListN.{length, getD, drop, set, length-set}
-use Rattle.hml.specs.Tests.{tested-ℕ}
-use Rattle.hml.specs.Lists.{each-append}
-use Rattle.hml.specs.System as theory
+use Rattle.hml.proofs.Tests.{tested-ℕ}
+use Rattle.hml.proofs.Lists.{each-append}
 use Rattle.hml.specs.System.{Run, start, _▸_, first, last, move, idle}
-use Rattle.hml.specs.Compose.{paired, last-join}
+use Rattle.hml.specs.Compose.{paired}
+use Rattle.hml.proofs.Composition.{last-join}
 use Rattle.hml.specs.Labels.{pairs}
-use Rattle.hml.specs.Split.{grown, splits, splits-sound}
-use Rattle.hml.specs.Indexed.{element}
-use Rattle.hml.specs.Numbered.{splits-at}
+use Rattle.hml.specs.Split.{grown, splits}
+use Rattle.hml.proofs.Splits.{splits-sound}
+use Rattle.hml.proofs.Indexed.{element}
+use Rattle.hml.proofs.Numbered.{splits-at}
+use Rattle.hml.specs.System as theory
 use Rattle.labels.specs.Refusals.{inFront}
 use Rattle.tables.specs.Tables.{tableOf}
 use Rattle.halves.specs.Runs.{written}

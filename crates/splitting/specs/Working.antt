@@ -2,11 +2,11 @@
 use Prim.Native.Nat.{ℕ, _+_, _*_, _%_}
 use mathlib.Core.List.{List}
 use lib.ListN.{length, set}
-use Rattle.hml.specs.Tests.{tested-ℕ}
-use Rattle.hml.specs.System as theory
 use Rattle.hml.specs.System.{move, idle}
 use Rattle.hml.specs.Split.{options}
 use Rattle.hml.specs.Labels.{pairs}
+use Rattle.hml.specs.Lists.{same}
+use Rattle.hml.specs.System as theory
 use Rattle.tables.specs.Tables.{tableOf}
 use Rattle.halves.specs.Runs.{stepOf}
 use Rattle.halves.specs.declared.step.Step.{Step}
@@ -24,7 +24,7 @@ pub record Log (k : ℕ) (l r s : List ℕ) : Type 0 where
 
 -- the splittings of a step, from the states before it
 unfoldable pub optionsOf : ℕ → List ℕ → List ℕ → JointStep → List Steps
-optionsOf k l r s = options (pairs k) tested-ℕ tested-ℕ (tableOf l) (tableOf r) (s .before .left, s .before .right)
+optionsOf k l r s = options (pairs k) same same (tableOf l) (tableOf r) (s .before .left, s .before .right)
     (stepOf (s .label .0) (s .after .left, s .after .right))
 
 -- the way of a step in splitting n of the steps up to it

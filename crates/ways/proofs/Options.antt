@@ -7,14 +7,15 @@ use mathlib.Core.List.{List, [], _∷_, _++_, map}
 use mathlib.Core.Option.{Option, none, some}
 use lib.Dec.{eqb}
 use borrow.Author.Tests.{eqb-true}
-use Rattle.hml.specs.Tests.{apart, same, denied, decided-same, decided-alike, both-true, tested-ℕ}
-use Rattle.hml.specs.Lists.{only, each, given, guard, each-append, each-cong, each-none, each-only, each-map, each-each}
+use Rattle.hml.proofs.Tests.{apart, denied, decided-same, decided-alike, both-true}
+use Rattle.hml.specs.Lists.{same, only, each, given, guard}
+use Rattle.hml.proofs.Lists.{each-append, each-cong, each-none, each-only, each-map, each-each}
 use Rattle.hml.specs.System.{System, Pairing, move, idle}
-use Rattle.hml.specs.Compose.{Way, left, right, both, joint, ways, shakes, decided-shakes}
-use Rattle.hml.specs.Compose as compose
-use Rattle.hml.specs.Real.{halves}
+use Rattle.hml.specs.Compose.{Way, left, right, both, joint, ways, shakes, halves}
+use Rattle.hml.proofs.Composition.{decided-shakes}
 use Rattle.hml.specs.Split.{options}
-use Rattle.hml.specs.Distinct.{Distinct, each-found}
+use Rattle.hml.proofs.Distinct.{Distinct, each-found}
+use Rattle.hml.specs.Compose as compose
 use Rattle.tables.specs.Tables.{among}
 use Rattle.halves.specs.Runs.{stepOf}
 use Rattle.machines.specs.Joints.{answerTo, kept}
@@ -129,7 +130,7 @@ module _ (P : Pairing) (L R : System ℕ) (p q c : ℕ) (v : States) (d : Distin
 -- all of them
 module _ (P : Pairing) (L R : System ℕ) (s : JointStep) (dl : Distinct (L (s .before .left)))
     (dr : Distinct (R (s .before .right))) where
-  move-options : options P tested-ℕ tested-ℕ L R (s .before .left, s .before .right)
+  move-options : options P same same L R (s .before .left, s .before .right)
       (move (s .label .0) (s .after .left, s .after .right))
       ≡ only (eqb (s .after .right) (s .before .right) && among (L (s .before .left)) (s .label .0) (s .after .left))
       (move (s .label .0) (s .after .left), idle) ++ rightWays P (L (s .before .left)) (R (s .before .right)) s
@@ -156,13 +157,13 @@ module _ (P : Pairing) (L R : System ℕ) (s : JointStep) (dl : Distinct (L (s .
           loud P L R (s .before .left) (s .before .right) (s .label .0) (s .after .left) (s .after .right) e
 
   -- a joint idle has one
-  pub options-listed : options P tested-ℕ tested-ℕ L R (s .before .left, s .before .right)
+  pub options-listed : options P same same L R (s .before .left, s .before .right)
       (stepOf (s .label .0) (s .after .left, s .after .right))
       ≡ waysHere P (L (s .before .left)) (R (s .before .right)) s
   unfolding stepOf waysHere
   options-listed = go (eqb (s .label .0) 255)
     where
-      go : (b : Bool) → options P tested-ℕ tested-ℕ L R (s .before .left, s .before .right)
+      go : (b : Bool) → options P same same L R (s .before .left, s .before .right)
           (cond b idle (move (s .label .0) (s .after .left, s .after .right)))
           ≡ cond b ((idle, idle) ∷ [])
           (only (eqb (s .after .right) (s .before .right) && among (L (s .before .left)) (s .label .0) (s .after .left))

@@ -9,8 +9,8 @@ use mathlib.Core.Option.{Option, none, some}
 use lib.ListN.{getD}
 use lib.Dec.{eqb}
 use Rattle.hml.specs.Lists.{only, each, given}
-use Rattle.hml.specs.System as theory
 use Rattle.hml.specs.System.{Pairing, move, idle}
+use Rattle.hml.specs.System as theory
 use Rattle.tables.specs.Tables.{among}
 use Rattle.halves.specs.Steps.{stepStruct}
 use Rattle.machines.specs.Joints.{answerTo}
