@@ -16,7 +16,8 @@ use Rattle.hml.proofs.Spelling.{length-spell}
 use Rattle.hml.specs.Quotient.{quotient}
 use Rattle.hml.specs.Labels.{pairs}
 use Rattle.labels.specs.Refusals.{thenOf, firstOf, inFront}
-use Rattle.labels.specs.Labels.{checkPairs, pairing}
+use Rattle.labels.specs.Labels.{checkPairs}
+use Rattle.labels.specs.Working.{pairing}
 use Rattle.labels.specs.declared.label.Labels.{Labels}
 use Rattle.labels.specs.declared.refusal.Refusal.{Refusal}
 use Rattle.labels.specs.declared.refusal.Refusal.the-variants.{QuotientTooLarge, OutputTooShort}
@@ -29,9 +30,7 @@ use Rattle.halves.specs.Halves.{halfOf, isHalfRun, checkHalf, checkTableAndHalf
 use Rattle.halves.proofs.HalfRuns.{accepted-half}
 use Rattle.halves.proofs.HalfBuffers.{accepted-held, held-copied}
 use Rattle.formulas.specs.Formulas.{questionLimit, quotientLimit, Legal, checkFormula}
-use Rattle.formulas.specs.Sizes.{sizesOver}
-use Rattle.formulas.specs.Forwards.{forwardsIn}
-use Rattle.formulas.specs.Trees.{Tree, treeOf}
+use Rattle.formulas.specs.Working.{sizesOver, forwardsIn, Tree, treeOf}
 use Rattle.formulas.proofs.Checking.{judged-formula, legal-tree, formula-length}
 use Rattle.formulas.proofs.Operators.{tree-some}
 use Rattle.formulas.proofs.ForwardCount.{nesting-forwards}

@@ -15,15 +15,15 @@ use Rattle.hml.specs.Formula.{Formula, or, fwd, fwdIdle}
 use Rattle.hml.specs.Spell.{spell}
 use Rattle.hml.proofs.Spelling.{spell-append}
 use Rattle.hml.specs.Quotient.{ors, ofPartner, quotient}
-use Rattle.labels.specs.Labels.{pairing}
+use Rattle.labels.specs.Working.{pairing}
 use Rattle.labels.specs.declared.label.Labels.{Labels}
 use Rattle.labels.proofs.Slices.{rest, rest-of}
 use Rattle.tables.specs.Tables.{tableOf, SoundTable}
 use Rattle.tables.proofs.SoundTables.{no-idle-label}
 use Rattle.halves.specs.Runs.{stepOf}
-use Rattle.formulas.specs.Trees.{treeOf}
+use Rattle.formulas.specs.Working.{treeOf, Part}
 use Rattle.formulas.proofs.Operators.{at}
-use Rattle.formulas.proofs.Operands.{Part, operand-is}
+use Rattle.formulas.proofs.Operands.{operand-is}
 use Rattle.dividing.specs.Working.{Behind, Forward, Listed, one, more, aloneIn, shakenBy, shakenIn, disjunctsOf, text, firstText, texts}
 use Rattle.dividing.proofs.Texts.{silent-same}
 

@@ -10,13 +10,15 @@ use lib.Dec.{eqb}
 use borrow.Author.Tests.{eq-eqb, ne-eqb}
 use Rattle.hml.specs.Lists.{same, each, given}
 use Rattle.hml.specs.System.{Pairing}
-use Rattle.labels.specs.Labels.{pairing, partnerFound}
+use Rattle.labels.specs.Labels.{partnerFound}
+use Rattle.labels.specs.Working.{pairing}
 use Rattle.labels.specs.declared.label.Label.{Label}
 use Rattle.labels.specs.declared.label.Labels.{Labels}
 use Rattle.labels.specs.declared.label.Partner.the-variants as partner
 use Rattle.labels.proofs.Labels.{found-some, found-none}
 use Rattle.labels.proofs.Slices.{rest}
-use Rattle.tables.specs.Tables.{tableOf, movesIn, SoundTable}
+use Rattle.tables.specs.Tables.{tableOf, SoundTable}
+use Rattle.tables.specs.Working.{movesIn}
 use Rattle.tables.proofs.SoundTables.{moves-few}
 use Rattle.tables.proofs.Searching.{first-move, no-move}
 use Rattle.dividing.specs.Working.{Behind, aloneIn, shakenBy, shakenIn, disjunctsOf}

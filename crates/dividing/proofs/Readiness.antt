@@ -7,8 +7,9 @@ use native.Mathlib.Omega.{arith}
 use lib.ListN.{length, getD}
 use Rattle.hml.specs.Formula.{Formula, not, fwd, back, fwdIdle, backIdle, nesting}
 use Rattle.labels.proofs.Slices.{rest}
-use Rattle.halves.proofs.HalfBuffers.{HeldHalf, putTwo, length-put-two, held-longer, half-shorter}
-use Rattle.formulas.specs.Trees.{treeOf}
+use Rattle.halves.proofs.HalfBuffers.{putTwo, length-put-two, held-longer, half-shorter}
+use Rattle.halves.specs.Working.{HeldHalf}
+use Rattle.formulas.specs.Working.{treeOf}
 use Rattle.formulas.proofs.Operators.{Unary, at}
 use Rattle.formulas.proofs.Operands.{Connective, operand-part, operand-is, first-part, second-part, operands-are, nesting-connected, connective-operator}
 use Rattle.dividing.specs.Working.{Ready, Forward}

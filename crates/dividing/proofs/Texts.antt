@@ -17,18 +17,19 @@ use Rattle.hml.specs.Formula.{Formula, not, and, or, back, backIdle, size}
 use Rattle.hml.specs.Spell.{spell}
 use Rattle.hml.proofs.Spelling.{length-spell, spell-append}
 use Rattle.hml.specs.Quotient.{backBy, quotient}
-use Rattle.labels.specs.Labels.{pairing}
+use Rattle.labels.specs.Working.{pairing}
 use Rattle.labels.specs.declared.label.Labels.{Labels}
 use Rattle.labels.proofs.Slices.{rest}
 use Rattle.tables.specs.Tables.{tableOf}
 use Rattle.halves.specs.Runs.{stepOf}
 use Rattle.halves.specs.Halves.{halfOf}
 use Rattle.halves.specs.Steps.{stepStruct, stepRead}
-use Rattle.halves.proofs.HalfBuffers.{HeldHalf, half-empty, half-step}
-use Rattle.formulas.specs.Trees.{treeOf}
+use Rattle.halves.proofs.HalfBuffers.{half-empty, half-step}
+use Rattle.halves.specs.Working.{HeldHalf}
+use Rattle.formulas.specs.Working.{treeOf, Part}
 use Rattle.formulas.proofs.Measures.{size-some}
 use Rattle.formulas.proofs.Operators.{at}
-use Rattle.formulas.proofs.Operands.{Part, Connective, operand-is, operands-are, leaf-operator}
+use Rattle.formulas.proofs.Operands.{Connective, operand-is, operands-are, leaf-operator}
 use Rattle.dividing.specs.declared.node.Node.{Node}
 use Rattle.dividing.specs.declared.node.Past.{Past}
 use Rattle.dividing.specs.declared.node.Past.the-variants as past

@@ -1,4 +1,4 @@
--- What functions inside the crate promise each other. No public promise cites this file.
+-- How the code works: what functions that serve others promise. No call's promise cites this file.
 use Prim.Native.Nat.{ℕ, _+_, _-_, _*_, _/_, _≤_}
 use mathlib.Core.Path.{_≡_}
 use mathlib.Core.Logic.{_⊎_}
@@ -12,7 +12,7 @@ use Rattle.hml.specs.System.{Run, _▸_, Pairing}
 use Rattle.hml.specs.Formula.{nesting}
 use Rattle.hml.specs.Spell.{spell}
 use Rattle.hml.specs.Quotient.{quotient}
-use Rattle.labels.specs.Labels.{pairing}
+use Rattle.labels.specs.Working.{pairing}
 use Rattle.labels.specs.declared.label.Labels.{Labels}
 use Rattle.tables.specs.Tables.{tableOf}
 use Rattle.halves.specs.Runs.{stepOf}
@@ -21,10 +21,8 @@ use Rattle.halves.specs.declared.step.Step.{Step}
 use Rattle.halves.specs.declared.step.Step.the-variants as step
 use Rattle.halves.specs.declared.step.StepRead.{StepRead}
 use Rattle.halves.specs.declared.step.StepRead.the-variants as read
-use Rattle.halves.proofs.HalfBuffers.{HeldHalf}
-use Rattle.formulas.specs.Forwards.{forwardsIn}
-use Rattle.formulas.specs.Trees.{treeOf}
-use Rattle.formulas.proofs.Operands.{Part}
+use Rattle.halves.specs.Working.{HeldHalf}
+use Rattle.formulas.specs.Working.{forwardsIn, treeOf, Part}
 use Rattle.dividing.specs.declared.node.Past.{Past}
 use Rattle.dividing.specs.declared.node.Past.the-variants as past
 

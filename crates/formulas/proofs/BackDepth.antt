@@ -9,8 +9,7 @@ use Rattle.hml.specs.Formula.{Formula}
 use Rattle.hml.specs.Working.{backs}
 use Rattle.hml.specs.Spell.{spell}
 use Rattle.formulas.specs.Formulas.{formulaOf}
-use Rattle.formulas.specs.Backs.{backsIn, backsOf}
-use Rattle.formulas.specs.Working.{measureOf}
+use Rattle.formulas.specs.Working.{backsIn, backsOf, measureOf}
 use Rattle.formulas.specs.declared.tree.Measure.{Measure}
 use Rattle.formulas.proofs.Measures.{measure-spell, depths-size}
 use Rattle.formulas.proofs.Checking.{formula-spell, formula-length}

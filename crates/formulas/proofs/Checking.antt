@@ -18,10 +18,8 @@ use Rattle.labels.specs.Refusals.{firstOf, refusedIf}
 use Rattle.labels.specs.declared.refusal.Check.the-variants.{Sound, Refused}
 use Rattle.labels.specs.declared.refusal.Refusal.the-variants.{NotATree, NestedTooDeep}
 use Rattle.labels.proofs.Refusals.{Judges, judged-iff, judged-unless, judged-then, then-sound}
-use Rattle.formulas.specs.Formulas.{endOf, treeEnd, wholeOf, formulaOf, isFormula, nestsFit, checkFormula, Legal}
-use Rattle.formulas.specs.Forwards.{forwardsIn}
-use Rattle.formulas.specs.Trees.{Tree, treeOf}
-use Rattle.formulas.specs.Working.{measureOf, labelsFit}
+use Rattle.formulas.specs.Formulas.{wholeOf, formulaOf, isFormula, nestsFit, checkFormula, Legal}
+use Rattle.formulas.specs.Working.{endOf, treeEnd, forwardsIn, Tree, treeOf, measureOf, labelsFit}
 use Rattle.formulas.specs.declared.tree.TreeEnd.the-variants as end
 use Rattle.formulas.specs.declared.tree.Measure.{Measure}
 use Rattle.formulas.proofs.FormulaLabels.{spelled-labels}

@@ -9,8 +9,7 @@ use lib.Dec.{eqb}
 use Rattle.labels.proofs.Slices.{rest, rest-of, rest-length}
 use Rattle.hml.specs.Formula.{Formula, top, bottom, not, and, or, fwd, back, fwdIdle, backIdle, nesting}
 use Rattle.hml.specs.Spell.{spell}
-use Rattle.formulas.specs.Forwards.{forwardsIn}
-use Rattle.formulas.specs.Trees.{Tree, treeOf}
+use Rattle.formulas.specs.Working.{forwardsIn, Tree, treeOf}
 use Rattle.formulas.proofs.Measures.{forward}
 use Rattle.formulas.proofs.Operators.{tree-spell}
 

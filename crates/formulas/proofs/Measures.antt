@@ -12,9 +12,7 @@ use Rattle.hml.specs.Formula.{Formula, top, bottom, not, and, or, fwd, back, fw
 use Rattle.hml.specs.Working.{backs}
 use Rattle.hml.specs.Spell.{spell}
 use Rattle.hml.proofs.Spelling.{length-spell, parse-spell}
-use Rattle.formulas.specs.Formulas.{nodeOf, operandsOf}
-use Rattle.formulas.specs.Trees.{Tree}
-use Rattle.formulas.specs.Working.{measuredAs, measureOf, operandsIn}
+use Rattle.formulas.specs.Working.{nodeOf, operandsOf, Tree, measuredAs, measureOf, operandsIn}
 use Rattle.formulas.specs.declared.tree.Measure.{Measure}
 
 -- a formula's bytes stand in front of the others

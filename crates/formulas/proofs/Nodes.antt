@@ -3,7 +3,7 @@ use Prim.Native.Nat.{ℕ, zero, suc, _≤_, _<_}
 use mathlib.Core.Path.{_≡_, refl}
 use native.Mathlib.Omega.{arith}
 use Rattle.hml.specs.Spell.{bad, shape}
-use Rattle.formulas.specs.Formulas.{operandsOf, nodeOf}
+use Rattle.formulas.specs.Working.{operandsOf, nodeOf}
 use Rattle.formulas.specs.declared.node.Node.the-variants as node
 
 pub labelled-5 : (o a : ℕ) → o ≡ 5 → node.Operands 1 ≡ nodeOf o a

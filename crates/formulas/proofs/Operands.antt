@@ -11,18 +11,12 @@ use lib.Dec.{eqb}
 use Rattle.hml.specs.Labels.{count}
 use Rattle.hml.specs.Formula.{Formula, and, or, size, nesting, labelled}
 use Rattle.labels.proofs.Slices.{rest, rest-of}
-use Rattle.formulas.specs.Trees.{Tree, treeOf}
+use Rattle.formulas.specs.Working.{Tree, treeOf, Part, treeSize, sizesOver}
 use Rattle.formulas.specs.Formulas.{Legal}
-use Rattle.formulas.specs.Sizes.{Sized, treeSize, sizesOver}
 use Rattle.formulas.proofs.Measures.{size-some}
 use Rattle.formulas.proofs.Operators.{At, Unary, Binary, at, tree-spell}
 use Rattle.formulas.proofs.TreeSizes.{size-spell, sized-room, sized-part, sized-first, sizes-over}
 use Rattle.formulas.proofs.Checking.{formula-length}
-
--- bytes that begin with a tree, and a list with the sizes of their trees
-pub record Part (sizes f : List ℕ) : Type 0 where
-  pub tree : Tree f
-  pub sized : Sized sizes f
 
 -- an operator with two operands is "and" or "or"
 abbrev pub Connective : ℕ → Type 0

@@ -7,7 +7,7 @@ use lib.ListN.{length, getD, drop}
 use Rattle.hml.specs.Formula.{Formula, top, bottom, not, and, or, fwd, back, fwdIdle, backIdle, size}
 use Rattle.hml.specs.Spell.{spell}
 use Rattle.hml.proofs.Spelling.{length-spell, parse-spell}
-use Rattle.formulas.specs.Trees.{Tree, treeIn, treeOf}
+use Rattle.formulas.specs.Working.{Tree, treeIn, treeOf}
 use Rattle.formulas.proofs.Measures.{spell-drop, size-some}
 
 -- the first tree of what spells one is that

@@ -14,9 +14,7 @@ use Rattle.hml.proofs.Tests.{apart}
 use Rattle.hml.specs.Formula.{Formula, top, bottom, not, and, or, fwd, back, fwdIdle, backIdle, size}
 use Rattle.hml.specs.Spell.{spell, Shape, leaf, unary, binary, bad, shape, next, trees, single, parse}
 use Rattle.hml.proofs.Spelling.{length-spell, parse-spell, parse-sound}
-use Rattle.formulas.specs.Formulas.{operandsOf, nodeOf}
-use Rattle.formulas.specs.Sizes.{sizeIn, treeSize, sizesOf, sizesOver, Sized}
-use Rattle.formulas.specs.Trees.{Tree}
+use Rattle.formulas.specs.Working.{operandsOf, nodeOf, sizeIn, treeSize, sizesOf, sizesOver, Sized, Tree}
 use Rattle.formulas.specs.Working.{measureOf, operandsIn, sizeBehind}
 use Rattle.formulas.specs.declared.node.Node.{Node}
 use Rattle.formulas.specs.declared.node.Node.the-variants as node

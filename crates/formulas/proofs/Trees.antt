@@ -11,7 +11,7 @@ use Rattle.hml.specs.Formula.{Formula}
 use Rattle.hml.specs.Spell.{spell, Shape, leaf, unary, binary, bad, shape, Read, build0, build1, build2, next, trees}
 use Rattle.hml.specs.Spell.{single, parse}
 use Rattle.hml.proofs.Spelling.{length-spell, parse-sound}
-use Rattle.formulas.specs.Formulas.{operandsOf, nodeOf, endOf, treeEnd}
+use Rattle.formulas.specs.Working.{operandsOf, nodeOf, endOf, treeEnd}
 use Rattle.formulas.specs.declared.node.Node.the-variants as node
 use Rattle.formulas.specs.declared.tree.TreeEnd.the-variants as end
 

@@ -9,34 +9,11 @@ use lib.ListN.{length}
 use lib.Dec.{leb}
 use Rattle.hml.specs.Lists.{present}
 use Rattle.hml.specs.Formula.{Formula, size, nesting, labelled}
-use Rattle.hml.specs.Spell.{Shape, leaf, unary, binary, bad, shape, spell, parse}
+use Rattle.hml.specs.Spell.{spell, parse}
 use Rattle.hml.specs.Labels.{count}
 use Rattle.labels.specs.Refusals.{refusedIf, firstOf}
 use Rattle.labels.specs.declared.refusal.Check.{Check}
 use Rattle.labels.specs.declared.refusal.Refusal.the-variants.{NotATree, NestedTooDeep}
-use Rattle.formulas.specs.declared.node.Node.{Node}
-use Rattle.formulas.specs.declared.node.Node.the-variants as node
-use Rattle.formulas.specs.declared.tree.TreeEnd.{TreeEnd}
-use Rattle.formulas.specs.declared.tree.TreeEnd.the-variants as end
-
--- how many operands a node has: the theory's table of operators (Spell) says so, and that a label byte is 0 where the
--- operator has no label
-unfoldable pub operandsOf : Shape → Node
-operandsOf (leaf φ) = node.Operands 0
-operandsOf (unary f) = node.Operands 1
-operandsOf (binary f) = node.Operands 2
-operandsOf bad = node.Bad
-
-unfoldable pub nodeOf : ℕ → ℕ → Node
-nodeOf o a = operandsOf (shape o a)
-
--- where the first tree of the bytes ends, if there is one: two bytes a node behind its start
-unfoldable pub endOf : Option (Formula × List ℕ) → TreeEnd
-endOf none = end.Nowhere
-endOf (some t) = end.At (2 * size (t .0))
-
-unfoldable pub treeEnd : List ℕ → TreeEnd
-treeEnd f = endOf (parse f)
 
 -- the reading: the tree that the bytes spell, if they are one whole tree
 unfoldable pub wholeOf : Option (Formula × List ℕ) → Option Formula

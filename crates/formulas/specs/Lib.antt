@@ -1,6 +1,2 @@
 pub mod Formulas
-pub mod Trees
-pub mod Backs
-pub mod Forwards
-pub mod Sizes
 pub mod Working

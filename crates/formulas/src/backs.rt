@@ -5,7 +5,7 @@ use crate::tree::tree_end;
 ghost use mathlib.Core.Path.{_≡_};
 ghost use Prim.Native.Nat.{_≤_};
 ghost use lib.ListN.{length};
-ghost use Rattle.formulas.specs.Backs.{backsOf};
+ghost use Rattle.formulas.specs.Working.{backsOf};
 
 // How deep the back modalities of a formula nest; 0 for bytes that are no formula.
 pub fn back_depth(f: &[u8]) -> usize

@@ -1,7 +1,7 @@
 // How many forward modalities a formula has: a loop over its bytes, without a look at its tree.
 use crate::node::is_forward;
 ghost use mathlib.Core.Path.{_≡_};
-ghost use Rattle.formulas.specs.Forwards.{forwardsIn};
+ghost use Rattle.formulas.specs.Working.{forwardsIn};
 
 // How many nodes of some bytes are forward modalities. A byte left over at the end is no node.
 pub fn count_forwards(f: &[u8]) -> usize

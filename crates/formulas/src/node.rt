@@ -4,7 +4,7 @@
 ghost use mathlib.Core.Path.{_≡_};
 ghost use mathlib.Core.Bool.{_||_};
 ghost use lib.Dec.{eqb};
-ghost use Rattle.formulas.specs.Formulas.{nodeOf};
+ghost use Rattle.formulas.specs.Working.{nodeOf};
 
 // A node by the number of its operands; or bytes that are none.
 pub enum Node {

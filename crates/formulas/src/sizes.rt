@@ -5,8 +5,7 @@ use labels::number::smaller;
 ghost use mathlib.Core.Path.{_≡_};
 ghost use Prim.Native.Nat.{_≤_};
 ghost use lib.ListN.{length, drop};
-ghost use Rattle.formulas.specs.Sizes.{treeSize, sizesOf, sizesOver};
-ghost use Rattle.formulas.specs.Working.{sizeBehind};
+ghost use Rattle.formulas.specs.Working.{treeSize, sizesOf, sizesOver, sizeBehind};
 
 // The sizes of all trees of a formula, from its last node on: a node's size is known from those behind it.
 pub fn tree_sizes(f: &[u8], sizes: &mut [usize])

@@ -8,9 +8,7 @@ ghost use mathlib.Core.Bool.{_||_, cond};
 ghost use Prim.Native.Nat.{_+_, _≤_, max};
 ghost use lib.ListN.{getD, length};
 ghost use lib.Dec.{eqb};
-ghost use Rattle.formulas.specs.Formulas.{nodeOf, treeEnd};
-ghost use Rattle.formulas.specs.Trees.{Tree};
-ghost use Rattle.formulas.specs.Working.{measureOf, operandsIn};
+ghost use Rattle.formulas.specs.Working.{nodeOf, treeEnd, Tree, measureOf, operandsIn};
 
 // Where the first tree of some bytes ends.
 pub enum TreeEnd {

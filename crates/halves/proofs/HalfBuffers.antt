@@ -15,12 +15,7 @@ use Rattle.halves.specs.Runs.{stepOf, lengthened}
 use Rattle.halves.specs.Halves.{halfOf, twos, isHalfRun}
 use Rattle.halves.proofs.Runs.{ends-in}
 use Rattle.halves.proofs.HalfRuns.{accepted-half, half-more, half-stopped}
-
--- the first n bytes of xs are a half run, and at each of its points it ends in the state that is written there
-pub record HeldHalf (xs : List ℕ) (n : ℕ) : Type 0 where
-  pub odd : n % 2 ≡ 1
-  pub within : n ≤ length xs
-  pub kept : (m : ℕ) → 2 * m + 1 ≤ n → last (halfOf (take (2 * m + 1) xs)) ≡ getD xs (2 * m) 0
+use Rattle.halves.specs.Working.{HeldHalf}
 
 -- an accepted half is so held in its own bytes
 pub accepted-held : (t a : List ℕ) → isHalfRun t a ≡ true → HeldHalf a (length a)

@@ -8,7 +8,8 @@ use labels::refusal::Refusal;
 use tables::check::check_table;
 use tables::leaving::has_row;
 ghost use mathlib.Core.Path.{_≡_};
-ghost use Rattle.tables.specs.Tables.{rowsOf, tableOf, Rising, Ready};
+ghost use Rattle.tables.specs.Tables.{rowsOf, tableOf, Rising};
+ghost use Rattle.tables.specs.Working.{Ready};
 ghost use Rattle.halves.specs.Halves.{isHalfRun, checkTableAndHalf};
 ghost use Rattle.halves.specs.Working.{readFits};
 

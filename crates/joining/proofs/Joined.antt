@@ -39,7 +39,8 @@ use Rattle.tables.proofs.Chunks.{chunks-length}
 use Rattle.machines.specs.Joints.{jointBytes}
 use Rattle.labels.proofs.Slices.{take-two, written-behind}
 use Rattle.machines.proofs.JointRuns.{stateBytes}
-use Rattle.machines.proofs.Buffers.{put, length-put}
+use Rattle.machines.proofs.Buffers.{length-put}
+use Rattle.machines.specs.Working.{put}
 use Rattle.labels.proofs.Labels.{found-some, found-none}
 use Rattle.joining.specs.Joinings.{joinOf, halvesMatch, runBytes, joinBytes}
 use Rattle.joining.specs.Working.{HalfBytes, shakenLabel, jointLabel, labelFound, labelRead}

@@ -1,4 +1,4 @@
--- What functions inside the crate promise each other. No public promise cites this file.
+-- How the code works: what functions that serve others promise. No call's promise cites this file.
 use Prim.Native.Nat.{ℕ}
 use mathlib.Core.List.{List, [], _∷_}
 use mathlib.Core.Option.{Option, none, some}
@@ -10,7 +10,7 @@ use Rattle.labels.specs.Refusals.{firstOf}
 use Rattle.labels.specs.declared.refusal.Check.{Check}
 use Rattle.tables.specs.Tables.{checkTable}
 use Rattle.halves.specs.Halves.{checkHalf}
-use Rattle.halves.proofs.HalfBuffers.{HeldHalf}
+use Rattle.halves.specs.Working.{HeldHalf}
 use Rattle.halves.specs.declared.step.Step.{Step}
 use Rattle.halves.specs.declared.step.Step.the-variants as step
 use Rattle.halves.specs.declared.step.StepRead.{StepRead}

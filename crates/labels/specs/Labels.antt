@@ -2,23 +2,16 @@
 use Prim.Native.Nat.{ℕ}
 use mathlib.Core.Option.{Option, none, some}
 use lib.Dec.{ltb}
-use Rattle.hml.specs.System.{Pairing}
-use Rattle.hml.specs.Labels.{partnerAmong, pairs}
+use Rattle.hml.specs.Labels.{partnerAmong}
 use Rattle.labels.specs.Refusals.{refusedIf}
 use Rattle.labels.specs.declared.refusal.Check.{Check}
 use Rattle.labels.specs.declared.refusal.Refusal.the-variants.{TooManyPairs}
-use Rattle.labels.specs.declared.label.Label.{Label}
-use Rattle.labels.specs.declared.label.Labels.{Labels}
 use Rattle.labels.specs.declared.label.Partner.{Partner}
 use Rattle.labels.specs.declared.label.Partner.the-variants as partner
 
 -- 4: k over 15
 abbrev pub checkPairs : ℕ → Check
 checkPairs k = refusedIf (ltb 15 k) TooManyPairs
-
--- who shakes hands with whom in a call
-unfoldable pub pairing : Labels → Pairing
-pairing labels = pairs (labels .pairs)
 
 -- the partner of a label as such, whatever the call: among all labels that a byte can hold, which are those of 127 pairs
 unfoldable pub anyPartner : ℕ → Option ℕ

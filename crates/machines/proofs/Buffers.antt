@@ -1,5 +1,5 @@
 -- A joint run in the first bytes of a buffer, which is lengthened by a step and shortened again.
-use Prim.Native.Nat.{ℕ, suc, _+_, _-_, _*_, _/_, _%_, _≤_, _<_}
+use Prim.Native.Nat.{ℕ, suc, _+_, _-_, _*_, _/_, _≤_, _<_}
 use mathlib.Core.Path.{_≡_, refl, _∙_, ap}
 use mathlib.Core.Bool.{Bool, true, false}
 use mathlib.Core.List.{List, [], _∷_, _++_, append-assoc}
@@ -15,12 +15,7 @@ use Rattle.halves.specs.Runs.{stepOf, lengthened}
 use Rattle.halves.proofs.Runs.{NoIdleLabel, ends-in}
 use Rattle.machines.specs.Joints.{jointOf, jointSteps, fitJoint, isJointRun}
 use Rattle.machines.proofs.JointRuns.{accepted-joint, joint-more, joint-stopped}
-
--- the first n bytes of xs are a joint run, and at each of its points it ends in the states that are written there
-pub record Held (xs : List ℕ) (n : ℕ) : Type 0 where
-  pub whole : n % 3 ≡ 2
-  pub within : n ≤ length xs
-  pub kept : (m : ℕ) → 3 * m + 2 ≤ n → last (jointOf (take (3 * m + 2) xs)) ≡ (getD xs (3 * m) 0, getD xs (3 * m + 1) 0)
+use Rattle.machines.specs.Working.{Held, put}
 
 -- an accepted joint run is so held in its own bytes
 pub accepted-held : (k : ℕ) (l r : List ℕ) → NoIdleLabel (tableOf l) → NoIdleLabel (tableOf r) → (s : List ℕ) → fitJoint s ≡ true → isJointRun k l r s ≡ true → Held s (length s)
@@ -34,10 +29,6 @@ accepted-held k l r fl fr s fit real = record { whole = accepted-joint k l r fl 
         let u : length (take (3 * m + 2) s) - 2 ≡ 3 * m = omega (arith, n) in
         let v : length (take (3 * m + 2) s) - 1 ≡ 3 * m + 1 = omega (arith, n) in
         rw (a .ends, u, v, getD-take (3 * m + 2) s (3 * m) 0 (omega arith), getD-take (3 * m + 2) s (3 * m + 1) 0 (omega arith))
-
--- three bytes in the place of those from n on
-abbrev pub put : List ℕ → ℕ → ℕ → ℕ → ℕ → List ℕ
-put xs n a p q = set (set (set xs n a) (n + 1) p) (n + 2) q
 
 pub length-put : (xs : List ℕ) (n a p q : ℕ) → length (put xs n a p q) ≡ length xs
 length-put xs n a p q = length-set (set (set xs n a) (n + 1) p) (n + 2) q ∙ length-set (set xs n a) (n + 1) p ∙ length-set xs n a

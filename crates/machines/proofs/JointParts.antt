@@ -19,7 +19,9 @@ use Rattle.tables.proofs.SoundTables.{no-idle-label, move-ranged}
 use Rattle.halves.specs.Runs.{written}
 use Rattle.halves.proofs.Runs.{NoIdleLabel, length-written, ends-written, stepBytes, last-bytes}
 use Rattle.machines.specs.Joints.{jointBytes, jointOf, JointRun, fitJoint, isJointRun, checkJoint}
-use Rattle.machines.proofs.JointRuns.{Tables, AcceptedJoint, tablesOf, stateBytes, steps-chunks, accepted-joint, joint-read, joint-decides, joint-in-range, joint-stop, joint-stopped, judged-joint}
+use Rattle.machines.proofs.JointRuns.{stateBytes, steps-chunks, accepted-joint, joint-read, joint-decides}
+use Rattle.machines.proofs.JointRuns.{joint-in-range, joint-stop, joint-stopped, judged-joint}
+use Rattle.machines.specs.Working.{Tables, AcceptedJoint, tablesOf}
 
 -- a written step more, in a run and in its newest steps
 more-behind : (n : ℕ) (j : Run (ℕ × ℕ)) (e : ℕ × (ℕ × ℕ)) → jointBytes (behind n j) ≡ drop (3 * (steps j - n)) (jointBytes j)

@@ -1,12 +1,12 @@
 -- The laws of joint runs: which steps are real, what the test accepts, the reading of their bytes, and joint runs with a step more or stopped.
-use Prim.Native.Nat.{ℕ, suc, _+_, _-_, _*_, _/_, _%_, _≤_, _<_}
+use Prim.Native.Nat.{ℕ, suc, _+_, _-_, _*_, _%_, _≤_, _<_}
 use mathlib.Core.Path.{_≡_, refl, sym, _∙_, ap}
 use mathlib.Core.Logic.{_⊎_, inl, inr}
 use mathlib.Core.Bool.{Bool, true, not, _&&_, _||_, false≢true, or-assoc}
 use mathlib.Core.List.{List, [], _∷_, _++_, Memᴰ·cast as ∈-cast}
 use mathlib.Core.Option.{some}
 use native.Mathlib.Omega.{arith}
-use lib.ListN.{length, getD, take, length-take}
+use lib.ListN.{length, take, length-take}
 use lib.Seq.{take-nil}
 use Rattle.hml.proofs.Tests.{Decides, decides, decided-by, decided-le, decided-lt, decided-true, both-true, decided-iff}
 use Rattle.hml.proofs.Tests.{decided-and, decided-or, decided-same, tested-ℕ, tested-pair}
@@ -26,6 +26,7 @@ use Rattle.labels.proofs.Refusals.{Judges, judged-iff, judged-unless, judged-ne
 use Rattle.tables.proofs.SoundTables.{judged-table, no-idle-label}
 use Rattle.tables.proofs.Chunks.{Chunks, chunks-map, threes-chunks, chunks-take, chunks-read, chunks-append}
 use Rattle.tables.proofs.Rows.{hasMove-decides}
+use Rattle.machines.specs.Working.{tablesOf, AcceptedJoint}
 
 module _ (P : Pairing) (L R : System ℕ) where
   -- two systems without the label 255 have none beside each other
@@ -89,28 +90,8 @@ pub steps-chunks : Chunks 3 (stepBytes stateBytes) jointSteps
 unfolding jointSteps
 steps-chunks = chunks-map (λ b. (b .0, (b .1, b .2))) (λ e. (e .0, e .1 .0, e .1 .1)) (λ b. refl) (λ e. refl) threes-chunks
 
--- the two tables beside each other
-abbrev pub tablesOf : ℕ → List ℕ → List ℕ → System (ℕ × ℕ)
-tablesOf k l r = beside (pairs k) (tableOf l) (tableOf r)
-
 abbrev realFits : ℕ → List ℕ → List ℕ → ℕ × ℕ → ℕ → ℕ × ℕ → Bool
 realFits k l r = isRealStep (pairs k) (tableOf l) (tableOf r)
-
--- two tables that no check refuses
-pub record Tables (k : ℕ) (l r : List ℕ) : Type 0 where
-  pub left : SoundTable k l
-  pub right : SoundTable k r
-
--- what an accepted joint run is
-pub record AcceptedJoint (k : ℕ) (l r s : List ℕ) : Type 0 where
-  pub run : RunOf (tablesOf k l r) (jointOf s)
-  pub spelled : jointBytes (jointOf s) ≡ s
-  pub beginsLeft : first (jointOf s) .0 < statesOf l
-  pub beginsRight : first (jointOf s) .1 < statesOf r
-  pub counted : steps (jointOf s) ≡ length s / 3
-  pub few : steps (jointOf s) ≤ 200
-  pub whole : length s % 3 ≡ 2
-  pub ends : last (jointOf s) ≡ (getD s (length s - 2) 0, getD s (length s - 1) 0)
 
 -- the parts of the test: whole steps, at most 200 of them, a start state of each table, and steps that go on from them
 joint-tested : (k : ℕ) (l r : List ℕ) (p q : ℕ) (bs : List ℕ)

@@ -15,24 +15,12 @@ use Rattle.hml.specs.System.{System, Pairing}
 use Rattle.hml.specs.Labels.{pairs}
 use Rattle.labels.specs.Refusals.{firstOf, thenOf}
 use Rattle.labels.specs.Labels.{partnerFound}
-use Rattle.tables.specs.Tables.{statesOf, tableOf, threes, among, hasMove, checkTable, Ready}
+use Rattle.tables.specs.Tables.{statesOf, tableOf, threes, among, hasMove, checkTable}
+use Rattle.tables.specs.Working.{Ready}
 use Rattle.halves.specs.Runs.{goOn}
-use Rattle.machines.specs.Joints.{
-  jointSteps,
-  kept,
-  shakesTo,
-  answerTo,
-  isLeftAlone,
-  isRightAlone,
-  isHandshake,
-  isJointIdle,
-  isReal,
-  isRealStep,
-  fitJoint,
-  isJointRun,
-  checkJoint,
-  checkTablesAndJoint,
-}
+use Rattle.machines.specs.Joints.{jointSteps, shakesTo, isLeftAlone, isRightAlone, isHandshake, isJointIdle}
+use Rattle.machines.specs.Joints.{isReal, isRealStep, fitJoint, isJointRun, checkJoint, checkTablesAndJoint}
+use Rattle.machines.specs.Working.{kept, answerTo}
 use Rattle.machines.specs.Steps.{jointStepAt, jointRead}
 use Rattle.machines.specs.declared.step.JointStep.{JointStep}
 use Rattle.machines.specs.declared.step.JointRead.the-variants as read

@@ -2,17 +2,16 @@
 -- A joint run as bytes is two start states, then three bytes a step: label, left target, right target.
 use Prim.Native.Nat.{ℕ, _%_, _≤_, _<_}
 use mathlib.Core.Path.{_≡_}
-use mathlib.Core.Bool.{Bool, cond, _&&_, _||_, not}
+use mathlib.Core.Bool.{Bool, _&&_, _||_, not}
 use mathlib.Core.List.{List, [], _∷_, map}
-use mathlib.Core.Option.{Option, none, some}
 use lib.ListN.{length, getD, drop}
 use lib.Dec.{eqb, leb, ltb}
-use Rattle.hml.specs.Lists.{same, any, present, each, guard}
+use Rattle.hml.specs.Lists.{same, any, present, each}
 use Rattle.hml.specs.System.{System, Run, start, steps, first, RunOf, Pairing}
 use Rattle.hml.specs.Compose.{beside}
 use Rattle.hml.specs.Labels.{pairs}
 use Rattle.labels.specs.Refusals.{refusedIf, firstOf}
-use Rattle.tables.specs.Tables.{statesOf, threes, tableOf, among, hasMove, checkTable}
+use Rattle.tables.specs.Tables.{statesOf, threes, tableOf, hasMove, checkTable}
 use Rattle.halves.specs.Runs.{written, lengthened, goOn}
 use Rattle.labels.specs.declared.refusal.Check.{Check}
 use Rattle.labels.specs.declared.refusal.Refusal.the-variants.{WrongLength, NotReal}
@@ -46,18 +45,9 @@ module _ (P : Pairing) (L R : System ℕ) (p q c p′ q′ : ℕ) where
   unfoldable pub isRightAlone : Bool
   isRightAlone = same p′ p && hasMove R q c q′
 
--- what is there, if it passes the test
-abbrev pub kept : (ℕ → Bool) → Option ℕ → Option ℕ
-kept f none = none
-kept f (some b) = guard (f b) b
-
 -- does the left's move m lead to p′, and the right's, by the partner of m's label, from q to q′?
 unfoldable pub shakesTo : Pairing → System ℕ → ℕ → ℕ → ℕ → ℕ × ℕ → Bool
 shakesTo P R q p′ q′ m = same (m .1) p′ && present (λ b. hasMove R q b q′) (P .partner (m .0))
-
--- the label by which one of the right's moves answers the left's move m in a handshake to (p′, q′), if one does
-unfoldable pub answerTo : Pairing → List (ℕ × ℕ) → ℕ → ℕ → ℕ × ℕ → Option ℕ
-answerTo P answers p′ q′ m = cond (same (m .1) p′) (kept (λ b. among answers b q′) (P .partner (m .0))) none
 
 -- "joint idle: label 255, both states kept, both halves idle"
 unfoldable pub isJointIdle : ℕ → ℕ → ℕ → ℕ → ℕ → Bool

@@ -1,2 +1,3 @@
 pub mod Joints
 pub mod Steps
+pub mod Working

@@ -4,9 +4,10 @@ use labels::label::Labels;
 use labels::label::Partner;
 use tables::leaving::leads_to;
 ghost use mathlib.Core.Path.{_≡_};
-ghost use Rattle.labels.specs.Labels.{pairing, partnerFound};
-ghost use Rattle.tables.specs.Tables.{movesIn};
-ghost use Rattle.machines.specs.Joints.{answerTo};
+ghost use Rattle.labels.specs.Labels.{partnerFound};
+ghost use Rattle.labels.specs.Working.{pairing};
+ghost use Rattle.tables.specs.Working.{movesIn};
+ghost use Rattle.machines.specs.Working.{answerTo};
 
 // The label by which one of these rows of the right, with its target, answers a move of the left in a handshake that
 // ends in these states of the left and the right; nobody answers a move that leads elsewhere.

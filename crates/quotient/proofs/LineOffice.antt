@@ -43,7 +43,8 @@ use Rattle.quotient.specs.declared.line.LineOffice.the-variants as line
 use Rattle.quotient.proofs.QuotientCalls.{by-half-checked}
 use Rattle.quotient.proofs.Quotients.{verdict-kept}
 use Rattle.quotient.proofs.GivenVerdicts.{joint-holds, half-holds}
-use Rattle.quotient.proofs.DemandThree.{Decomposed, demand-three}
+use Rattle.quotient.proofs.DemandThree.{demand-three}
+use Rattle.quotient.specs.Demand.{Decomposed}
 
 -- an answer and the checks behind it
 written-refused : (c : Check) (m : ℕ) (x : Refusal) → written c m ≡ answer.Refused x → c ≡ Refused x

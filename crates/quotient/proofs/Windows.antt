@@ -26,7 +26,8 @@ use Rattle.halves.specs.declared.side.Side.{Side}
 use Rattle.halves.specs.declared.side.Known.{Known}
 use Rattle.halves.specs.declared.side.Known.the-variants as known
 use Rattle.machines.specs.Joints.{jointOf}
-use Rattle.machines.proofs.JointRuns.{Tables, tablesOf, joint-stop}
+use Rattle.machines.proofs.JointRuns.{joint-stop}
+use Rattle.machines.specs.Working.{Tables, tablesOf}
 use Rattle.machines.proofs.JointParts.{joint-until, joint-from, joint-later}
 use Rattle.formulas.specs.Formulas.{formulaOf}
 use Rattle.splitting.specs.Splittings.{splittingsOf, checkLog, leftHalf, rightHalf}
@@ -34,7 +35,7 @@ use Rattle.splitting.proofs.LogRuns.{sound-ready, left-read, right-read, sound-
 use Rattle.splitting.proofs.AllSplittings.{count-some}
 use Rattle.dividing.specs.Quotients.{treeBy, quotientBy}
 use Rattle.quotient.specs.Calls.{treeByHalf, treeByNumber}
-use Rattle.quotient.specs.Windows.{windowOf, restOf}
+use Rattle.quotient.specs.Working.{windowOf, restOf}
 use Rattle.quotient.proofs.SplitRuns.{LogParts, log-parts}
 
 -- what a window of b steps gives, at a point of a log

@@ -1,3 +1,3 @@
 pub mod Calls
-pub mod Windows
 pub mod Working
+pub mod Demand

@@ -1,8 +1,8 @@
--- What functions inside the crate promise each other. No public promise cites this file.
-use Prim.Native.Nat.{ℕ, _/_}
+-- How the code works: what functions that serve others promise. No call's promise cites this file.
+use Prim.Native.Nat.{ℕ, _/_, _+_, _-_, _*_}
 use mathlib.Core.Bool.{true, false}
 use mathlib.Core.List.{List, [], _∷_}
-use lib.ListN.{length}
+use lib.ListN.{length, take, drop}
 use lib.Dec.{ltb}
 use Rattle.labels.specs.Refusals.{thenOf, refusedIf, firstOf}
 use Rattle.labels.specs.declared.refusal.Check.{Check}
@@ -16,6 +16,14 @@ use Rattle.verdict.specs.declared.answer.Verdict.the-variants as verdict
 use Rattle.splitting.specs.Splittings.{checkLog}
 use Rattle.quotient.specs.declared.line.LineOffice.{LineOffice}
 use Rattle.quotient.specs.declared.line.LineOffice.the-variants as line
+
+-- the window of a point: the last b steps before it, or all where they are fewer, as a log of their own
+unfoldable pub windowOf : List ℕ → ℕ → ℕ → List ℕ
+windowOf s p b = take (3 * (p - (p - b)) + 2) (drop (3 * (p - b)) s)
+
+-- what follows a point, as a log of its own
+unfoldable pub restOf : List ℕ → ℕ → List ℕ
+restOf s p = drop (3 * p) s
 
 -- what is asked, of two halves: the question, then the point on the known half alone
 unfoldable pub checkAsked : ℕ → List ℕ → List ℕ → List ℕ → Side → ℕ → Check

@@ -23,7 +23,8 @@ use Rattle.halves.specs.Halves.{halfBytes}
 use Rattle.halves.proofs.Runs.{stepBytes}
 use Rattle.halves.proofs.HalfRuns.{stateBytes}
 use Rattle.machines.specs.Joints.{jointOf}
-use Rattle.machines.proofs.JointRuns.{Tables, tablesOf, joint-stop}
+use Rattle.machines.proofs.JointRuns.{joint-stop}
+use Rattle.machines.specs.Working.{Tables, tablesOf}
 use Rattle.machines.proofs.JointParts.{joint-until, joint-from, joint-later}
 use Rattle.splitting.specs.Splittings.{splittingsOf, checkLog, rightHalf}
 use Rattle.splitting.proofs.LogRuns.{sound-ready, sound-log, nth, nth-joins}

@@ -13,11 +13,11 @@ use Rattle.labels.specs.Refusals.{firstOf}
 use Rattle.labels.specs.declared.refusal.Check.the-variants.{Sound}
 use Rattle.labels.proofs.Slices.{rest, rest-of}
 use Rattle.machines.specs.Joints.{jointOf}
-use Rattle.formulas.specs.Backs.{backsOf}
+use Rattle.formulas.specs.Working.{backsOf}
 use Rattle.verdict.specs.Verdicts.{jointVerdict}
 use Rattle.splitting.specs.Splittings.{splittingsOf, splittingLimit, checkLog, checkCount, countOf}
 use Rattle.splitting.proofs.LogRuns.{sound-log}
-use Rattle.quotient.specs.Windows.{windowOf, restOf}
+use Rattle.quotient.specs.Working.{windowOf, restOf}
 use Rattle.quotient.proofs.Windows.{Windowed, windowed}
 use Rattle.sheet_lines.specs.Sheets.{letterOf, lineOf, listed}
 use Rattle.sheet_lines.specs.Working.{Asked, countedAs, afterOf, lineIn, lineBy}

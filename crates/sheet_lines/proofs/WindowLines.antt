@@ -17,7 +17,7 @@ use Rattle.labels.specs.declared.refusal.Check.the-variants.{Sound}
 use Rattle.halves.specs.declared.side.Side.the-variants as side
 use Rattle.machines.specs.Joints.{jointOf}
 use Rattle.formulas.specs.Formulas.{formulaOf, quotientLimit}
-use Rattle.formulas.specs.Backs.{backsIn, backsOf}
+use Rattle.formulas.specs.Working.{backsIn, backsOf}
 use Rattle.formulas.proofs.Checking.{formula-spell}
 use Rattle.verdict.specs.Verdicts.{jointVerdict, halfVerdict}
 use Rattle.splitting.specs.Splittings.{splittingsOf, splittingLimit, leftHalf, rightHalf}
@@ -25,10 +25,11 @@ use Rattle.splitting.proofs.LogRuns.{sound-log}
 use Rattle.dividing.specs.Quotients.{textOf, answerOf}
 use Rattle.dividing.proofs.Answers.{text-length}
 use Rattle.quotient.specs.Calls.{treeByNumber, byNumber, byNumberOutput}
-use Rattle.quotient.specs.Windows.{windowOf, restOf}
+use Rattle.quotient.specs.Working.{windowOf, restOf}
 use Rattle.quotient.proofs.SplitRuns.{log-parts, by-number-sound}
 use Rattle.quotient.proofs.Windows.{Windowed, windowed}
-use Rattle.quotient.proofs.DemandThree.{Decomposed, demand-three}
+use Rattle.quotient.proofs.DemandThree.{demand-three}
+use Rattle.quotient.specs.Demand.{Decomposed}
 use Rattle.sheet_lines.specs.Sheets.{textRoom, headOf, endingOf, quotientAt, textAt, letterOf, lineOf}
 use Rattle.sheet_lines.specs.Working.{Asked, endingIn, lineIn}
 

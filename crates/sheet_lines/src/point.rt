@@ -14,7 +14,7 @@ ghost use lib.ListN.{length, take, drop};
 ghost use Rattle.hml.specs.System.{steps};
 ghost use Rattle.machines.specs.Joints.{jointOf};
 ghost use Rattle.splitting.specs.Splittings.{splittingsOf, splittingLimit, countOf};
-ghost use Rattle.formulas.specs.Backs.{backsOf};
+ghost use Rattle.formulas.specs.Working.{backsOf};
 ghost use Rattle.sheet_lines.specs.Sheets.{letterOf, lineOf, listed, fitting};
 ghost use Rattle.sheet_lines.specs.Working.{Asked, Full, countedAs, afterOf, Forgotten, Scratch, endingIn};
 ghost use Rattle.sheet_lines.specs.Working.{lineBy, EndingsKnown, Shared, fromsAfter, endsAfter};

@@ -15,17 +15,18 @@ use Rattle.hml.specs.Labels.{pairs}
 use Rattle.hml.specs.Split.{splits}
 use Rattle.hml.proofs.Splits.{splits-count}
 use Rattle.hml.specs.Lists.{same}
-use Rattle.labels.specs.Labels.{pairing}
+use Rattle.labels.specs.Working.{pairing}
 use Rattle.labels.specs.declared.label.Labels.{Labels}
-use Rattle.tables.specs.Tables.{tableOf, rowsOf, rowsFrom, bytesOf, movesIn}
+use Rattle.tables.specs.Tables.{tableOf, rowsOf, rowsFrom, bytesOf}
+use Rattle.tables.specs.Working.{movesIn}
 use Rattle.tables.proofs.SoundTables.{moves-distinct, moves-few}
 use Rattle.tables.proofs.Searching.{leaving-moves}
 use Rattle.halves.specs.Runs.{stepOf}
 use Rattle.machines.specs.Joints.{jointOf}
-use Rattle.machines.proofs.JointRuns.{Tables}
-use Rattle.machines.proofs.Buffers.{Held, held-empty, held-step}
+use Rattle.machines.specs.Working.{Tables, Held}
+use Rattle.machines.proofs.Buffers.{held-empty, held-step}
 use Rattle.splitting.specs.Splittings.{splittingsOf}
-use Rattle.ways.specs.StepWays.{Steps, waysHere}
+use Rattle.ways.specs.Working.{Steps, waysHere}
 use Rattle.splitting.specs.Working.{Log, optionsOf}
 use Rattle.machines.specs.Steps.{jointStepAt, jointRead}
 use Rattle.machines.specs.declared.step.JointStep.{JointStep}

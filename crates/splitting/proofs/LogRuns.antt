@@ -28,9 +28,10 @@ use Rattle.halves.specs.Halves.{halfBytes, halfOf, HalfRun, isHalfRun, checkHal
 use Rattle.halves.proofs.Runs.{length-written, stepBytes}
 use Rattle.halves.proofs.HalfRuns.{AcceptedHalf, accepted-half, half-read, judged-half, stateBytes, twos-chunks}
 use Rattle.machines.specs.Joints.{jointBytes, jointOf, JointRun, fitJoint, isJointRun, checkJoint}
-use Rattle.machines.proofs.JointRuns.{AcceptedJoint, accepted-joint, joint-read, judged-joint, tablesOf}
+use Rattle.machines.proofs.JointRuns.{accepted-joint, joint-read, judged-joint}
+use Rattle.machines.specs.Working.{AcceptedJoint, tablesOf, Held}
 use Rattle.splitting.specs.Splittings.{splittingsOf, checkLog, leftHalf, rightHalf, halfLength}
-use Rattle.machines.proofs.Buffers.{Held, accepted-held}
+use Rattle.machines.proofs.Buffers.{accepted-held}
 use Rattle.splitting.specs.Working.{Log}
 use Rattle.joining.specs.Joinings.{joinOf, halvesMatch, joinBytes, checkHalves}
 

@@ -30,7 +30,7 @@ use Rattle.machines.specs.declared.step.JointStep.{JointStep}
 use Rattle.machines.specs.declared.step.JointRead.the-variants as read
 use Rattle.machines.proofs.Steps.{Found, step-found, none-found}
 use Rattle.ways.specs.declared.step.Way.{Way}
-use Rattle.ways.specs.StepWays.{Steps, wayStruct, chosen}
+use Rattle.ways.specs.Working.{Steps, wayStruct, chosen}
 use Rattle.splitting.specs.Working.{Log, optionsOf, wayOf, stepMeant, labelByte, targetByte, putStep}
 use Rattle.splitting.proofs.Counts.{
   upTo,

@@ -1,4 +1,4 @@
--- What functions inside the crate promise each other. No public promise cites this file.
+-- How the code works: what functions that serve others promise. No call's promise cites this file.
 use Prim.Native.Nat.{ℕ, _+_, _*_, _%_}
 use mathlib.Core.List.{List}
 use lib.ListN.{length, set}
@@ -11,9 +11,8 @@ use Rattle.tables.specs.Tables.{tableOf}
 use Rattle.halves.specs.Runs.{stepOf}
 use Rattle.halves.specs.declared.step.Step.{Step}
 use Rattle.halves.specs.declared.step.Step.the-variants as step
-use Rattle.machines.proofs.JointRuns.{Tables, AcceptedJoint}
-use Rattle.machines.proofs.Buffers.{Held}
-use Rattle.ways.specs.StepWays.{Steps, chosen}
+use Rattle.machines.specs.Working.{Tables, AcceptedJoint, Held}
+use Rattle.ways.specs.Working.{Steps, chosen}
 use Rattle.machines.specs.declared.step.JointStep.{JointStep}
 
 -- two tables and a joint run of them that no check refuses

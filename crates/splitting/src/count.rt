@@ -12,7 +12,7 @@ use ways::count::count_ways;
 ghost use mathlib.Core.Path.{_≡_};
 ghost use Prim.Native.Nat.{_≤_, min};
 ghost use lib.ListN.{length};
-ghost use Rattle.machines.proofs.JointRuns.{Tables};
+ghost use Rattle.machines.specs.Working.{Tables};
 ghost use Rattle.splitting.specs.Splittings.{splittingsOf, checkLog, countOf};
 ghost use Rattle.splitting.specs.Working.{Log, optionsOf};
 

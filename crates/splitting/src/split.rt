@@ -16,7 +16,7 @@ ghost use mathlib.Core.Path.{_≡_};
 ghost use Prim.Native.Nat.{_+_, _*_, _/_, _≤_, _<_};
 ghost use lib.ListN.{length};
 ghost use Rattle.labels.specs.Refusals.{inFront};
-ghost use Rattle.machines.proofs.JointRuns.{Tables};
+ghost use Rattle.machines.specs.Working.{Tables};
 ghost use Rattle.splitting.specs.Splittings.{
   splittingsOf,
   leftHalf,

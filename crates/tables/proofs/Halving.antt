@@ -4,8 +4,8 @@ use mathlib.Core.Path.{_≡_}
 use mathlib.Core.List.{List}
 use native.Mathlib.Omega.{arith}
 use lib.ListN.{length, getD}
-use Rattle.tables.specs.Tables.{rowsOf, rowOf, Rising}
-use Rattle.tables.specs.Working.{below}
+use Rattle.tables.specs.Tables.{rowsOf, Rising}
+use Rattle.tables.specs.Working.{rowOf, below}
 use Rattle.tables.proofs.Rows.{froms-rise, below-point, from-seen}
 
 -- in rows that rise, those before `low` leave a state below p, and those from `high` on do not

@@ -14,10 +14,10 @@ use Rattle.hml.specs.Machine.{Row}
 use Rattle.hml.specs.Labels.{count, positive}
 use Rattle.labels.specs.Refusals.{firstOf, thenOf, refusedIf}
 use Rattle.tables.specs.Tables.{inRange, rowBelow, aboveLast, leaving, checkRow, checkRows, checkTable, fitTable}
-use Rattle.tables.specs.Tables.{fitStates, statesOf, rowsOf, rowOf, rowRead, rowStruct}
+use Rattle.tables.specs.Tables.{fitStates, statesOf, rowsOf, rowRead, rowStruct}
+use Rattle.tables.specs.Working.{rowOf, tripleOf, upTo, judgedBy, judged, Counted}
 use Rattle.labels.proofs.Refusals.{then-sound}
 use Rattle.tables.proofs.Rows.{below-from, rows-at}
-use Rattle.tables.specs.Working.{tripleOf, upTo, judgedBy, judged, Counted}
 use Rattle.labels.specs.declared.refusal.Check.{Check}
 use Rattle.labels.specs.declared.refusal.Check.the-variants as check
 use Rattle.labels.specs.declared.refusal.Refusal.{Refusal}

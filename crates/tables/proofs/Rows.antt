@@ -14,9 +14,9 @@ use Rattle.hml.specs.Lists.{same, _∈_, only, each}
 use Rattle.hml.proofs.Lists.{decided-any}
 use Rattle.hml.specs.System.{System}
 use Rattle.hml.specs.Machine.{Row, machine}
-use Rattle.tables.specs.Tables.{threes, rowsOf, rowOf, among, hasMove, rowsFrom, bytesOf, rowBelow, leaving}
-use Rattle.tables.specs.Tables.{Rising, none, one, more}
-use Rattle.tables.specs.Working.{below}
+use Rattle.tables.specs.Tables.{threes, rowsOf, among, hasMove, rowsFrom, bytesOf, rowBelow, leaving, Rising}
+use Rattle.tables.specs.Tables.{none, one, more}
+use Rattle.tables.specs.Working.{rowOf, below}
 use Rattle.tables.proofs.Chunks.{rowBytes, threes-chunks, chunks-length, chunks-whole, chunks-take, chunks-drop}
 
 -- how a state f stands to p: the tests f < p, f < p + 1 and f ≡ p have one of three outcomes

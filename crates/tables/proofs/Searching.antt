@@ -9,7 +9,8 @@ use Rattle.hml.specs.Lists.{any}
 use Rattle.hml.proofs.Lists.{any-map}
 use Rattle.hml.specs.Machine.{Row}
 use Rattle.labels.proofs.Slices.{rest, rest-of}
-use Rattle.tables.specs.Tables.{threes, rowsOf, rowsFrom, bytesOf, tableOf, movesIn, among, hasMove}
+use Rattle.tables.specs.Tables.{threes, rowsOf, rowsFrom, bytesOf, tableOf, among, hasMove}
+use Rattle.tables.specs.Working.{movesIn}
 use Rattle.tables.proofs.Chunks.{threes-chunks, chunks-read}
 use Rattle.tables.proofs.Rows.{moves-from}
 

@@ -24,7 +24,7 @@ use Rattle.labels.specs.declared.refusal.Refusal.the-variants.{WrongLength, Out
 use Rattle.labels.specs.declared.refusal.Check.the-variants.{Sound}
 use Rattle.tables.specs.Tables.{statesOf, rowsOf, tableOf, fitTable, fitStates, inRange, rowBelow, aboveLast}
 use Rattle.tables.specs.Tables.{leaving, checkRow, checkRows, checkTable, Rising, none, one, more, SoundTable}
-use Rattle.tables.specs.Tables.{Ready}
+use Rattle.tables.specs.Working.{Ready}
 
 -- a row in range
 abbrev pub Ranged : ℕ → ℕ → Row → Type 0

@@ -14,20 +14,8 @@ use Rattle.hml.proofs.Tests.{decides}
 use Rattle.hml.proofs.Lists.{∈-each, ∈-only}
 use Rattle.hml.proofs.Indexed.{element, number-of}
 use Rattle.hml.specs.Machine.{Row, machine}
-use Rattle.tables.specs.Tables.{
-  rowsOf,
-  rowOf,
-  bytesOf,
-  rowsFrom,
-  leaving,
-  movesIn,
-  among,
-  hasMove,
-  tableOf,
-  Rising,
-  Together,
-}
-use Rattle.tables.specs.Working.{below, Leave}
+use Rattle.tables.specs.Tables.{rowsOf, bytesOf, rowsFrom, leaving, among, hasMove, tableOf, Rising, Together}
+use Rattle.tables.specs.Working.{rowOf, movesIn, below, Leave}
 use Rattle.tables.proofs.Chunks.{rowBytes, threes-chunks, chunks-read}
 use Rattle.tables.proofs.Rows.{
   placed,

@@ -1,9 +1,9 @@
 -- Tables: document 01, "Machines and labels", and the numbers 3, 5, 6 and 7 of "Who can cause a refusal".
 -- A table as bytes is n, then its rows, three bytes each: from, label, to.
-use Prim.Native.Nat.{ℕ, _+_, _*_, _%_, _≤_, _<_}
+use Prim.Native.Nat.{ℕ, _+_, _%_, _≤_, _<_}
 use mathlib.Core.Path.{_≡_}
 use mathlib.Core.Bool.{Bool, true, cond, _&&_, _||_, not}
-use mathlib.Core.List.{List, [], _∷_, map}
+use mathlib.Core.List.{List, [], _∷_}
 use lib.ListN.{length, getD, take, drop}
 use lib.Dec.{eqb, leb, ltb}
 use Rattle.hml.specs.Lists.{same, _∈_, any, each, only}
@@ -42,10 +42,6 @@ rowsOf (n ∷ bytes) = threes bytes
 unfoldable pub tableOf : List ℕ → System ℕ
 tableOf t = machine (rowsOf t)
 
--- the moves of rows that stand one after the other: label and target of each
-unfoldable pub movesIn : List ℕ → List (ℕ × ℕ)
-movesIn bytes = map (λ r. (r .1, r .2)) (threes bytes)
-
 -- is there a move with this label and target among these?
 unfoldable pub among : List (ℕ × ℕ) → ℕ → ℕ → Bool
 among moves a q = any (λ m. same (m .0) a && same (m .1) q) moves
@@ -53,10 +49,6 @@ among moves a q = any (λ m. same (m .0) a && same (m .1) q) moves
 -- has the system a move from p with this label and target?
 unfoldable pub hasMove : System ℕ → ℕ → ℕ → ℕ → Bool
 hasMove M p a q = among (M p) a q
-
--- row i of a table's bytes
-abbrev pub rowOf : List ℕ → ℕ → Row
-rowOf t i = (getD t (3 * i + 1) 0, getD t (3 * i + 1 + 1) 0, getD t (3 * i + 1 + 2) 0)
 
 -- a row by its number, from 0
 abbrev pub rowStruct : Row → declared-row.Row
@@ -143,8 +135,3 @@ pub record SoundTable (k : ℕ) (t : List ℕ) : Type 0 where
   pub ranged : (r : Row) → r ∈ rowsOf t → (r .0 < statesOf t) × (r .1 ≤ count k) × (r .2 < statesOf t)
   pub rising : Rising (rowsOf t)
   pub eight : (p : ℕ) → leaving p (rowsOf t) ≤ 8
-
--- a table that no check refuses, as far as functions that search it need it
-pub record Ready (t : List ℕ) : Type 0 where
-  pub some : 1 ≤ length t
-  pub rising : Rising (rowsOf t)

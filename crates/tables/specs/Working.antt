@@ -1,17 +1,30 @@
--- What functions inside the crate promise each other. No public promise cites this file.
-use Prim.Native.Nat.{ℕ, zero, suc, _+_, _≤_, _<_}
+-- How the code works: what functions that serve others promise. No call's promise cites this file.
+use Prim.Native.Nat.{ℕ, zero, suc, _+_, _≤_, _<_, _*_}
 use mathlib.Core.Path.{_≡_}
 use mathlib.Core.Bool.{cond}
-use mathlib.Core.List.{List, [], _∷_}
+use mathlib.Core.List.{List, [], _∷_, map}
 use lib.ListN.{length, getD}
 use lib.Dec.{ltb}
 use Rattle.hml.specs.Machine.{Row}
-use Rattle.tables.specs.Tables.{rowOf, leaving, checkRow}
+use Rattle.tables.specs.Tables.{leaving, checkRow, threes, rowsOf, Rising}
 use Rattle.tables.specs.declared.row.Row as declared-row
 use Rattle.tables.specs.declared.check.Judged.{Judged}
 use Rattle.tables.specs.declared.check.Judged.the-variants as judged-as
 use Rattle.labels.specs.declared.refusal.Check.{Check}
 use Rattle.labels.specs.declared.refusal.Check.the-variants as check
+
+-- row i of a table's bytes
+abbrev pub rowOf : List ℕ → ℕ → Row
+rowOf t i = (getD t (3 * i + 1) 0, getD t (3 * i + 1 + 1) 0, getD t (3 * i + 1 + 2) 0)
+
+-- the moves of rows that stand one after the other: label and target of each
+unfoldable pub movesIn : List ℕ → List (ℕ × ℕ)
+movesIn bytes = map (λ r. (r .1, r .2)) (threes bytes)
+
+-- a table that no check refuses, as far as functions that search it need it
+pub record Ready (t : List ℕ) : Type 0 where
+  pub some : 1 ≤ length t
+  pub rising : Rising (rowsOf t)
 
 abbrev pub tripleOf : declared-row.Row → Row
 tripleOf r = (r .from, r .label .0, r .to)

@@ -7,9 +7,8 @@ ghost use mathlib.Core.Bool.{true, _&&_};
 ghost use Prim.Native.Nat.{_+_, _≤_};
 ghost use lib.ListN.{length, getD};
 ghost use lib.Dec.{eqb};
-ghost use Rattle.tables.specs.Tables.{rowsOf, rowsFrom, bytesOf, tableOf, movesIn, among, hasMove, Rising};
-ghost use Rattle.tables.specs.Tables.{Together};
-ghost use Rattle.tables.specs.Working.{below, Leave};
+ghost use Rattle.tables.specs.Tables.{rowsOf, rowsFrom, bytesOf, tableOf, among, hasMove, Rising, Together};
+ghost use Rattle.tables.specs.Working.{movesIn, below, Leave};
 
 // The rows that leave a state, as the part of the table that they are. In rows that do not rise it is left open which:
 // there, too, they are rows of the table that stand together, and each leaves the state.

@@ -3,7 +3,8 @@ use labels::label::Label;
 ghost use mathlib.Core.Path.{_≡_};
 ghost use Prim.Native.Nat.{_<_};
 ghost use lib.ListN.{length};
-ghost use Rattle.tables.specs.Tables.{rowsOf, rowOf, rowRead, rowStruct};
+ghost use Rattle.tables.specs.Tables.{rowsOf, rowRead, rowStruct};
+ghost use Rattle.tables.specs.Working.{rowOf};
 
 pub struct Row {
     pub from: u8,

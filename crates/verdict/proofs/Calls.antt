@@ -16,7 +16,8 @@ use Rattle.hml.specs.Labels.{pairs}
 use Rattle.hml.specs.Compose.{beside}
 use Rattle.hml.proofs.Alone.{holds-alone}
 use Rattle.labels.specs.Refusals.{thenOf, firstOf, refusedIf}
-use Rattle.labels.specs.Labels.{checkPairs, pairing}
+use Rattle.labels.specs.Labels.{checkPairs}
+use Rattle.labels.specs.Working.{pairing}
 use Rattle.labels.specs.declared.label.Labels.{Labels}
 use Rattle.labels.specs.declared.refusal.Refusal.{Refusal}
 use Rattle.labels.specs.declared.refusal.Refusal.the-variants.{PointBeyond}
@@ -30,11 +31,11 @@ use Rattle.halves.specs.Halves.{halfOf, isHalfRun, checkHalf, checkTableAndHalf
 use Rattle.halves.specs.Cuts.{beyond}
 use Rattle.halves.proofs.HalfRuns.{AcceptedHalf, accepted-half, half-stop}
 use Rattle.machines.specs.Joints.{jointOf, fitJoint, isJointRun, checkJoint, checkTablesAndJoint}
-use Rattle.machines.proofs.JointRuns.{Tables, AcceptedJoint, accepted-joint, joint-stop}
-use Rattle.machines.proofs.Buffers.{Held, accepted-held}
+use Rattle.machines.proofs.JointRuns.{accepted-joint, joint-stop}
+use Rattle.machines.specs.Working.{Tables, AcceptedJoint, Held}
+use Rattle.machines.proofs.Buffers.{accepted-held}
 use Rattle.formulas.specs.Formulas.{formulaOf, quotientLimit, Legal, checkFormula}
-use Rattle.formulas.specs.Sizes.{sizesOver}
-use Rattle.formulas.specs.Trees.{treeOf}
+use Rattle.formulas.specs.Working.{sizesOver, treeOf}
 use Rattle.formulas.proofs.Checking.{judged-formula, legal-tree}
 use Rattle.formulas.proofs.TreeSizes.{length-over}
 use Rattle.formulas.proofs.Operands.{legal-part, legal-nesting, legal-labels}

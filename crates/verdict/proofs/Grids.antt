@@ -13,7 +13,8 @@ use borrow.Author.Tests.{eqb-true, eqb-false}
 use Rattle.hml.proofs.Tests.{same-refl}
 use Rattle.hml.specs.Lists.{_∈_, only}
 use Rattle.hml.specs.Machine.{Row, machine}
-use Rattle.tables.specs.Tables.{rowsOf, rowOf, tableOf, SoundTable}
+use Rattle.tables.specs.Tables.{rowsOf, tableOf, SoundTable}
+use Rattle.tables.specs.Working.{rowOf}
 use Rattle.tables.proofs.Rows.{length-rows, rows-at}
 use Rattle.tables.proofs.SoundTables.{moves-few}
 use Rattle.verdict.specs.Working.{pairsIn, gridOf, Grid}

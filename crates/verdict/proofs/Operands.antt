@@ -21,10 +21,12 @@ use Rattle.machines.specs.Joints.{jointOf}
 use Rattle.machines.specs.Steps.{jointStepAt, jointRead}
 use Rattle.machines.specs.declared.step.JointRead.the-variants as read
 use Rattle.machines.proofs.Steps.{step-there}
-use Rattle.machines.proofs.Buffers.{Held, held-empty, held-shorter, held-step}
-use Rattle.formulas.specs.Trees.{Tree, treeOf}
+use Rattle.machines.proofs.Buffers.{held-empty, held-shorter, held-step}
+use Rattle.machines.specs.Working.{Held}
+use Rattle.formulas.specs.Working.{Tree, treeOf, Part}
 use Rattle.formulas.proofs.Operators.{Unary, at}
-use Rattle.formulas.proofs.Operands.{Part, Connective, connected, operand-part, operand-is, first-part, second-part, size-read, second-room, operands-are, nesting-connected, labelled-connected}
+use Rattle.formulas.proofs.Operands.{Connective, connected, operand-part, operand-is, first-part, second-part}
+use Rattle.formulas.proofs.Operands.{size-read, second-room, operands-are, nesting-connected, labelled-connected}
 use Rattle.verdict.specs.Working.{Ready, Shown, grants, judged}
 
 -- the operator, from the tests that it passed and failed

@@ -13,7 +13,8 @@ use Rattle.hml.specs.Formula.{Formula}
 use Rattle.labels.specs.declared.label.Labels.{Labels}
 use Rattle.halves.specs.Runs.{stepOf}
 use Rattle.machines.specs.Joints.{jointOf}
-use Rattle.machines.proofs.Buffers.{Held, put, length-put, longer-run, held-longer}
+use Rattle.machines.proofs.Buffers.{length-put, longer-run, held-longer}
+use Rattle.machines.specs.Working.{Held, put}
 use Rattle.verdict.specs.declared.trial.Mover.{Mover}
 use Rattle.verdict.specs.declared.trial.Mover.the-variants as mover
 use Rattle.verdict.specs.Working.{Ready, Shown, judged, tried, placeOf, targetsOf}

@@ -1,4 +1,4 @@
--- What functions inside the crate promise each other. No public promise cites this file.
+-- How the code works: what functions that serve others promise. No call's promise cites this file.
 use Prim.Native.Nat.{ℕ, zero, suc, _+_, _*_, _≤_, _<_}
 use mathlib.Core.Path.{_≡_}
 use mathlib.Core.Bool.{Bool, true, false, cond, _&&_}
@@ -10,14 +10,13 @@ use Rattle.hml.specs.System.{System, Run, Pairing}
 use Rattle.hml.specs.Formula.{Formula, holds, nesting, labelled}
 use Rattle.hml.specs.Compose.{beside}
 use Rattle.hml.specs.Labels.{count}
-use Rattle.labels.specs.Labels.{pairing}
+use Rattle.labels.specs.Working.{pairing}
 use Rattle.labels.specs.declared.label.Labels.{Labels}
 use Rattle.tables.specs.Tables.{tableOf}
 use Rattle.machines.specs.declared.step.JointRead.{JointRead}
 use Rattle.machines.specs.declared.step.JointRead.the-variants as read
-use Rattle.machines.proofs.Buffers.{Held}
-use Rattle.formulas.specs.Trees.{Tree, treeOf}
-use Rattle.formulas.specs.Sizes.{Sized}
+use Rattle.machines.specs.Working.{Held}
+use Rattle.formulas.specs.Working.{Tree, treeOf, Sized}
 use Rattle.verdict.specs.declared.trial.Mover.{Mover}
 use Rattle.verdict.specs.declared.trial.Mover.the-variants as mover
 

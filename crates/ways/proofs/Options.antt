@@ -18,8 +18,8 @@ use Rattle.hml.proofs.Distinct.{Distinct, each-found}
 use Rattle.hml.specs.Compose as compose
 use Rattle.tables.specs.Tables.{among}
 use Rattle.halves.specs.Runs.{stepOf}
-use Rattle.machines.specs.Joints.{answerTo, kept}
-use Rattle.ways.specs.StepWays.{Steps, answeredBy, shakenBy, handshakes, rightWays, waysHere}
+use Rattle.machines.specs.Working.{answerTo, kept}
+use Rattle.ways.specs.Working.{Steps, answeredBy, shakenBy, handshakes, rightWays, waysHere}
 use Rattle.machines.specs.declared.step.JointStep.{JointStep}
 use Rattle.machines.specs.declared.step.States.{States}
 

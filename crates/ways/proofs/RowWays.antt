@@ -13,15 +13,16 @@ use Rattle.labels.specs.Labels.{partnerFound}
 use Rattle.labels.specs.declared.label.Label.{Label}
 use Rattle.labels.specs.declared.label.Partner.the-variants as partner
 use Rattle.labels.proofs.Slices.{rest}
-use Rattle.tables.specs.Tables.{movesIn, among, threes}
+use Rattle.tables.specs.Tables.{among, threes}
+use Rattle.tables.specs.Working.{movesIn}
 use Rattle.tables.proofs.Chunks.{threes-chunks, chunks-length}
 use Rattle.tables.proofs.Searching.{first-move, no-move}
 use Rattle.halves.specs.Steps.{stepStruct}
 use Rattle.halves.specs.declared.step.Step.{Step}
 use Rattle.halves.specs.declared.step.Step.the-variants as step
-use Rattle.machines.specs.Joints.{answerTo}
+use Rattle.machines.specs.Working.{answerTo}
 use Rattle.labels.proofs.Labels.{found-some, found-none}
-use Rattle.ways.specs.StepWays.{Steps, answeredBy, shakenBy, handshakes, rightWays, waysHere, chosen, wayStruct}
+use Rattle.ways.specs.Working.{Steps, answeredBy, shakenBy, handshakes, rightWays, waysHere, chosen, wayStruct}
 use Rattle.machines.specs.declared.step.States.{States}
 use Rattle.machines.specs.declared.step.JointStep.{JointStep}
 use Rattle.ways.specs.declared.step.Way.{Way}

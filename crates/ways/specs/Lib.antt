@@ -1,1 +1,1 @@
-pub mod StepWays
+pub mod Working

@@ -9,9 +9,9 @@ use labels::label::Labels;
 use labels::label::Partner;
 use machines::step::JointStep;
 ghost use mathlib.Core.Path.{_≡_};
-ghost use Rattle.labels.specs.Labels.{pairing};
-ghost use Rattle.tables.specs.Tables.{movesIn};
-ghost use Rattle.ways.specs.StepWays.{waysHere, rightWays, handshakes, wayStruct, chosen};
+ghost use Rattle.labels.specs.Working.{pairing};
+ghost use Rattle.tables.specs.Working.{movesIn};
+ghost use Rattle.ways.specs.Working.{waysHere, rightWays, handshakes, wayStruct, chosen};
 
 // The way of a number, from 0, by the rows that leave the step's states. Beyond the last way both halves idle.
 pub fn nth_way(labels: Labels, left: &[u8], right: &[u8], step: JointStep, n: usize) -> Way

@@ -6,9 +6,9 @@ use labels::label::Partner;
 use machines::step::JointStep;
 ghost use mathlib.Core.Path.{_≡_};
 ghost use lib.ListN.{length};
-ghost use Rattle.labels.specs.Labels.{pairing};
-ghost use Rattle.tables.specs.Tables.{movesIn};
-ghost use Rattle.ways.specs.StepWays.{waysHere, rightWays, handshakes};
+ghost use Rattle.labels.specs.Working.{pairing};
+ghost use Rattle.tables.specs.Working.{movesIn};
+ghost use Rattle.ways.specs.Working.{waysHere, rightWays, handshakes};
 
 // How many ways a step has, by the rows that leave its states.
 pub fn count_ways(labels: Labels, left: &[u8], right: &[u8], step: JointStep) -> usize

@@ -11,9 +11,11 @@ ghost use mathlib.Core.Bool.{_&&_};
 ghost use Prim.Native.Nat.{_≤_};
 ghost use lib.ListN.{length, getD};
 ghost use lib.Dec.{eqb};
-ghost use Rattle.labels.specs.Labels.{pairing, partnerFound};
-ghost use Rattle.tables.specs.Tables.{movesIn, among};
-ghost use Rattle.machines.specs.Joints.{answerTo};
+ghost use Rattle.labels.specs.Labels.{partnerFound};
+ghost use Rattle.labels.specs.Working.{pairing};
+ghost use Rattle.tables.specs.Tables.{among};
+ghost use Rattle.tables.specs.Working.{movesIn};
+ghost use Rattle.machines.specs.Working.{answerTo};
 
 // What a way makes each half do.
 pub struct Way {

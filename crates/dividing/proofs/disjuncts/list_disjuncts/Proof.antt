@@ -7,7 +7,8 @@ use mathlib.Core.List.{List, [], _∷_}
 use Prim.Native.Nat.{ℕ}
 use native.Mathlib.Omega.{arith}
 use borrow.Author.Tests.{not-true, not-false}
-use Rattle.tables.specs.Tables.{rowsOf, rowsFrom, bytesOf, tableOf, movesIn, Rising, SoundTable}
+use Rattle.tables.specs.Tables.{rowsOf, rowsFrom, bytesOf, tableOf, Rising, SoundTable}
+use Rattle.tables.specs.Working.{movesIn}
 use Rattle.tables.proofs.Searching.{leaving-moves}
 use Rattle.dividing.specs.Working.{aloneIn}
 use Rattle.labels.proofs.Outputs.{front-length}

@@ -1,6 +1,6 @@
 -- At each return the tests say which case of the table of operators holds.
 use mathlib.Core.Path.{_∙_, sym, ap}
-use Rattle.formulas.specs.Formulas.{nodeOf}
+use Rattle.formulas.specs.Working.{nodeOf}
 use Rattle.formulas.proofs.Nodes.{labelled-5, labelled-6, set-bad}
 use borrow.Author.Needs.{needs}
 use Rattle.formulas.proofs.node.read_node.Statement.{statement}

@@ -6,7 +6,7 @@ use borrow.Author.Needs.{needs}
 use Prim.Native.Nat.{_-_}
 use mathlib.Core.Path.{_∙_, ap, sym}
 use lib.Seq.{length-take-le}
-use Rattle.formulas.specs.Sizes.{treeSize}
+use Rattle.formulas.specs.Working.{treeSize}
 use Rattle.labels.proofs.Slices.{rest-of}
 use Rattle.formulas.proofs.TreeSizes.{Sizing, sizing-start, sizing-length, sizing-end, sizing-on, here-room}
 use Rattle.formulas.proofs.TreeSizes.{here-behind}

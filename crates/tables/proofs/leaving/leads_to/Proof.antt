@@ -8,7 +8,8 @@ use Prim.Native.Nat.{ℕ}
 use lib.ListN.{length}
 use Rattle.hml.specs.Lists.{same}
 use Rattle.labels.proofs.Slices.{rest-fewer}
-use Rattle.tables.specs.Tables.{movesIn, among}
+use Rattle.tables.specs.Tables.{among}
+use Rattle.tables.specs.Working.{movesIn}
 use Rattle.tables.proofs.Searching.{Searching, search-rows, search-end, search-hit, search-miss}
 
 abbrev wanted : ℕ → ℕ → ℕ × ℕ → Bool

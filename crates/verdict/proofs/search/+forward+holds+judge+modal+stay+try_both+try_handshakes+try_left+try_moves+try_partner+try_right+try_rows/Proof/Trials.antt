@@ -9,7 +9,7 @@ use Prim.Native.Nat.{ℕ, _+_, _-_, _≤_}
 use native.Mathlib.Omega.{arith}
 use mathlib.Core.Path.{_≡_, refl, sym, ap, _∙_}
 use lib.ListN.{length, getD}
-use Rattle.formulas.specs.Trees.{treeOf}
+use Rattle.formulas.specs.Working.{treeOf}
 use Rattle.machines.proofs.Buffers.{put-back, length-put, longer-run, held-longer}
 use Rattle.verdict.specs.Working.{judged, gridBy}
 use Rattle.verdict.proofs.Ahead as ahead

@@ -13,7 +13,7 @@ use Rattle.hml.specs.System.{Pairing, move, idle}
 use Rattle.hml.specs.System as theory
 use Rattle.tables.specs.Tables.{among}
 use Rattle.halves.specs.Steps.{stepStruct}
-use Rattle.machines.specs.Joints.{answerTo}
+use Rattle.machines.specs.Working.{answerTo}
 use Rattle.machines.specs.declared.step.States.{States}
 use Rattle.machines.specs.declared.step.JointStep.{JointStep}
 use Rattle.ways.specs.declared.step.Way.{Way}

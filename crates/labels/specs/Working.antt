@@ -1,0 +1,8 @@
+-- How the code works: what functions that serve others promise. No call's promise cites this file.
+use Rattle.hml.specs.System.{Pairing}
+use Rattle.hml.specs.Labels.{pairs}
+use Rattle.labels.specs.declared.label.Labels.{Labels}
+
+-- who shakes hands with whom in a call
+unfoldable pub pairing : Labels → Pairing
+pairing labels = pairs (labels .pairs)
