@@ -44,19 +44,25 @@ module _ (b : ℕ) where
     tried-none [] e = refl
     tried-none (m ∷ moves) e = go (same (m .0) b) e (tried-none moves)
       where
-        go : (t : Bool) → cond t 0 (suc (skippedIn b moves)) ≡ suc (length moves) → (skippedIn b moves ≡ length moves → false ≡ tried F b moves) → false ≡ ((t && F (m .1)) || tried F b moves)
+        go : (t : Bool) → cond t 0 (suc (skippedIn b moves)) ≡ suc (length moves)
+            → (skippedIn b moves ≡ length moves → false ≡ tried F b moves)
+            → false ≡ ((t && F (m .1)) || tried F b moves)
         go true e h = absurd (omega (arith, e))
         go false e h = h (omega (arith, e))
 
     -- one has it: its target decides, or those behind it do
-    tried-next : (moves : List (ℕ × ℕ)) → skippedIn b moves < length moves → tried F b moves ≡ (F (getD moves (skippedIn b moves) (0, 0) .1) || tried F b (drop (suc (skippedIn b moves)) moves))
+    abbrev next : List (ℕ × ℕ) → ℕ → Bool
+    next moves i = F (getD moves i (0, 0) .1) || tried F b (drop (suc i) moves)
+
+    tried-next : (moves : List (ℕ × ℕ)) → skippedIn b moves < length moves
+        → tried F b moves ≡ next moves (skippedIn b moves)
     unfolding skippedIn tried
     tried-next [] h = absurd (omega arith)
     tried-next (m ∷ moves) h = go (same (m .0) b) h (tried-next moves)
       where
         go : (t : Bool) → cond t 0 (suc (skippedIn b moves)) < suc (length moves)
-            → (skippedIn b moves < length moves → tried F b moves ≡ (F (getD moves (skippedIn b moves) (0, 0) .1) || tried F b (drop (suc (skippedIn b moves)) moves)))
-            → ((t && F (m .1)) || tried F b moves) ≡ (F (getD (m ∷ moves) (cond t 0 (suc (skippedIn b moves))) (0, 0) .1) || tried F b (drop (suc (cond t 0 (suc (skippedIn b moves)))) (m ∷ moves)))
+            → (skippedIn b moves < length moves → tried F b moves ≡ next moves (skippedIn b moves))
+            → ((t && F (m .1)) || tried F b moves) ≡ next (m ∷ moves) (cond t 0 (suc (skippedIn b moves)))
         go true h r = refl
         go false h r = r (omega arith)
 
@@ -76,7 +82,8 @@ pairs-drop (suc i) (suc n) bs h =
     less : (n i : ℕ) → n - i ≡ suc n - suc i
     less n i = omega arith
 
-pub pairs-at : (i n : ℕ) (bs : List ℕ) → i < n → getD (pairsIn n bs) i (0, 0) ≡ (getD bs (2 * i) 0, getD bs (2 * i + 1) 0)
+pub pairs-at : (i n : ℕ) (bs : List ℕ) → i < n
+    → getD (pairsIn n bs) i (0, 0) ≡ (getD bs (2 * i) 0, getD bs (2 * i + 1) 0)
 unfolding pairsIn
 pairs-at zero zero bs h = absurd (omega arith)
 pairs-at zero (suc n) bs h = refl
@@ -84,10 +91,13 @@ pairs-at (suc i) zero bs h = absurd (omega arith)
 pairs-at (suc i) (suc n) bs h =
     let j : 2 + (2 * i + 1) ≡ 2 * suc i + 1 = omega arith in
     pairs-at i n (drop 2 bs) (omega arith)
-    ∙ ap₂ (λ x y. (x, y)) (getD-drop 2 bs (2 * i) 0 ∙ ap (λ j. getD bs j 0) (sym (two-more i))) (getD-drop 2 bs (2 * i + 1) 0 ∙ ap (λ j. getD bs j 0) j)
+    ∙ ap₂ (λ x y. (x, y)) (getD-drop 2 bs (2 * i) 0 ∙ ap (λ j. getD bs j 0) (sym (two-more i)))
+    (getD-drop 2 bs (2 * i + 1) 0 ∙ ap (λ j. getD bs j 0) j)
 
 -- the rows of a grid from `at` on, of which `before` stand before the first with the wanted label
-module _ (F : ℕ → Bool) (b : ℕ) (g : List ℕ) (at rows before : ℕ) (e : before ≡ skippedIn b (pairsIn rows (drop at g))) where
+module _
+    (F : ℕ → Bool) (b : ℕ) (g : List ℕ) (at rows before : ℕ)
+    (e : before ≡ skippedIn b (pairsIn rows (drop at g))) where
   few : skippedIn b (pairsIn rows (drop at g)) ≤ rows
   few = omega (arith, skipped-few b (pairsIn rows (drop at g)), pairs-length rows (drop at g))
 
@@ -95,16 +105,19 @@ module _ (F : ℕ → Bool) (b : ℕ) (g : List ℕ) (at rows before : ℕ) (e :
   rows-none h = tried-none b F (pairsIn rows (drop at g)) (omega (arith, e, few, h, pairs-length rows (drop at g)))
 
   module _ (less : before < rows) where
-    next-row : tried F b (pairsIn rows (drop at g)) ≡ (F (getD g (at + 2 * before + 1) 0) || tried F b (pairsIn (rows - before - 1) (drop (at + 2 * before + 2) g)))
+    next-row : tried F b (pairsIn rows (drop at g))
+        ≡ (F (getD g (at + 2 * before + 1) 0)
+        || tried F b (pairsIn (rows - before - 1) (drop (at + 2 * before + 2) g)))
     next-row =
         let i : at + (2 * before + 1) ≡ at + 2 * before + 1 = omega arith in
         let j : at + 2 * suc before ≡ at + 2 * before + 2 = omega arith in
         let k : rows - suc before ≡ rows - before - 1 = omega arith in
         let here = pairs-at before rows (drop at g) less in
         let behind = pairs-drop (suc before) rows (drop at g) (omega arith) in
-        let lt : skippedIn b (pairsIn rows (drop at g)) < length (pairsIn rows (drop at g)) = omega (arith, e, pairs-length rows (drop at g)) in
+        let lt : skippedIn b (pairsIn rows (drop at g)) < length (pairsIn rows (drop at g)) =
+        omega (arith, e, pairs-length rows (drop at g)) in
         tried-next b F (pairsIn rows (drop at g)) lt
-        ∙ ap (λ (x : ℕ). F (getD (pairsIn rows (drop at g)) x (0, 0) .1) || tried F b (drop (suc x) (pairsIn rows (drop at g)))) (sym e)
+        ∙ ap (next b F (pairsIn rows (drop at g))) (sym e)
         ∙ ap₂ (λ x y. F x || tried F b y)
         (ap (λ m. m .1) here ∙ getD-drop at g (2 * before + 1) 0 ∙ ap (λ x. getD g x 0) i)
         (behind ∙ ap₂ (λ m bs. pairsIn m bs) k (drop-drop (2 * suc before) at g ∙ ap (λ x. drop x g) j))
@@ -112,7 +125,9 @@ module _ (F : ℕ → Bool) (b : ℕ) (g : List ℕ) (at rows before : ℕ) (e :
     pub rows-hit : true ≡ F (getD g (at + 2 * before + 1) 0) → true ≡ tried F b (pairsIn rows (drop at g))
     rows-hit p = rw (next-row, ← p)
 
-    pub rows-miss : (v : Bool) → false ≡ F (getD g (at + 2 * before + 1) 0) → v ≡ tried F b (pairsIn (rows - before - 1) (drop (at + 2 * before + 2) g)) → v ≡ tried F b (pairsIn rows (drop at g))
+    pub rows-miss : (v : Bool) → false ≡ F (getD g (at + 2 * before + 1) 0)
+        → v ≡ tried F b (pairsIn (rows - before - 1) (drop (at + 2 * before + 2) g))
+        → v ≡ tried F b (pairsIn rows (drop at g))
     rows-miss v q p = rw (next-row, ← q) p
 
 -- the handshakes, by the rows of the left
@@ -125,68 +140,107 @@ module _ (P : Pairing) (F : ℕ → ℕ → Bool) (rights : List (ℕ × ℕ)) (
   shaken-none e = rw e
 
   module _ (n : rows ≡ 0 → ⊥) where
-    shaken-first : shaken P F (pairsIn rows (drop at g)) rights ≡ (shakesAt || shaken P F (pairsIn (rows - 1) (drop (at + 2) g)) rights)
+    shaken-first : shaken P F (pairsIn rows (drop at g)) rights
+        ≡ (shakesAt || shaken P F (pairsIn (rows - 1) (drop (at + 2) g)) rights)
     unfolding shaken pairsIn
     shaken-first = go rows n
       where
-        go : (rows : ℕ) → (rows ≡ 0 → ⊥) → shaken P F (pairsIn rows (drop at g)) rights ≡ (shakesAt || shaken P F (pairsIn (rows - 1) (drop (at + 2) g)) rights)
+        go : (rows : ℕ) → (rows ≡ 0 → ⊥) → shaken P F (pairsIn rows (drop at g)) rights
+            ≡ (shakesAt || shaken P F (pairsIn (rows - 1) (drop (at + 2) g)) rights)
         go zero n = absurd (n refl)
-        go (suc m) n = let z : suc m - 1 ≡ m = omega arith in rw (z, getD-drop at g 0 0, getD-drop at g 1 0, drop-drop 2 at g, add-zero at)
+        go (suc m) n =
+            let z : suc m - 1 ≡ m = omega arith in
+            rw (z, getD-drop at g 0 0, getD-drop at g 1 0, drop-drop 2 at g, add-zero at)
 
     pub shaken-hit : true ≡ shakesAt → true ≡ shaken P F (pairsIn rows (drop at g)) rights
     shaken-hit p = rw (shaken-first, ← p)
 
-    pub shaken-miss : (v : Bool) → false ≡ shakesAt → v ≡ shaken P F (pairsIn (rows - 1) (drop (at + 2) g)) rights → v ≡ shaken P F (pairsIn rows (drop at g)) rights
+    pub shaken-miss : (v : Bool) → false ≡ shakesAt
+        → v ≡ shaken P F (pairsIn (rows - 1) (drop (at + 2) g)) rights
+        → v ≡ shaken P F (pairsIn rows (drop at g)) rights
     shaken-miss v q p = rw (shaken-first, ← q) p
 
 -- by what the lookup of a partner found
-pub partner-tried : (F : ℕ → Bool) (o : Option ℕ) (b : ℕ) (v : Bool) → partner.Label (record { 0 = b }) ≡ partnerFound o → v ≡ F b → v ≡ present F o
+pub partner-tried : (F : ℕ → Bool) (o : Option ℕ) (b : ℕ) (v : Bool)
+    → partner.Label (record { 0 = b }) ≡ partnerFound o → v ≡ F b → v ≡ present F o
 partner-tried F o b v e p = rw (found-some o (record { 0 = b }) e) p
 
 pub nobody-tried : (F : ℕ → Bool) (o : Option ℕ) → partner.Nobody ≡ partnerFound o → false ≡ present F o
 nobody-tried F o e = rw (found-none o e)
 
 -- a move whose label is the other's partner shakes hands
-shakes-tried : (P : Pairing) (F : ℕ → Bool) (a : ℕ) (moves : List (ℕ × ℕ)) → any (λ n. shakes P a (n .0) && F (n .1)) moves ≡ present (λ b. tried F b moves) (P .partner a)
+shakes-tried : (P : Pairing) (F : ℕ → Bool) (a : ℕ) (moves : List (ℕ × ℕ))
+    → any (λ n. shakes P a (n .0) && F (n .1)) moves ≡ present (λ b. tried F b moves) (P .partner a)
 unfolding tried
 shakes-tried P F a moves = go (P .partner a) refl
   where
-    go : (o : Option ℕ) → P .partner a ≡ o → any (λ n. shakes P a (n .0) && F (n .1)) moves ≡ present (λ b. any (λ n. same (n .0) b && F (n .1)) moves) o
-    go none e = any-cong (λ v. ap (_&& F (v .1)) (denied (decided-shakes P a (v .0)) (λ w. let z = sym e ∙ w in apart cc))) moves ∙ any-false moves
-    go (some b) e = any-cong (λ v. ap (_&& F (v .1)) (decided-alike (λ w. let z = sym w ∙ e in cc) (λ w. e ∙ ap some (sym w)) (decided-shakes P a (v .0)) (decided-same (v .0) b))) moves
+    go : (o : Option ℕ) → P .partner a ≡ o
+        → any (λ n. shakes P a (n .0) && F (n .1)) moves
+        ≡ present (λ b. any (λ n. same (n .0) b && F (n .1)) moves) o
+    go none e =
+        any-cong (λ v. ap (_&& F (v .1)) (denied (decided-shakes P a (v .0)) (λ w. let z = sym e ∙ w in apart cc)))
+        moves
+        ∙ any-false moves
+    go (some b) e = any-cong (λ v. ap (_&& F (v .1)) (alike (v .0))) moves
+      where
+        alike : (c : ℕ) → shakes P a c ≡ same c b
+        alike c = decided-alike
+            (λ w. let z = sym w ∙ e in cc)
+            (λ w. e ∙ ap some (sym w))
+            (decided-shakes P a c)
+            (decided-same c b)
 
 -- the label that a move shows is read back as a move
 shown-step : (a : ℕ) (u : ℕ × ℕ) → Shown a → stepOf a u ≡ move a u
 unfolding stepOf
 shown-step a u n = rw (ne-eqb a 255 n)
 
-module _ (labels : Labels) (l r : List ℕ) (φ : Formula) (j : Run (ℕ × ℕ)) (a p q : ℕ) (shown : Shown a) (ends : last j ≡ (p, q)) where
+module _
+    (labels : Labels) (l r : List ℕ) (φ : Formula) (j : Run (ℕ × ℕ)) (a p q : ℕ)
+    (shown : Shown a) (ends : last j ≡ (p, q)) where
   -- the verdict after one step more
   abbrev after : ℕ → ℕ → ℕ → Bool
   after c x y = judged labels l r φ (j ▸ stepOf c (x, y))
 
   -- one side alone, by the targets that it leads to
-  alone-tried : (f : ℕ → ℕ × ℕ) (moves : List (ℕ × ℕ)) → any (λ m. same (m .0) a && judged labels l r φ (j ▸ move (m .0) (f (m .1)))) moves ≡ tried (λ x. judged labels l r φ (j ▸ stepOf a (f x))) a moves
+  alone-tried : (f : ℕ → ℕ × ℕ) (moves : List (ℕ × ℕ))
+      → any (λ m. same (m .0) a && judged labels l r φ (j ▸ move (m .0) (f (m .1)))) moves
+      ≡ tried (λ x. judged labels l r φ (j ▸ stepOf a (f x))) a moves
   unfolding tried
-  alone-tried f moves = any-cong (λ m. and-cong (same (m .0) a) (λ e. ap (λ s. judged labels l r φ (j ▸ s)) (ap (λ c. move c (f (m .1))) (eqb-true (m .0) a e) ∙ sym (shown-step a (f (m .1)) shown)))) moves
+  alone-tried f moves =
+      any-cong (λ m. and-cong (same (m .0) a) (λ e. ap (λ s. judged labels l r φ (j ▸ s)) (stepped m e))) moves
+    where
+      stepped : (m : ℕ × ℕ) → same (m .0) a ≡ true → move (m .0) (f (m .1)) ≡ stepOf a (f (m .1))
+      stepped m e = ap (λ c. move c (f (m .1))) (eqb-true (m .0) a e) ∙ sym (shown-step a (f (m .1)) shown)
 
-  handshakes-shaken : any (λ m. any (λ n. shakes (pairing labels) (m .0) (n .0) && (same 0 a && judged labels l r φ (j ▸ move 0 (m .1, n .1)))) (gridOf r q)) (gridOf l p)
+  abbrev shaking : Bool → Bool
+  shaking b = any (λ m. any (λ n. shakes (pairing labels) (m .0) (n .0)
+      && (b && judged labels l r φ (j ▸ move 0 (m .1, n .1)))) (gridOf r q)) (gridOf l p)
+
+  handshakes-shaken : shaking (same 0 a)
       ≡ (same 0 a && shaken (pairing labels) (after 0) (gridOf l p) (gridOf r q))
   unfolding shaken stepOf
   handshakes-shaken = go (same 0 a)
     where
-      go : (b : Bool) → any (λ m. any (λ n. shakes (pairing labels) (m .0) (n .0) && (b && judged labels l r φ (j ▸ move 0 (m .1, n .1)))) (gridOf r q)) (gridOf l p)
-          ≡ (b && shaken (pairing labels) (after 0) (gridOf l p) (gridOf r q))
+      go : (b : Bool) → shaking b ≡ (b && shaken (pairing labels) (after 0) (gridOf l p) (gridOf r q))
       go true = any-cong (λ m. shakes-tried (pairing labels) (after 0 (m .1)) (m .0) (gridOf r q)) (gridOf l p)
-      go false = any-cong (λ m. any-cong (λ n. and-false (shakes (pairing labels) (m .0) (n .0))) (gridOf r q) ∙ any-false (gridOf r q)) (gridOf l p) ∙ any-false (gridOf l p)
+      go false =
+          any-cong (λ m. none (m .0)) (gridOf l p) ∙ any-false (gridOf l p)
+        where
+          none : (c : ℕ) → any (λ n. shakes (pairing labels) c (n .0) && false) (gridOf r q) ≡ false
+          none c = any-cong (λ n. and-false (shakes (pairing labels) c (n .0))) (gridOf r q) ∙ any-false (gridOf r q)
 
   forward-tried : judged labels l r (fwd a φ) j
-      ≡ (tried (λ x. after a x q) a (gridOf l p) || (tried (λ y. after a p y) a (gridOf r q) || (same 0 a && shaken (pairing labels) (after 0) (gridOf l p) (gridOf r q))))
+      ≡ (tried (λ x. after a x q) a (gridOf l p)
+      || (tried (λ y. after a p y) a (gridOf r q)
+      || (same 0 a && shaken (pairing labels) (after 0) (gridOf l p) (gridOf r q))))
   unfolding judged holds Composed
   forward-tried =
-      ap (λ u. any (λ m. same (m .0) a && judged labels l r φ (j ▸ move (m .0) (m .1))) (beside (pairing labels) (gridOf l) (gridOf r) u)) ends
-      ∙ beside-composed (pairing labels) (gridOf l) (gridOf r) (λ m. same (m .0) a && judged labels l r φ (j ▸ move (m .0) (m .1))) p q
-      ∙ ap₂ (λ x y. x || y) (alone-tried (λ x. (x, q)) (gridOf l p)) (ap₂ (λ x y. x || y) (alone-tried (λ y. (p, y)) (gridOf r q)) handshakes-shaken)
+      let here : ℕ × (ℕ × ℕ) → Bool = λ m. same (m .0) a && judged labels l r φ (j ▸ move (m .0) (m .1)) in
+      ap (λ u. any here (beside (pairing labels) (gridOf l) (gridOf r) u)) ends
+      ∙ beside-composed (pairing labels) (gridOf l) (gridOf r) here p q
+      ∙ ap₂ (λ x y. x || y) (alone-tried (λ x. (x, q)) (gridOf l p))
+      (ap₂ (λ x y. x || y) (alone-tried (λ y. (p, y)) (gridOf r q)) handshakes-shaken)
 
   -- what holds after no step
   pub forward-none : ((i : Run (ℕ × ℕ)) → false ≡ judged labels l r φ i) → false ≡ judged labels l r (fwd a φ) j
@@ -211,5 +265,7 @@ module _ (labels : Labels) (l r : List ℕ) (φ : Formula) (j : Run (ℕ × ℕ)
       pub forward-loud : y ≡ false → (a ≡ 0 → ⊥) → false ≡ judged labels l r (fwd a φ) j
       forward-loud e n = rw (forward-tried, ← px, ex, ← py, e, ne-eqb 0 a (λ z. n (sym z)))
 
-      pub forward-shaken : y ≡ false → a ≡ 0 → (v : Bool) → v ≡ shaken (pairing labels) (after 0) (gridOf l p) (gridOf r q) → v ≡ judged labels l r (fwd a φ) j
+      pub forward-shaken : y ≡ false → a ≡ 0 → (v : Bool)
+          → v ≡ shaken (pairing labels) (after 0) (gridOf l p) (gridOf r q)
+          → v ≡ judged labels l r (fwd a φ) j
       forward-shaken e z v pv = rw (forward-tried, ← px, ex, ← py, e, eq-eqb 0 a (sym z)) pv

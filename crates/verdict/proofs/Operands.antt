@@ -2,7 +2,7 @@
 use Prim.Native.Nat.{ℕ, zero, suc, _+_, _-_, _*_, _/_, _≤_, _<_, max}
 use mathlib.Core.Path.{_≡_, refl, sym, _∙_, ap}
 use mathlib.Core.Logic.{_⊎_, inl, inr, ⊎-elim}
-use mathlib.Core.Bool.{Bool, true, false, cond, _&&_, _||_, not as negate, false≢true, Bool·beq}
+use mathlib.Core.Bool.{Bool, true, false, cond, _&&_, _||_, not as negate, false≢true, Bool·beq, and-false}
 use mathlib.Core.List.{List}
 use native.Mathlib.Omega.{arith}
 use lib.ListN.{length, getD, take, drop}
@@ -30,23 +30,30 @@ use Rattle.formulas.proofs.Operands.{size-read, second-room, operands-are, nest
 use Rattle.verdict.specs.Working.{Ready, Shown, grants, judged}
 
 -- the operator, from the tests that it passed and failed
-pub five-up : (o : ℕ) → (o ≡ 0 → ⊥) → (o ≡ 1 → ⊥) → (o ≡ 2 → ⊥) → (o ≡ 3 → ⊥) × (o ≡ 4 → ⊥) → 5 ≤ o
-five-up zero a b c d = absurd (a refl)
-five-up (suc zero) a b c d = absurd (b refl)
-five-up (suc (suc zero)) a b c d = absurd (c refl)
-five-up (suc (suc (suc zero))) a b c d = absurd (d .0 refl)
-five-up (suc (suc (suc (suc zero)))) a b c d = absurd (d .1 refl)
-five-up (suc (suc (suc (suc (suc o))))) a b c d = omega arith
+pub five-up : (o : ℕ) → (o ≡ 0 → ⊥) → (o ≡ 1 → ⊥) → (o ≡ 2 → ⊥) × (o ≡ 3 → ⊥) × (o ≡ 4 → ⊥) → 5 ≤ o
+five-up zero a b c = absurd (a refl)
+five-up (suc zero) a b c = absurd (b refl)
+five-up (suc (suc zero)) a b c = absurd (c .0 refl)
+five-up (suc (suc (suc zero))) a b c = absurd (c .1 refl)
+five-up (suc (suc (suc (suc zero)))) a b c = absurd (c .2 refl)
+five-up (suc (suc (suc (suc (suc o))))) a b c = omega arith
 
--- is the operator "and" or "or"?
-binary-decides : (o : ℕ) → Decides (Connective o) (eqb o 3 || eqb o 4)
-binary-decides o = decided-or (decided-same o 3) (decided-same o 4)
+-- is the operator "not", "and" or "or"?
+abbrev isConnective : ℕ → Bool
+isConnective o = eqb o 2 || (eqb o 3 || eqb o 4)
 
-pub connective : (o : ℕ) (b : Bool) → b ≡ (eqb o 3 || eqb o 4) → b ≡ true → Connective o
-connective o b p e = decides (binary-decides o) .0 (sym p ∙ e)
+connective-decides : (o : ℕ) → Decides ((o ≡ 2) ⊎ Connective o) (isConnective o)
+connective-decides o = decided-or (decided-same o 2) (decided-or (decided-same o 3) (decided-same o 4))
 
-pub no-connective : (o : ℕ) (b : Bool) → b ≡ (eqb o 3 || eqb o 4) → b ≡ false → (o ≡ 3 → ⊥) × (o ≡ 4 → ⊥)
-no-connective o b p e = (λ h. false≢true (sym (sym p ∙ e) ∙ decides (binary-decides o) .1 (inl h)), λ h. false≢true (sym (sym p ∙ e) ∙ decides (binary-decides o) .1 (inr h)))
+pub connective : (o : ℕ) (b : Bool) → b ≡ isConnective o → b ≡ true → (o ≡ 2 → ⊥) → Connective o
+connective o b p e n = ⊎-elim (λ z. absurd (n z)) (λ z. z) (decides (connective-decides o) .0 (sym p ∙ e))
+
+pub no-connective : (o : ℕ) (b : Bool) → b ≡ isConnective o → b ≡ false
+    → (o ≡ 2 → ⊥) × (o ≡ 3 → ⊥) × (o ≡ 4 → ⊥)
+no-connective o b p e = (λ h. none (inl h), λ h. none (inr (inl h)), λ h. none (inr (inr h)))
+  where
+    none : (o ≡ 2) ⊎ Connective o → ⊥
+    none h = false≢true (sym (sym p ∙ e) ∙ decides (connective-decides o) .1 h)
 
 first-true : (a b : Bool) → (a && b) ≡ true → a ≡ true
 first-true a b e = both-true {a = a} {b = b} e .0
@@ -59,13 +66,23 @@ module _ (k : ℕ) (sizes xs : List ℕ) (n : ℕ) (f : List ℕ) (y : Ready k s
   part = record { tree = y .tree; sized = y .sized }
 
   -- what a call for the operand of a modality or of "not" may rely on
-  operand-ready : (g : Formula → Formula) → Unary f g → (m more : ℕ) → Held xs m → (labelled (count k) (g (treeOf (rest 2 f))) ≡ true → labelled (count k) (treeOf (rest 2 f)) ≡ true)
-      → m + 3 * (more + nesting (treeOf (rest 2 f))) ≤ n + 3 * nesting (g (treeOf (rest 2 f))) → Ready k sizes xs m more (rest 2 f)
+  operand-ready : (g : Formula → Formula) → Unary f g → (m more : ℕ) → Held xs m
+      → (labelled (count k) (g (treeOf (rest 2 f))) ≡ true → labelled (count k) (treeOf (rest 2 f)) ≡ true)
+      → m + 3 * (more + nesting (treeOf (rest 2 f))) ≤ n + 3 * nesting (g (treeOf (rest 2 f)))
+      → Ready k sizes xs m more (rest 2 f)
   operand-ready g u m more h l i =
       let e = operand-is sizes f part g u in
       let p = operand-part sizes f part g u in
       let w = y .ranged in
-      record { tree = p .tree; ranged = l (rw e at w); sized = p .sized; held = h; room = omega (arith, i, ap nesting e, y .room); size = y .size; slots = y .slots }
+      record {
+        tree = p .tree;
+        ranged = l (rw e at w);
+        sized = p .sized;
+        held = h;
+        room = omega (arith, i, ap nesting e, y .room);
+        size = y .size;
+        slots = y .slots;
+      }
 
   pub not-ready : getD f 0 0 ≡ 2 → Ready k sizes xs n 0 (rest 2 f)
   unfolding labelled nesting
@@ -76,7 +93,11 @@ module _ (k : ℕ) (sizes xs : List ℕ) (n : ℕ) (f : List ℕ) (y : Ready k s
   forward-ready e =
       let u = at f (y .tree) 5 e in
       let w = y .ranged in
-      (operand-ready (fwd (getD f 1 0)) u n 1 (y .held) (second-true (leb (getD f 1 0) (count k)) _) (omega arith), λ z. omega (arith, leb-true (getD f 1 0) (count k) (first-true _ (labelled (count k) (treeOf (rest 2 f))) (rw (operand-is sizes f part (fwd (getD f 1 0)) u) at w))))
+      let whole = rw (operand-is sizes f part (fwd (getD f 1 0)) u) at w in
+      let low = leb-true (getD f 1 0) (count k) (first-true _ (labelled (count k) (treeOf (rest 2 f))) whole) in (
+        operand-ready (fwd (getD f 1 0)) u n 1 (y .held) (second-true (leb (getD f 1 0) (count k)) _) (omega arith),
+        λ z. omega (arith, low),
+      )
 
   pub idle-ready : getD f 0 0 ≡ 7 → Ready k sizes xs n 1 (rest 2 f)
   unfolding labelled nesting
@@ -84,8 +105,11 @@ module _ (k : ℕ) (sizes xs : List ℕ) (n : ℕ) (f : List ℕ) (y : Ready k s
 
   pub back-ready : (getD f 0 0 ≡ 6) ⊎ (getD f 0 0 ≡ 8) → 5 ≤ n → Ready k sizes xs (n - 3) 0 (rest 2 f)
   unfolding labelled nesting
-  back-ready (inl e) l = operand-ready (back (getD f 1 0)) (at f (y .tree) 6 e) (n - 3) 0 (held-shorter xs n (y .held) l) (second-true (leb (getD f 1 0) (count k)) _) (omega arith)
-  back-ready (inr e) l = operand-ready backIdle (at f (y .tree) 8 e) (n - 3) 0 (held-shorter xs n (y .held) l) (λ l. l) (omega arith)
+  back-ready (inl e) l =
+      operand-ready (back (getD f 1 0)) (at f (y .tree) 6 e) (n - 3) 0 (held-shorter xs n (y .held) l)
+      (second-true (leb (getD f 1 0) (count k)) _) (omega arith)
+  back-ready (inr e) l =
+      operand-ready backIdle (at f (y .tree) 8 e) (n - 3) 0 (held-shorter xs n (y .held) l) (λ l. l) (omega arith)
 
   -- the same for the operands of "and" and "or": the second begins where the first one ends, which the sizes tell
   module _ (o : Connective (getD f 0 0)) where
@@ -96,8 +120,10 @@ module _ (k : ℕ) (sizes xs : List ℕ) (n : ℕ) (f : List ℕ) (y : Ready k s
       both : treeOf f ≡ connected (getD f 0 0) (treeOf (rest 2 f)) (treeOf (rest (2 * m + 2) f))
       both = operands-are sizes f part o m e
 
-      both-ranged : (labelled (count k) (treeOf (rest 2 f)) ≡ true) × (labelled (count k) (treeOf (rest (2 * m + 2) f)) ≡ true)
-      both-ranged = both-true (sym (ap (labelled (count k)) both ∙ labelled-connected (count k) (getD f 0 0) _ _) ∙ y .ranged)
+      both-ranged : (labelled (count k) (treeOf (rest 2 f)) ≡ true)
+          × (labelled (count k) (treeOf (rest (2 * m + 2) f)) ≡ true)
+      both-ranged =
+          both-true (sym (ap (labelled (count k)) both ∙ labelled-connected (count k) (getD f 0 0) _ _) ∙ y .ranged)
 
       both-room : n + 3 * max (nesting (treeOf (rest 2 f))) (nesting (treeOf (rest (2 * m + 2) f))) ≤ length xs
       both-room = omega (arith, y .room, ap nesting both ∙ nesting-connected (getD f 0 0) _ _)
@@ -105,7 +131,15 @@ module _ (k : ℕ) (sizes xs : List ℕ) (n : ℕ) (f : List ℕ) (y : Ready k s
       first-of : Ready k sizes xs n 0 (rest 2 f)
       first-of =
           let p = first-part sizes f part o in
-          record { tree = p .tree; ranged = both-ranged .0; sized = p .sized; held = y .held; room = omega (arith, both-room); size = y .size; slots = y .slots }
+          record {
+            tree = p .tree;
+            ranged = both-ranged .0;
+            sized = p .sized;
+            held = y .held;
+            room = omega (arith, both-room);
+            size = y .size;
+            slots = y .slots;
+          }
 
       pub second-begins : 2 * m + 2 ≤ length f
       second-begins = second-room sizes f part o m e
@@ -113,7 +147,15 @@ module _ (k : ℕ) (sizes xs : List ℕ) (n : ℕ) (f : List ℕ) (y : Ready k s
       pub second-ready : Ready k sizes xs n 0 (rest (2 * m + 2) f)
       second-ready =
           let p = second-part sizes f part o m e in
-          record { tree = p .tree; ranged = both-ranged .1; sized = p .sized; held = y .held; room = omega (arith, both-room); size = y .size; slots = y .slots }
+          record {
+            tree = p .tree;
+            ranged = both-ranged .1;
+            sized = p .sized;
+            held = y .held;
+            room = omega (arith, both-room);
+            size = y .size;
+            slots = y .slots;
+          }
 
     pub first-ready : Ready k sizes xs n 0 (rest 2 f)
     first-ready = first-of (getD sizes (length f / 2 - 2) 0) refl
@@ -128,14 +170,17 @@ module _ (labels : Labels) (l r f : List ℕ) (j : Run (ℕ × ℕ)) (t : Tree f
   unfolding judged holds
   judged-bottom e = rw (at f t 1 e)
 
-  pub judged-not : (b : Bool) → getD f 0 0 ≡ 2 → b ≡ judged labels l r (treeOf (rest 2 f)) j → negate b ≡ judged labels l r (treeOf f) j
+  pub judged-not : (b : Bool) → getD f 0 0 ≡ 2 → b ≡ judged labels l r (treeOf (rest 2 f)) j
+      → negate b ≡ judged labels l r (treeOf f) j
   unfolding judged holds
   judged-not b e p = rw (at f t 2 e .is) (ap negate (rw (rest-of 2 f) at p))
 
-  pub judged-forward : (b : Bool) → getD f 0 0 ≡ 5 → b ≡ judged labels l r (fwd (getD f 1 0) (treeOf (rest 2 f))) j → b ≡ judged labels l r (treeOf f) j
+  pub judged-forward : (b : Bool) → getD f 0 0 ≡ 5
+      → b ≡ judged labels l r (fwd (getD f 1 0) (treeOf (rest 2 f))) j → b ≡ judged labels l r (treeOf f) j
   judged-forward b e p = rw (at f t 5 e .is) (rw (rest-of 2 f) at p)
 
-  pub judged-idle : (b : Bool) (u : ℕ × ℕ) → getD f 0 0 ≡ 7 → b ≡ judged labels l r (treeOf (rest 2 f)) (j ▸ stepOf 255 u) → b ≡ judged labels l r (treeOf f) j
+  pub judged-idle : (b : Bool) (u : ℕ × ℕ) → getD f 0 0 ≡ 7
+      → b ≡ judged labels l r (treeOf (rest 2 f)) (j ▸ stepOf 255 u) → b ≡ judged labels l r (treeOf f) j
   unfolding judged holds stepOf
   judged-idle b u e p = rw (at f t 7 e .is) (rw (rest-of 2 f) at p)
 
@@ -158,7 +203,8 @@ module _ (labels : Labels) (l r f : List ℕ) (j : Run (ℕ × ℕ)) (t : Tree f
         settled-or true c s = refl
         settled-or false c s = absurd (false≢true s)
 
-    judged-second : (sizes : List ℕ) → Part sizes f → (m : ℕ) → m ≡ getD sizes (length f / 2 - 2) 0 → Bool·beq a (eqb (getD f 0 0) 4) ≡ false
+    judged-second : (sizes : List ℕ) → Part sizes f → (m : ℕ) → m ≡ getD sizes (length f / 2 - 2) 0
+        → Bool·beq a (eqb (getD f 0 0) 4) ≡ false
         → judged labels l r (treeOf (rest (2 * m + 2) f)) j ≡ judged labels l r (treeOf f) j
     unfolding judged holds
     judged-second sizes q m e s = ⊎-elim
@@ -173,33 +219,71 @@ module _ (labels : Labels) (l r f : List ℕ) (j : Run (ℕ × ℕ)) (t : Tree f
         open-or true s = absurd (false≢true (sym s))
         open-or false s = refl
 
--- going from second operand to second operand: what is left has the verdict of the whole
-pub record Going (labels : Labels) (l r sizes xs : List ℕ) (n : ℕ) (f left : List ℕ) : Type 0 where
+-- "not" turns a verdict round
+upright : (b : Bool) → Bool·beq b true ≡ b
+upright true = refl
+upright false = refl
+
+turned : (b e : Bool) → Bool·beq b (negate e) ≡ Bool·beq (negate b) e
+turned true true = refl
+turned true false = refl
+turned false true = refl
+turned false false = refl
+
+-- going on with the operand of "not" and the second one of "and" and "or": what is left has the verdict of the whole,
+-- or the other one where "not" stands an odd number of times before it
+pub record Going (labels : Labels) (l r sizes xs : List ℕ) (n : ℕ) (f left : List ℕ) (even : Bool) : Type 0 where
   pub ready : Ready (labels .pairs) sizes xs n 0 left
   pub shorter : length left ≤ length f
-  pub same : judged labels l r (treeOf left) (jointOf (take n xs)) ≡ judged labels l r (treeOf f) (jointOf (take n xs))
+  pub same : Bool·beq (judged labels l r (treeOf left) (jointOf (take n xs))) even
+      ≡ judged labels l r (treeOf f) (jointOf (take n xs))
 
-pub going-start : (labels : Labels) (l r sizes xs : List ℕ) (n : ℕ) (f : List ℕ) → Ready (labels .pairs) sizes xs n 0 f → Going labels l r sizes xs n f f
-going-start labels l r sizes xs n f y = record { ready = y; shorter = omega arith; same = refl }
+pub going-start : (labels : Labels) (l r sizes xs : List ℕ) (n : ℕ) (f : List ℕ)
+    → Ready (labels .pairs) sizes xs n 0 f → Going labels l r sizes xs n f f true
+going-start labels l r sizes xs n f y = record { ready = y; shorter = omega arith; same = upright _ }
 
-module _ (labels : Labels) (l r sizes xs : List ℕ) (n : ℕ) (f left : List ℕ) (g : Going labels l r sizes xs n f left) (o : Connective (getD left 0 0)) (a : Bool)
-    (p : a ≡ judged labels l r (treeOf (rest 2 left)) (jointOf (take n xs))) where
-  pub going-settled : Bool·beq a (eqb (getD left 0 0) 4) ≡ true → a ≡ judged labels l r (treeOf f) (jointOf (take n xs))
-  going-settled s = judged-settled labels l r left (jointOf (take n xs)) (g .ready .tree) o a p s ∙ g .same
+module _
+    (labels : Labels) (l r sizes xs : List ℕ) (n : ℕ) (f left : List ℕ) (even : Bool)
+    (g : Going labels l r sizes xs n f left even) where
+  abbrev run : Run (ℕ × ℕ)
+  run = jointOf (take n xs)
 
-  pub going-on : Bool·beq a (eqb (getD left 0 0) 4) ≡ false → (m : ℕ) → m ≡ getD sizes (length left / 2 - 2) 0 → Going labels l r sizes xs n f (rest (2 * m + 2) left)
-  going-on s m e = record {
-    ready = second-ready (labels .pairs) sizes xs n left (g .ready) o m e;
-    shorter = omega (arith, g .shorter, rest-length (2 * m + 2) left);
-    same = judged-second labels l r left (jointOf (take n xs)) (g .ready .tree) o a p sizes (part (labels .pairs) sizes xs n left (g .ready)) m e s ∙ g .same;
+  pub going-end : (v : Bool) → v ≡ judged labels l r (treeOf left) run
+      → Bool·beq v even ≡ judged labels l r (treeOf f) run
+  going-end v p = ap (λ b. Bool·beq b even) p ∙ g .same
+
+  pub going-not : getD left 0 0 ≡ 2 → Going labels l r sizes xs n f (rest 2 left) (negate even)
+  going-not e = record {
+    ready = not-ready (labels .pairs) sizes xs n left (g .ready) e;
+    shorter = omega (arith, g .shorter, rest-length 2 left);
+    same = turned (judged labels l r (treeOf (rest 2 left)) run) even
+        ∙ going-end _ (judged-not labels l r left run (g .ready .tree) _ e refl);
   }
 
+  module _ (o : Connective (getD left 0 0)) (a : Bool) (p : a ≡ judged labels l r (treeOf (rest 2 left)) run) where
+    pub going-settled : Bool·beq a (eqb (getD left 0 0) 4) ≡ true
+        → Bool·beq a even ≡ judged labels l r (treeOf f) run
+    going-settled s = going-end a (judged-settled labels l r left run (g .ready .tree) o a p s)
+
+    pub going-on : Bool·beq a (eqb (getD left 0 0) 4) ≡ false → (m : ℕ) → m ≡ getD sizes (length left / 2 - 2) 0
+        → Going labels l r sizes xs n f (rest (2 * m + 2) left) even
+    going-on s m e =
+        let parts = part (labels .pairs) sizes xs n left (g .ready) in
+        record {
+          ready = second-ready (labels .pairs) sizes xs n left (g .ready) o m e;
+          shorter = omega (arith, g .shorter, rest-length (2 * m + 2) left);
+          same = going-end _ (judged-second labels l r left run (g .ready .tree) o a p sizes parts m e s);
+        }
+
 -- a back modality, on the run in the first n bytes of xs
-module _ (labels : Labels) (l r f xs : List ℕ) (n : ℕ) (t : Tree f) (h : Held xs n) (o : (getD f 0 0 ≡ 6) ⊎ (getD f 0 0 ≡ 8)) where
+module _
+    (labels : Labels) (l r f xs : List ℕ) (n : ℕ) (t : Tree f) (h : Held xs n)
+    (o : (getD f 0 0 ≡ 6) ⊎ (getD f 0 0 ≡ 8)) where
   -- on the empty run it fails
   pub back-empty : n < 5 → false ≡ judged labels l r (treeOf f) (jointOf (take n xs))
   unfolding judged holds
-  back-empty s = ⊎-elim (λ e. rw (at f t 6 e .is, held-empty xs n h s)) (λ e. rw (at f t 8 e .is, held-empty xs n h s)) o
+  back-empty s =
+      ⊎-elim (λ e. rw (at f t 6 e .is, held-empty xs n h s)) (λ e. rw (at f t 8 e .is, held-empty xs n h s)) o
 
   module _ (s : 5 ≤ n) where
     -- the last step, as it is read
@@ -240,6 +324,13 @@ module _ (labels : Labels) (l r f xs : List ℕ) (n : ℕ) (t : Tree f) (h : Hel
         ≡ (grants (getD f 0 0) (getD f 1 0) (jointRead (take n xs) (n / 3 - 1))
         && judged labels l r (treeOf (drop 2 f)) (jointOf (take (n - 3) xs)))
     back-judged = rw (held-step xs n h s, last-granted) (back-step (getD xs (n - 3) 0) _ (jointOf (take (n - 3) xs)))
+
+    -- over false it fails
+    pub back-false : Tree (rest 2 f) → getD (rest 2 f) 0 0 ≡ 1
+        → false ≡ judged labels l r (treeOf f) (jointOf (take n xs))
+    back-false u e =
+        let never = rw (rest-of 2 f) at (judged-bottom labels l r (rest 2 f) (jointOf (take (n - 3) xs)) u e) in
+        rw (back-judged, ← never, and-false _)
 
     module _ (b : Bool) (g : b ≡ grants (getD f 0 0) (getD f 1 0) (jointRead (take n xs) (n / 3 - 1))) where
       pub back-other : b ≡ false → false ≡ judged labels l r (treeOf f) (jointOf (take n xs))

@@ -42,7 +42,8 @@ ghost use Rattle.verdict.specs.Working.{
   targetsOf,
 };
 
-// Does the first tree of f hold on the run in the first len bytes? "And" and "or" stop as soon as they can.
+// Does the first tree of f hold on the run in the first len bytes? "And" and "or" stop as soon as they can, and go on
+// with their second operand here, as "not" does with its only one.
 pub(crate) fn holds<'a>(
     labels: Labels,
     left: &'a [u8; 1088],
@@ -59,30 +60,41 @@ pub(crate) fn holds<'a>(
     ensures { λ r. ⌜ now (run .exit) ≡ now (run .entry) ⌝ }
 {
     let mut rest = f;
-    while is_binary(rest[0]) {
+    // Does "not" stand an even number of times before what is left?
+    let mut even = true;
+    while is_connective(rest[0]) {
         let operator = rest[0];
+        if operator == 2 {
+            even = !even;
+            rest = &rest[2..];
+            continue;
+        }
         let first = holds(labels, left, right, sizes, run, len, &rest[2..]);
         if first == (operator == 4) {
-            return first;
+            return first == even;
         }
         // The second operand begins where the first one ends.
         let n = sizes[rest.len() / 2 - 2];
         rest = &rest[2 * n + 2..];
     }
-    judge(labels, left, right, sizes, run, len, rest)
+    let last = judge(labels, left, right, sizes, run, len, rest);
+    last == even
 }
 
-// Has the operator two operands?
-fn is_binary(operator: u8) -> bool
-    ensures { λ r. ⌜ r ≡ (eqb operator 3 || eqb operator 4) ⌝ }
+// Is the operator "not", "and" or "or"?
+fn is_connective(operator: u8) -> bool
+    ensures { λ r. ⌜ r ≡ (eqb operator 2 || (eqb operator 3 || eqb operator 4)) ⌝ }
 {
+    if operator == 2 {
+        return true;
+    }
     if operator == 3 {
         return true;
     }
     operator == 4
 }
 
-// The same for a tree of no operand or one.
+// The same for true, false and the modalities.
 fn judge<'a>(
     labels: Labels,
     left: &'a [u8; 1088],
@@ -94,7 +106,7 @@ fn judge<'a>(
 ) -> bool
     requires { ⌜ Grids (now left) (now right) ⌝ }
     requires { ⌜ Ready (labels .pairs) (now sizes) (now run) len 0 (now f) ⌝ }
-    requires { ⌜ ((getD (now f) 0 0 ≡ 3 → ⊥) × (getD (now f) 0 0 ≡ 4 → ⊥)) ⌝ }
+    requires { ⌜ ((getD (now f) 0 0 ≡ 2 → ⊥) × (getD (now f) 0 0 ≡ 3 → ⊥) × (getD (now f) 0 0 ≡ 4 → ⊥)) ⌝ }
     ensures { λ r. ⌜ r ≡ judged labels (now (left .entry)) (now (right .entry))
         (treeOf (now (f .entry))) (jointOf (take len (now (run .entry)))) ⌝ }
     ensures { λ r. ⌜ now (run .exit) ≡ now (run .entry) ⌝ }
@@ -105,9 +117,6 @@ fn judge<'a>(
     }
     if operator == 1 {
         return false;
-    }
-    if operator == 2 {
-        return !holds(labels, left, right, sizes, run, len, &f[2..]);
     }
     modal(labels, left, right, sizes, run, len, f)
 }
@@ -138,6 +147,11 @@ fn modal<'a>(
         return stay(labels, left, right, sizes, run, len, body);
     }
     if len < 5 {
+        return false;
+    }
+    // False holds before no step.
+    let first = body[0];
+    if first == 1 {
         return false;
     }
     if !back_fits(operator, f[1], last_step(run, len)) {

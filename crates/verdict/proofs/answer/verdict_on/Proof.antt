@@ -19,15 +19,33 @@ tree-sizes-requires c κs = search needs
 
 holds-requires : tie.Need-holds-requires
 holds-requires c κs =
-    let s = c .before .before .before .before .before .before .before .before .before .before .before .before .before .before in
+    let t = c .before .before .before .before .before in
+    let r = t .before .before in
+    let l = r .before .before in
+    let s = l .before .before .before .before .before in
     let run = s .pre .1 .0 in
-    (record { left = c .before .before .before .before .before .before .before .before .before .rows-by-state .ensures .0; right = c .before .before .before .before .before .before .before .rows-by-state2 .ensures .0 }, rw (c .before .before .before .before .before .tree-sizes .ensures) (legal-ready _ _ (s .pre .1 .1) _ _ _ refl (run .2) (run .0) (run .1)))
+    let ready = legal-ready _ _ (s .pre .1 .1) _ _ _ refl (run .2) (run .0) (run .1) in (
+      record { left = l .rows-by-state .ensures .0; right = r .rows-by-state2 .ensures .0 },
+      rw (t .tree-sizes .ensures) ready,
+    )
 
 returns : tie.Need-returns
-returns c = legal-holds _ _ (c .before .before .before .before .before .before .before .before .before .before .before .before .before .before .before .before .pre .1 .1) _ _ _ _ _ (c .before .before .before .before .before .before .before .before .before .before .before .rows-by-state .ensures .1) (c .before .before .before .before .before .before .before .before .before .rows-by-state2 .ensures .1) _ _ (c .before .holds .ensures .0) (c .if1 .taken)
+returns c =
+    let h = c .before in
+    let r = h .before .before .before .before .before .before .before .before in
+    let l = r .before .before in
+    let s = l .before .before .before .before .before in
+    legal-holds _ _ (s .pre .1 .1) _ _ _ _ _ (l .rows-by-state .ensures .1) (r .rows-by-state2 .ensures .1) _ _
+    (h .holds .ensures .0) (c .if1 .taken)
 
 returns-2 : tie.Need-returns-2
-returns-2 c = legal-fails _ _ (c .before .before .before .before .before .before .before .before .before .before .before .before .before .before .before .before .pre .1 .1) _ _ _ _ _ (c .before .before .before .before .before .before .before .before .before .before .before .rows-by-state .ensures .1) (c .before .before .before .before .before .before .before .before .before .rows-by-state2 .ensures .1) _ _ (c .before .holds .ensures .0) (c .if1 .left)
+returns-2 c =
+    let h = c .before in
+    let r = h .before .before .before .before .before .before .before .before in
+    let l = r .before .before in
+    let s = l .before .before .before .before .before in
+    legal-fails _ _ (s .pre .1 .1) _ _ _ _ _ (l .rows-by-state .ensures .1) (r .rows-by-state2 .ensures .1) _ _
+    (h .holds .ensures .0) (c .if1 .left)
 
 pub verdict-on-spec : {M : Type 1} → statement M
 verdict-on-spec =

@@ -40,7 +40,10 @@ add-run-2 : tie.Need-add-run-2 Inv-loop μ-loop
 add-run-2 c = omega arith
 
 slice-write-run-3 : tie.Need-slice-write-run-3 Inv-loop μ-loop
-slice-write-run-3 c = omega (arith, widen-kept _ _ (c .before .before .before .before .args .run .now) _ _ (c .before .before .loop .inv))
+slice-write-run-3 c =
+    let l = c .before .before in
+    let s = l .before .before in
+    omega (arith, widen-kept _ _ (s .args .run .now) _ _ (l .loop .inv))
 
 mul-run-3 : tie.Need-mul-run-3 Inv-loop μ-loop
 mul-run-3 c = omega arith
@@ -58,7 +61,10 @@ add-run-4 : tie.Need-add-run-4 Inv-loop μ-loop
 add-run-4 c = omega arith
 
 slice-write-run-4 : tie.Need-slice-write-run-4 Inv-loop μ-loop
-slice-write-run-4 c = simp length-set (omega (arith, widen-kept _ _ (c .before .before .before .before .before .args .run .now) _ _ (c .before .before .before .loop .inv)))
+slice-write-run-4 c =
+    let l = c .before .before .before in
+    let s = l .before .before in
+    simp length-set (omega (arith, widen-kept _ _ (s .args .run .now) _ _ (l .loop .inv)))
 
 mul-run-5 : tie.Need-mul-run-5 Inv-loop μ-loop
 mul-run-5 c = omega arith
@@ -67,7 +73,10 @@ add-run-5 : tie.Need-add-run-5 Inv-loop μ-loop
 add-run-5 c = omega arith
 
 slice-write-run-5 : tie.Need-slice-write-run-5 Inv-loop μ-loop
-slice-write-run-5 c = simp length-set (omega (arith, widen-kept _ _ (c .before .before .before .before .before .args .run .now) _ _ (c .before .before .before .loop .inv)))
+slice-write-run-5 c =
+    let l = c .before .before .before in
+    let s = l .before .before in
+    simp length-set (omega (arith, widen-kept _ _ (s .args .run .now) _ _ (l .loop .inv)))
 
 add-i : tie.Need-add-i Inv-loop μ-loop
 add-i c = omega arith
@@ -76,7 +85,11 @@ loop-less : tie.Need-loop-less Inv-loop μ-loop
 loop-less c = omega arith
 
 loop-again : tie.Need-loop-again Inv-loop μ-loop
-loop-again c = widen-on _ _ _ _ _ (c .before .before .before .loop .inv) (c .before .before .before .before .before .pre .0) (simp length-set (c .before .before .before .before .before .pre .1)) (c .before .before .loop-test .taken)
+loop-again c =
+    let t = c .before .before in
+    let l = t .before in
+    let s = l .before .before in
+    widen-on _ _ _ _ _ (l .loop .inv) (s .pre .0) (simp length-set (s .pre .1)) (t .loop-test .taken)
 
 same-length : tie.Need-same-length Inv-loop μ-loop
 same-length c = widen-kept _ _ (c .before .before .before .args .run .now) _ _ (c .before .loop .inv)

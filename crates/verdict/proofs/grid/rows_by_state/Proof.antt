@@ -25,22 +25,46 @@ shared-slice-read-state : tie.Need-shared-slice-read-state Inv-loop μ-loop
 shared-slice-read-state c = omega (arith, c .before .before .before .pre .0 .fits .0)
 
 cast-state : tie.Need-cast-state Inv-loop μ-loop
-cast-state c = omega (arith, filling-fits (c .before .before .before .pre .0) _ _ (c .before .before .loop .inv) (c .before .loop-test .taken))
+cast-state c =
+    let t = c .before in
+    let l = t .before in
+    let s = l .before in
+    omega (arith, filling-fits (s .pre .0) _ _ (l .loop .inv) (t .loop-test .taken))
 
 mul-state : tie.Need-mul-state Inv-loop μ-loop
-mul-state c = omega (arith, filling-fits (c .before .before .before .pre .0) _ _ (c .before .before .loop .inv) (c .before .loop-test .taken))
+mul-state c =
+    let t = c .before in
+    let l = t .before in
+    let s = l .before in
+    omega (arith, filling-fits (s .pre .0) _ _ (l .loop .inv) (t .loop-test .taken))
 
 element-copy-out-n : tie.Need-element-copy-out-n Inv-loop μ-loop
-element-copy-out-n c = omega (arith, filling-fits (c .before .before .before .pre .0) _ _ (c .before .before .loop .inv) (c .before .loop-test .taken))
+element-copy-out-n c =
+    let t = c .before in
+    let l = t .before in
+    let s = l .before in
+    omega (arith, filling-fits (s .pre .0) _ _ (l .loop .inv) (t .loop-test .taken))
 
 cast-end : tie.Need-cast-end Inv-loop μ-loop
-cast-end c = omega (arith, filling-fits (c .before .before .before .before .pre .0) _ _ (c .before .before .before .loop .inv) (c .before .before .loop-test .taken))
+cast-end c =
+    let t = c .before .before in
+    let l = t .before in
+    let s = l .before in
+    omega (arith, filling-fits (s .pre .0) _ _ (l .loop .inv) (t .loop-test .taken))
 
 mul-end : tie.Need-mul-end Inv-loop μ-loop
-mul-end c = omega (arith, filling-fits (c .before .before .before .before .pre .0) _ _ (c .before .before .before .loop .inv) (c .before .before .loop-test .taken))
+mul-end c =
+    let t = c .before .before in
+    let l = t .before in
+    let s = l .before in
+    omega (arith, filling-fits (s .pre .0) _ _ (l .loop .inv) (t .loop-test .taken))
 
 add-end : tie.Need-add-end Inv-loop μ-loop
-add-end c = omega (arith, filling-fits (c .before .before .before .before .pre .0) _ _ (c .before .before .before .loop .inv) (c .before .before .loop-test .taken))
+add-end c =
+    let t = c .before .before in
+    let l = t .before in
+    let s = l .before in
+    omega (arith, filling-fits (s .pre .0) _ _ (l .loop .inv) (t .loop-test .taken))
 
 add-grid : tie.Need-add-grid Inv-loop μ-loop
 add-grid c = search needs
@@ -49,10 +73,18 @@ shared-slice-read-grid : tie.Need-shared-slice-read-grid Inv-loop μ-loop
 shared-slice-read-grid c = omega (arith, c .before .before .before .before .before .pre .0 .fits .0)
 
 add-grid-2 : tie.Need-add-grid-2 Inv-loop μ-loop
-add-grid-2 c = omega (arith, filling-fits (c .before .before .before .before .before .pre .0) _ _ (c .before .before .before .before .loop .inv) (c .before .before .before .loop-test .taken))
+add-grid-2 c =
+    let t = c .before .before .before in
+    let l = t .before in
+    let s = l .before in
+    omega (arith, filling-fits (s .pre .0) _ _ (l .loop .inv) (t .loop-test .taken))
 
 element-write-grid : tie.Need-element-write-grid Inv-loop μ-loop
-element-write-grid c = omega (arith, filling-fits (c .before .before .before .before .before .pre .0) _ _ (c .before .before .before .before .loop .inv) (c .before .before .before .loop-test .taken))
+element-write-grid c =
+    let t = c .before .before .before in
+    let l = t .before in
+    let s = l .before in
+    omega (arith, filling-fits (s .pre .0) _ _ (l .loop .inv) (t .loop-test .taken))
 
 add-grid-3 : tie.Need-add-grid-3 Inv-loop μ-loop
 add-grid-3 c = search needs
@@ -61,16 +93,32 @@ shared-slice-read-grid-2 : tie.Need-shared-slice-read-grid-2 Inv-loop μ-loop
 shared-slice-read-grid-2 c = omega (arith, c .before .before .before .before .before .before .pre .0 .fits .0)
 
 add-grid-4 : tie.Need-add-grid-4 Inv-loop μ-loop
-add-grid-4 c = omega (arith, filling-fits (c .before .before .before .before .before .before .pre .0) _ _ (c .before .before .before .before .before .loop .inv) (c .before .before .before .before .loop-test .taken))
+add-grid-4 c =
+    let t = c .before .before .before .before in
+    let l = t .before in
+    let s = l .before in
+    omega (arith, filling-fits (s .pre .0) _ _ (l .loop .inv) (t .loop-test .taken))
 
 element-write-grid-2 : tie.Need-element-write-grid-2 Inv-loop μ-loop
-element-write-grid-2 c = omega (arith, filling-fits (c .before .before .before .before .before .before .pre .0) _ _ (c .before .before .before .before .before .loop .inv) (c .before .before .before .before .loop-test .taken))
+element-write-grid-2 c =
+    let t = c .before .before .before .before in
+    let l = t .before in
+    let s = l .before in
+    omega (arith, filling-fits (s .pre .0) _ _ (l .loop .inv) (t .loop-test .taken))
 
 add-grid-5 : tie.Need-add-grid-5 Inv-loop μ-loop
-add-grid-5 c = omega (arith, filling-fits (c .before .before .before .before .before .before .pre .0) _ _ (c .before .before .before .before .before .loop .inv) (c .before .before .before .before .loop-test .taken))
+add-grid-5 c =
+    let t = c .before .before .before .before in
+    let l = t .before in
+    let s = l .before in
+    omega (arith, filling-fits (s .pre .0) _ _ (l .loop .inv) (t .loop-test .taken))
 
 element-write-grid-3 : tie.Need-element-write-grid-3 Inv-loop μ-loop
-element-write-grid-3 c = omega (arith, filling-fits (c .before .before .before .before .before .before .pre .0) _ _ (c .before .before .before .before .before .loop .inv) (c .before .before .before .before .loop-test .taken))
+element-write-grid-3 c =
+    let t = c .before .before .before .before in
+    let l = t .before in
+    let s = l .before in
+    omega (arith, filling-fits (s .pre .0) _ _ (l .loop .inv) (t .loop-test .taken))
 
 add-i : tie.Need-add-i Inv-loop μ-loop
 add-i c = search needs
@@ -79,10 +127,17 @@ loop-less : tie.Need-loop-less Inv-loop μ-loop
 loop-less c = search needs
 
 loop-again : tie.Need-loop-again Inv-loop μ-loop
-loop-again c = filling-on (c .before .before .before .before .before .before .pre .0) _ _ (c .before .before .before .before .before .loop .inv) (c .before .before .before .before .loop-test .taken)
+loop-again c =
+    let t = c .before .before .before .before in
+    let l = t .before in
+    let s = l .before in
+    filling-on (s .pre .0) _ _ (l .loop .inv) (t .loop-test .taken)
 
 returns : tie.Need-returns Inv-loop μ-loop
-returns c = (filling-grid (c .before .before .pre .0) _ _ (c .before .loop .inv), filling-end (c .before .before .pre .0) _ _ (c .before .loop .inv) (c .loop-test .left))
+returns c =
+    let l = c .before in
+    let s = l .before in
+    (filling-grid (s .pre .0) _ _ (l .loop .inv), filling-end (s .pre .0) _ _ (l .loop .inv) (c .loop-test .left))
 
 pub rows-by-state-spec : {M : Type 1} → statement M
 rows-by-state-spec =

@@ -15,7 +15,9 @@ enum-known-refusal : tie.Need-enum-known-refusal
 enum-known-refusal c = search needs
 
 returns : tie.Need-returns
-returns c = half-refused _ _ _ _ _ _ (pairs-refused _ _ _ (sym (c .before .before .before .check-pairs .ensures) ∙ c .before .refusal .given .1))
+returns c =
+    let pairs = sym (c .before .before .before .check-pairs .ensures) ∙ c .before .refusal .given .1 in
+    half-refused _ _ _ _ _ _ (pairs-refused _ _ _ pairs)
 
 check-table-requires : tie.Need-check-table-requires
 check-table-requires c κs = search needs
@@ -34,24 +36,47 @@ enum-known-parts c = search needs
 
 returns-2 : tie.Need-returns-2
 returns-2 c =
-    let parts = rw (c .before .before .before .before .before .check-table .ensures, c .before .before .before .before .check-formula .ensures) at (c .before .before .before .then .ensures) in
-    half-refused _ _ _ _ _ _ (pairs-sound _ _ _ (sym (c .before .before .before .before .before .before .before .before .check-pairs .ensures) ∙ c .before .before .before .before .before .before .enum-told .given .1) (sym parts ∙ c .before .parts .given .1))
+    let b = c .before in
+    let t = b .before .before in
+    let f = t .before in
+    let j = f .before in
+    let e = j .before in
+    let p = e .before .before in
+    let parts = rw (j .check-table .ensures, f .check-formula .ensures) at (t .then .ensures) in
+    let pairs = sym (p .check-pairs .ensures) ∙ e .enum-told .given .1 in
+    half-refused _ _ _ _ _ _ (pairs-sound _ _ _ pairs (sym parts ∙ b .parts .given .1))
 
 is-beyond-requires : tie.Need-is-beyond-requires
 is-beyond-requires c κs = search needs
 
 returns-3 : tie.Need-returns-3
 returns-3 c =
-    let parts = rw (c .before .before .before .before .before .before .check-table .ensures, c .before .before .before .before .before .check-formula .ensures) at (c .before .before .before .before .then .ensures) in
-    half-beyond _ _ _ _ _ (pairs-sound _ _ _ (sym (c .before .before .before .before .before .before .before .before .before .check-pairs .ensures) ∙ c .before .before .before .before .before .before .before .enum-told .given .1) (sym parts ∙ c .before .before .enum-told2 .given .1)) (sym (c .before .is-beyond .ensures) ∙ c .if1 .taken)
+    let b = c .before .before in
+    let t = b .before .before in
+    let f = t .before in
+    let j = f .before in
+    let e = j .before in
+    let p = e .before .before in
+    let parts = rw (j .check-table .ensures, f .check-formula .ensures) at (t .then .ensures) in
+    let pairs = sym (p .check-pairs .ensures) ∙ e .enum-told .given .1 in
+    half-beyond _ _ _ _ _ (pairs-sound _ _ _ pairs (sym parts ∙ b .enum-told2 .given .1))
+    (sym (c .before .is-beyond .ensures) ∙ c .if1 .taken)
 
 check-half-requires : tie.Need-check-half-requires
 check-half-requires c κs = search needs
 
 returns-4 : tie.Need-returns-4
 returns-4 c =
-    let parts = rw (c .before .before .before .before .before .before .before .check-table .ensures, c .before .before .before .before .before .before .check-formula .ensures) at (c .before .before .before .before .before .then .ensures) in
-    half-judged _ _ _ _ _ (pairs-sound _ _ _ (sym (c .before .before .before .before .before .before .before .before .before .before .check-pairs .ensures) ∙ c .before .before .before .before .before .before .before .before .enum-told .given .1) (sym parts ∙ c .before .before .before .enum-told2 .given .1)) (sym (c .before .before .is-beyond .ensures) ∙ c .before .if1 .left) _ (c .check-half .ensures)
+    let b = c .before .before .before in
+    let t = b .before .before in
+    let f = t .before in
+    let j = f .before in
+    let e = j .before in
+    let p = e .before .before in
+    let parts = rw (j .check-table .ensures, f .check-formula .ensures) at (t .then .ensures) in
+    let pairs = sym (p .check-pairs .ensures) ∙ e .enum-told .given .1 in
+    half-judged _ _ _ _ _ (pairs-sound _ _ _ pairs (sym parts ∙ b .enum-told2 .given .1))
+    (sym (c .before .before .is-beyond .ensures) ∙ c .before .if1 .left) _ (c .check-half .ensures)
 
 pub check-half-call-spec : {M : Type 1} → statement M
 check-half-call-spec =

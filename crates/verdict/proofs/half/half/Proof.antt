@@ -18,14 +18,19 @@ enum-known-refusal c = search needs
 
 returns : tie.Need-returns
 unfolding halfVerdict
-returns c = answer-refused _ _ _ (sym (c .before .before .before .check-half-call .ensures) ∙ c .before .refusal .given .1)
+returns c =
+    let check = c .before .before .before .check-half-call .ensures in
+    answer-refused _ _ _ (sym check ∙ c .before .refusal .given .1)
 
 slice-aggregate-beside-still : tie.Need-slice-aggregate-beside-still
 slice-aggregate-beside-still c = search needs
 
 beside-still-requires : tie.Need-beside-still-requires
 beside-still-requires c κs =
-    let call = half-call _ _ _ _ _ (sym (c .before .before .before .check-half-call .ensures) ∙ c .before .enum-told .given .1) in
+    let e = c .before in
+    let k = e .before .before in
+    let check = sym (k .check-half-call .ensures) ∙ e .enum-told .given .1 in
+    let call = half-call _ _ _ _ _ check in
     let room = half-room _ _ _ _ (call .0) _ (call .1) in
     (room .0, omega (arith, room))
 
@@ -34,26 +39,40 @@ slice-aggregate-verdict-on c = search needs
 
 mul-verdict-on : tie.Need-mul-verdict-on
 mul-verdict-on c =
-    let call = half-call _ _ _ _ _ (sym (c .before .before .before .before .before .before .before .check-half-call .ensures) ∙ c .before .before .before .before .before .enum-told .given .1) in
+    let e = c .before .before .before .before .before in
+    let k = e .before .before in
+    let check = sym (k .check-half-call .ensures) ∙ e .enum-told .given .1 in
+    let call = half-call _ _ _ _ _ check in
     omega (arith, half-room _ _ _ _ (call .0) _ (call .1))
 
 add-verdict-on : tie.Need-add-verdict-on
 add-verdict-on c =
-    let call = half-call _ _ _ _ _ (sym (c .before .before .before .before .before .before .before .check-half-call .ensures) ∙ c .before .before .before .before .before .enum-told .given .1) in
+    let e = c .before .before .before .before .before in
+    let k = e .before .before in
+    let check = sym (k .check-half-call .ensures) ∙ e .enum-told .given .1 in
+    let call = half-call _ _ _ _ _ check in
     omega (arith, half-room _ _ _ _ (call .0) _ (call .1))
 
 verdict-on-requires : tie.Need-verdict-on-requires
 verdict-on-requires c κs =
-    let call = half-call _ _ _ _ _ (sym (c .before .before .before .before .before .before .before .check-half-call .ensures) ∙ c .before .before .before .before .before .enum-told .given .1) in
+    let w = c .before .before .before in
+    let e = w .before .before in
+    let k = e .before .before in
+    let check = sym (k .check-half-call .ensures) ∙ e .enum-told .given .1 in
+    let call = half-call _ _ _ _ _ check in
     let room = half-room _ _ _ _ (call .0) _ (call .1) in
-    let size = c .before .before .before .beside-still .kept .1 .1 .0 in
-    (half-tables _ _ _ _ (call .0) _ (call .1), ((half-held _ _ _ _ (call .0) _ (call .1) _ _ (c .before .before .before .beside-still .ensures) (omega (arith, room, size)), omega (arith, room), size), call .0 .legal))
+    let size = w .beside-still .kept .1 .1 .0 in
+    let held = half-held _ _ _ _ (call .0) _ (call .1) _ _ (w .beside-still .ensures) (omega (arith, room, size)) in
+    (half-tables _ _ _ _ (call .0) _ (call .1), ((held, omega (arith, room), size), call .0 .legal))
 
 returns-2 : tie.Need-returns-2
 returns-2 c =
-    let check = sym (c .before .before .before .before .before .before .before .before .check-half-call .ensures) ∙ c .before .before .before .before .before .before .enum-told .given .1 in
+    let w = c .before .before .before .before in
+    let e = w .before .before in
+    let k = e .before .before in
+    let check = sym (k .check-half-call .ensures) ∙ e .enum-told .given .1 in
     let call = half-call _ _ _ _ _ check in
-    half-answer _ _ _ _ (call .0) _ (call .1) _ _ (c .before .before .before .before .beside-still .ensures) check _ (c .verdict-on .ensures)
+    half-answer _ _ _ _ (call .0) _ (call .1) _ _ (w .beside-still .ensures) check _ (c .verdict-on .ensures)
 
 pub half-spec : {M : Type 1} → statement M
 half-spec =

@@ -15,7 +15,9 @@ enum-known-refusal : tie.Need-enum-known-refusal
 enum-known-refusal c = search needs
 
 returns : tie.Need-returns
-returns c = joint-refused _ _ _ _ _ _ _ (pairs-refused _ _ _ (sym (c .before .before .before .check-pairs .ensures) ∙ c .before .refusal .given .1))
+returns c =
+    let pairs = sym (c .before .before .before .check-pairs .ensures) ∙ c .before .refusal .given .1 in
+    joint-refused _ _ _ _ _ _ _ (pairs-refused _ _ _ pairs)
 
 check-joint-requires : tie.Need-check-joint-requires
 check-joint-requires c κs = search needs
@@ -34,18 +36,39 @@ enum-known-parts c = search needs
 
 returns-2 : tie.Need-returns-2
 returns-2 c =
-    let parts = rw (c .before .before .before .before .before .check-joint .ensures, c .before .before .before .before .check-formula .ensures) at (c .before .before .before .then .ensures) in
-    joint-refused _ _ _ _ _ _ _ (pairs-sound _ _ _ (sym (c .before .before .before .before .before .before .before .before .check-pairs .ensures) ∙ c .before .before .before .before .before .before .enum-told .given .1) (sym parts ∙ c .before .parts .given .1))
+    let b = c .before in
+    let t = b .before .before in
+    let f = t .before in
+    let j = f .before in
+    let e = j .before in
+    let p = e .before .before in
+    let parts = rw (j .check-joint .ensures, f .check-formula .ensures) at (t .then .ensures) in
+    let pairs = sym (p .check-pairs .ensures) ∙ e .enum-told .given .1 in
+    joint-refused _ _ _ _ _ _ _ (pairs-sound _ _ _ pairs (sym parts ∙ b .parts .given .1))
 
 returns-3 : tie.Need-returns-3
 returns-3 c =
-    let parts = rw (c .before .before .before .before .before .check-joint .ensures, c .before .before .before .before .check-formula .ensures) at (c .before .before .before .then .ensures) in
-    joint-beyond _ _ _ _ _ _ (pairs-sound _ _ _ (sym (c .before .before .before .before .before .before .before .before .check-pairs .ensures) ∙ c .before .before .before .before .before .before .enum-told .given .1) (sym parts ∙ c .before .enum-told2 .given .1)) (c .if1 .taken)
+    let b = c .before in
+    let t = b .before .before in
+    let f = t .before in
+    let j = f .before in
+    let e = j .before in
+    let p = e .before .before in
+    let parts = rw (j .check-joint .ensures, f .check-formula .ensures) at (t .then .ensures) in
+    let pairs = sym (p .check-pairs .ensures) ∙ e .enum-told .given .1 in
+    joint-beyond _ _ _ _ _ _ (pairs-sound _ _ _ pairs (sym parts ∙ b .enum-told2 .given .1)) (c .if1 .taken)
 
 returns-4 : tie.Need-returns-4
 returns-4 c =
-    let parts = rw (c .before .before .before .before .before .check-joint .ensures, c .before .before .before .before .check-formula .ensures) at (c .before .before .before .then .ensures) in
-    joint-sound _ _ _ _ _ _ (pairs-sound _ _ _ (sym (c .before .before .before .before .before .before .before .before .check-pairs .ensures) ∙ c .before .before .before .before .before .before .enum-told .given .1) (sym parts ∙ c .before .enum-told2 .given .1)) (c .if1 .left)
+    let b = c .before in
+    let t = b .before .before in
+    let f = t .before in
+    let j = f .before in
+    let e = j .before in
+    let p = e .before .before in
+    let parts = rw (j .check-joint .ensures, f .check-formula .ensures) at (t .then .ensures) in
+    let pairs = sym (p .check-pairs .ensures) ∙ e .enum-told .given .1 in
+    joint-sound _ _ _ _ _ _ (pairs-sound _ _ _ pairs (sym parts ∙ b .enum-told2 .given .1)) (c .if1 .left)
 
 pub check-joint-call-spec : {M : Type 1} → statement M
 check-joint-call-spec =

@@ -21,7 +21,9 @@ enum-known-refusal c = search needs
 
 returns : tie.Need-returns
 unfolding jointVerdict
-returns c = answer-refused _ _ _ (sym (c .before .before .before .check-joint-call .ensures) ∙ c .before .refusal .given .1)
+returns c =
+    let check = c .before .before .before .check-joint-call .ensures in
+    answer-refused _ _ _ (sym check ∙ c .before .refusal .given .1)
 
 mul-len : tie.Need-mul-len
 mul-len c =
@@ -35,30 +37,49 @@ add-len c =
 
 slice-aggregate-copy : tie.Need-slice-aggregate-copy
 slice-aggregate-copy c =
-    let call = joint-call _ _ _ _ _ _ (sym (c .before .before .before .check-joint-call .ensures) ∙ c .before .enum-told .given .1) in
-    sym (length-take-le _ _ (joint-room _ _ _ _ _ (call .0) _ (call .1) .0))
+    let e = c .before in
+    let k = e .before .before in
+    let check = sym (k .check-joint-call .ensures) ∙ e .enum-told .given .1 in
+    let call = joint-call _ _ _ _ _ _ check in
+    let room = joint-room _ _ _ _ _ (call .0) _ (call .1) in
+    sym (length-take-le _ _ (room .0))
 
 slice-aggregate-copy-2 : tie.Need-slice-aggregate-copy-2
 slice-aggregate-copy-2 c = search needs
 
 copy-requires : tie.Need-copy-requires
 copy-requires c κs =
-    let call = joint-call _ _ _ _ _ _ (sym (c .before .before .before .before .check-joint-call .ensures) ∙ c .before .before .enum-told .given .1) in
-    omega (arith, joint-room _ _ _ _ _ (call .0) _ (call .1), length-take (3 * c .before .before .before .before .before .before .before .before .before .args .point + 2) (c .before .before .before .before .before .before .before .before .before .args .run .now))
+    let e = c .before .before in
+    let k = e .before .before in
+    let s = k .before .before .before .before .before in
+    let check = sym (k .check-joint-call .ensures) ∙ e .enum-told .given .1 in
+    let call = joint-call _ _ _ _ _ _ check in
+    let room = joint-room _ _ _ _ _ (call .0) _ (call .1) in
+    omega (arith, room, length-take (3 * s .args .point + 2) (s .args .run .now))
 
 verdict-on-requires : tie.Need-verdict-on-requires
 verdict-on-requires c κs =
-    let call = joint-call _ _ _ _ _ _ (sym (c .before .before .before .before .before .before .before .check-joint-call .ensures) ∙ c .before .before .before .before .before .enum-told .given .1) in
+    let y = c .before .before in
+    let e = y .before .before .before in
+    let k = e .before .before in
+    let check = sym (k .check-joint-call .ensures) ∙ e .enum-told .given .1 in
+    let call = joint-call _ _ _ _ _ _ check in
     let room = joint-room _ _ _ _ _ (call .0) _ (call .1) in
-    let size = c .before .before .copy .kept .1 .0 in
-    (call .0 .tables, ((joint-held _ _ _ _ _ (call .0) _ (call .1) _ (front-copied _ _ _ _ (room .0) (c .before .before .copy .ensures .1)) (omega (arith, room, size)), omega (arith, room), size), call .0 .legal))
+    let size = y .copy .kept .1 .0 in
+    let front = front-copied _ _ _ _ (room .0) (y .copy .ensures .1) in
+    let held = joint-held _ _ _ _ _ (call .0) _ (call .1) _ front (omega (arith, room, size)) in
+    (call .0 .tables, ((held, omega (arith, room), size), call .0 .legal))
 
 returns-2 : tie.Need-returns-2
 returns-2 c =
-    let check = sym (c .before .before .before .before .before .before .before .before .check-joint-call .ensures) ∙ c .before .before .before .before .before .before .enum-told .given .1 in
+    let y = c .before .before .before in
+    let e = y .before .before .before in
+    let k = e .before .before in
+    let check = sym (k .check-joint-call .ensures) ∙ e .enum-told .given .1 in
     let call = joint-call _ _ _ _ _ _ check in
     let room = joint-room _ _ _ _ _ (call .0) _ (call .1) in
-    joint-answer _ _ _ _ _ (call .0) _ (call .1) _ (front-copied _ _ _ _ (room .0) (c .before .before .before .copy .ensures .1)) check _ (c .verdict-on .ensures)
+    let front = front-copied _ _ _ _ (room .0) (y .copy .ensures .1) in
+    joint-answer _ _ _ _ _ (call .0) _ (call .1) _ front check _ (c .verdict-on .ensures)
 
 pub joint-spec : {M : Type 1} → statement M
 joint-spec =

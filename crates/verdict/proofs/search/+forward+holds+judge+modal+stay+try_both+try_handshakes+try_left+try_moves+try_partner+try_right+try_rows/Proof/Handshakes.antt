@@ -69,7 +69,8 @@ try-handshakes-sub-t23 t c =
     positive _ (e .if1 .left)
 
 pub try-handshakes-try-handshakes-requires : (t : ℕ)
-    → try-handshakes-lts.Need-try-handshakes-requires (try-handshakes-claims t) (try-handshakes-at t) try-handshakes.Post
+    → try-handshakes-lts.Need-try-handshakes-requires
+    (try-handshakes-claims t) (try-handshakes-at t) try-handshakes.Post
 try-handshakes-try-handshakes-requires t c κs =
     let p = c .before .before .before in
     let e = p .before .before .before .before in

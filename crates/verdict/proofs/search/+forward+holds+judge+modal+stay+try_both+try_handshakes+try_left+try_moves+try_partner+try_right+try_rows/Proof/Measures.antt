@@ -45,7 +45,7 @@ use Rattle.verdict.proofs.back.back_fits.Reads as back-fits-reads
 use Rattle.verdict.proofs.back.last_step.Reads as last-step-reads
 use Rattle.verdict.proofs.grid.rows_before.Reads as rows-before-reads
 use Rattle.verdict.proofs.grid.rows_from.Reads as rows-from-reads
-use Rattle.verdict.proofs.search.is_binary.Reads as is-binary-reads
+use Rattle.verdict.proofs.search.is_connective.Reads as is-connective-reads
 use Rattle.verdict.proofs.trial.grid_by.Reads as grid-by-reads
 use Rattle.verdict.proofs.trial.place_by.Reads as place-by-reads
 use lib.ListN.{length}
@@ -194,8 +194,8 @@ forward-claims t = (
 
 abbrev pub holds-claims : ℕ → holds-lts.Claims
 holds-claims t = (
-  is-binary-reads.Asked,
-  is-binary-reads.Learnt,
+  is-connective-reads.Asked,
+  is-connective-reads.Learnt,
   holds-below t,
   holds.Post,
   judge-below t,
@@ -203,7 +203,7 @@ holds-claims t = (
 )
 
 abbrev pub judge-claims : ℕ → judge-lts.Claims
-judge-claims t = (holds-below t, holds.Post, modal-below t, modal.Post)
+judge-claims t = (modal-below t, modal.Post)
 
 abbrev pub modal-claims : ℕ → modal-lts.Claims
 modal-claims t = (

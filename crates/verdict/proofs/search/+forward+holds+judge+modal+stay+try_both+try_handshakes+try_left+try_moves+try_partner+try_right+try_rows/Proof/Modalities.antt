@@ -39,9 +39,9 @@ pub modal-part-body-end : (t : ℕ)
     → modal-lts.Need-part-body-end (modal-claims t) (modal-at t) modal.Post
 modal-part-body-end t c = omega arith
 
-pub modal-shared-slice-read-t18 : (t : ℕ)
-    → modal-lts.Need-shared-slice-read-t18 (modal-claims t) (modal-at t) modal.Post
-modal-shared-slice-read-t18 t c =
+pub modal-shared-slice-read-t19 : (t : ℕ)
+    → modal-lts.Need-shared-slice-read-t19 (modal-claims t) (modal-at t) modal.Post
+modal-shared-slice-read-t19 t c =
     let s = c .before .before .before .before .before .before in
     let f = s .args .f .now in
     let y = s .pre .1 .1 .0 in
@@ -98,10 +98,38 @@ modal-returns-3 t c =
     let o = back-operator f (y .tree) (s .pre .1 .1 .1) (a .if1 .left) (b .if2 .left) in
     (operands.back-empty _ _ _ f _ _ (y .tree) (y .held) o (c .if3 .taken), refl)
 
+pub modal-shared-slice-read-first : (t : ℕ)
+    → modal-lts.Need-shared-slice-read-first (modal-claims t) (modal-at t) modal.Post
+modal-shared-slice-read-first t c =
+    let e = c .before in
+    let b = e .before in
+    let a = b .before in
+    let s = a .before .before .before .before in
+    let f = s .args .f .now in
+    let y = s .pre .1 .1 .0 in
+    let o = back-operator f (y .tree) (s .pre .1 .1 .1) (a .if1 .left) (b .if2 .left) in
+    let body = operands.back-ready _ _ _ _ f y o (e .if3 .left) in
+    omega (arith, node-room _ (body .tree))
+
+pub modal-returns-4 : (t : ℕ)
+    → modal-lts.Need-returns-4 (modal-claims t) (modal-at t) modal.Post
+modal-returns-4 t c =
+    let e = c .before .before in
+    let b = e .before in
+    let a = b .before in
+    let s = a .before .before .before .before in
+    let f = s .args .f .now in
+    let y = s .pre .1 .1 .0 in
+    let o = back-operator f (y .tree) (s .pre .1 .1 .1) (a .if1 .left) (b .if2 .left) in
+    let body = operands.back-ready _ _ _ _ f y o (e .if3 .left) in (
+      operands.back-false _ _ _ f _ _ (y .tree) (y .held) o (e .if3 .left) (body .tree) (c .if4 .taken),
+      refl,
+    )
+
 pub modal-shared-slice-read-back-fits : (t : ℕ)
     → modal-lts.Need-shared-slice-read-back-fits (modal-claims t) (modal-at t) modal.Post
 modal-shared-slice-read-back-fits t c =
-    let s = c .before .before .before .before .before .before .before in
+    let s = c .before .before .before .before .before .before .before .before .before in
     let f = s .args .f .now in
     let y = s .pre .1 .1 .0 in
     omega (arith, node-room f (y .tree))
@@ -109,7 +137,7 @@ modal-shared-slice-read-back-fits t c =
 pub modal-last-step-requires : (t : ℕ)
     → modal-lts.Need-last-step-requires (modal-claims t) (modal-at t) modal.Post
 modal-last-step-requires t c κs =
-    let e = c .before .before .before in
+    let e = c .before .before .before .before .before in
     let s = e .before .before .before .before .before .before in
     let y = s .pre .1 .1 .0 in
     (e .if3 .left, y .held .within)
@@ -118,12 +146,12 @@ pub modal-back-fits-requires : (t : ℕ)
     → modal-lts.Need-back-fits-requires (modal-claims t) (modal-at t) modal.Post
 modal-back-fits-requires t c κs = tt
 
-pub modal-returns-4 : (t : ℕ)
-    → modal-lts.Need-returns-4 (modal-claims t) (modal-at t) modal.Post
-modal-returns-4 t c =
+pub modal-returns-5 : (t : ℕ)
+    → modal-lts.Need-returns-5 (modal-claims t) (modal-at t) modal.Post
+modal-returns-5 t c =
     let w = c .before in
     let p = w .before in
-    let e = p .before .before .before .before in
+    let e = p .before .before .before .before .before .before in
     let b = e .before in
     let a = b .before in
     let s = a .before .before .before .before in
@@ -131,20 +159,20 @@ modal-returns-4 t c =
     let y = s .pre .1 .1 .0 in
     let o = back-operator f (y .tree) (s .pre .1 .1 .1) (a .if1 .left) (b .if2 .left) in
     let g = rw (p .last-step .ensures) at (w .back-fits .ensures) in (
-      operands.back-other _ _ _ f _ _ (y .tree) (y .held) o (e .if3 .left) _ g (not-true _ (c .if4 .taken)),
+      operands.back-other _ _ _ f _ _ (y .tree) (y .held) o (e .if3 .left) _ g (not-true _ (c .if5 .taken)),
       refl,
     )
 
 pub modal-sub-holds : (t : ℕ)
     → modal-lts.Need-sub-holds (modal-claims t) (modal-at t) modal.Post
 modal-sub-holds t c =
-    let e = c .before .before .before .before .before .before .before in
+    let e = c .before .before .before .before .before .before .before .before .before in
     omega (arith, e .if3 .left)
 
 pub modal-holds-requires : (t : ℕ)
     → modal-lts.Need-holds-requires (modal-claims t) (modal-at t) modal.Post
 modal-holds-requires t c κs =
-    let e = c .before .before .before .before .before .before .before in
+    let e = c .before .before .before .before .before .before .before .before .before in
     let b = e .before in
     let a = b .before in
     let s = a .before .before .before .before in
@@ -155,13 +183,13 @@ modal-holds-requires t c κs =
       (s .pre .1 .0, operands.back-ready _ _ _ _ f y o (e .if3 .left)),
     )
 
-pub modal-returns-5 : (t : ℕ)
-    → modal-lts.Need-returns-5 (modal-claims t) (modal-at t) modal.Post
-modal-returns-5 t c =
+pub modal-returns-6 : (t : ℕ)
+    → modal-lts.Need-returns-6 (modal-claims t) (modal-at t) modal.Post
+modal-returns-6 t c =
     let d = c .before .before in
     let w = d .before in
     let p = w .before in
-    let e = p .before .before .before .before in
+    let e = p .before .before .before .before .before .before in
     let b = e .before in
     let a = b .before in
     let s = a .before .before .before .before in
@@ -169,7 +197,7 @@ modal-returns-5 t c =
     let y = s .pre .1 .1 .0 in
     let o = back-operator f (y .tree) (s .pre .1 .1 .1) (a .if1 .left) (b .if2 .left) in
     let g = rw (p .last-step .ensures) at (w .back-fits .ensures) in (
-      operands.back-same _ _ _ f _ _ (y .tree) (y .held) o (e .if3 .left) _ g _ (not-false _ (d .if4 .left))
+      operands.back-same _ _ _ f _ _ (y .tree) (y .held) o (e .if3 .left) _ g _ (not-false _ (d .if5 .left))
           (c .holds .ensures .0),
       c .holds .ensures .1,
     )

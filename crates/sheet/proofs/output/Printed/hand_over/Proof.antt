@@ -1,11 +1,12 @@
 use borrow.Author.Needs.{needs}
-use Rattle.sheet.proofs.hand_over.Statement.{statement}
-use Rattle.sheet.proofs.hand_over.Tie as tie
+use Rattle.sheet.proofs.output.Printed.hand_over.Statement.{statement}
+use Rattle.sheet.proofs.output.Printed.hand_over.Tie as tie
 use mathlib.Core.Path.{sym}
+use native.Mathlib.Omega.{arith}
 use lib.Seq.{length-take-le}
 
 slice-aggregate-write-all : tie.Need-slice-aggregate-write-all
-slice-aggregate-write-all c = sym (length-take-le _ _ (c .before .before .before .pre .1))
+slice-aggregate-write-all c = sym (length-take-le _ _ (omega arith))
 
 write-all-requires : tie.Need-write-all-requires
 write-all-requires c κs = search needs
