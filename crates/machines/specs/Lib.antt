@@ -1,3 +1,3 @@
-pub mod Joints
 pub mod Steps
+pub mod Joints
 pub mod Working

@@ -1,3 +1,3 @@
 pub mod Calls
-pub mod Working
 pub mod Demand
+pub mod Working

@@ -14,8 +14,8 @@ use Rattle.casebook.specs.declared.read.Reading.the-variants as reading
 use Rattle.splitting.specs.Splittings.{countOf}
 use Rattle.splitting.specs.declared.count.Counted.{Counted}
 use Rattle.splitting.specs.declared.count.Counted.the-variants as count
-use Rattle.sheet_lines.specs.Sheets.{partsLines, readLines, sheetOf, bytesOf, fitting, linesDue}
-use Rattle.sheet_lines.specs.Blocks.{blockFrom, blockOf}
+use Rattle.sheet_lines.specs.Sheets.{partsLines, readLines, sheetOf, bytesOf, fitting, linesDue, blockOf}
+use Rattle.sheet_lines.specs.Blocks.{blockFrom}
 use Rattle.sheet_lines.specs.Working.{Asked, numberedLine, fittedOf, fittedOutput}
 use Rattle.sheet_lines.specs.declared.lines.Fitted.{Fitted}
 use Rattle.sheet_lines.proofs.Filling.{length-listed}

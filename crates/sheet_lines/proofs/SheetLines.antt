@@ -15,7 +15,7 @@ use Rattle.machines.specs.Joints.{jointOf}
 use Rattle.labels.specs.Refusals.{inFront}
 use Rattle.labels.specs.declared.refusal.Refusal.the-variants.{OutputTooShort}
 use Rattle.sheet_lines.specs.Sheets.{lineOf, linesOf, listed, bytesOf, fitting, firstTooLong, checkRoom}
-use Rattle.sheet_lines.specs.Sheets.{writtenOr, blockAnswer, blockOutput}
+use Rattle.sheet_lines.specs.Sheets.{blockOf, writtenOr, blockAnswer, blockOutput}
 use Rattle.sheet_lines.specs.Working.{putAt, Full, numberedLine, fittedOf, fittedOutput}
 use Rattle.sheet_lines.specs.declared.lines.Fitted.{Fitted}
 use Rattle.sheet_lines.specs.declared.lines.Lines.the-variants as answer
@@ -201,7 +201,7 @@ module _ (due : List (List ℕ)) (out : List ℕ) (f : Fitted) (e : f ≡ fitted
   pub fits-answer : f .short ≡ false
       → (answer.Written (record { lines = f .lines; bytes = f .bytes }) ≡ blockAnswer due (length out))
       × (fittedOutput due out ≡ blockOutput due out)
-  unfolding blockAnswer blockOutput checkRoom writtenOr fittedOf fittedOutput
+  unfolding blockAnswer blockOutput checkRoom writtenOr blockOf fittedOf fittedOutput
   fits-answer t =
       let z = sym short-is ∙ t in
       rw z (ap (λ (x : Fitted). answer.Written (record { lines = x .lines; bytes = x .bytes })) e, refl)

@@ -17,8 +17,8 @@ use Rattle.hml.specs.Lists.{_∈_}
 use Rattle.labels.specs.Refusals.{inFront}
 use Rattle.labels.specs.declared.refusal.Refusal.{Refusal}
 use Rattle.sheet_lines.specs.Sheets.{sheetOf, bytesOf, fitting, linesDue, firstTooLong, checkRoom, writtenOr}
-use Rattle.sheet_lines.specs.Sheets.{blockAnswer, blockOutput}
-use Rattle.sheet_lines.specs.Blocks.{blockRoom, blockFrom, blockOf}
+use Rattle.sheet_lines.specs.Sheets.{blockOf, blockAnswer, blockOutput}
+use Rattle.sheet_lines.specs.Blocks.{blockRoom, blockFrom}
 use Rattle.sheet_lines.specs.declared.lines.Block.{Block}
 use Rattle.sheet_lines.specs.declared.lines.Lines.{Lines}
 use Rattle.sheet_lines.specs.declared.lines.Lines.the-variants as answer
@@ -126,17 +126,11 @@ module _ (s : List ℕ) (first most room : ℕ) where
   abbrev block : List (List ℕ)
   block = fitting room due
 
-  length-due : (length due ≤ most) × (length due ≤ length (sheetOf s) - first)
-  length-due =
-      let a = length-take most (drop first (sheetOf s)) in
-      let b = length-drop first (sheetOf s) in
-      (omega (arith, a, b), omega (arith, a, b))
-
-  block-few : (length block ≤ most) × (length block ≤ length (sheetOf s) - first)
-  block-few = let a = fitting-few room due in (omega (arith, a, length-due), omega (arith, a, length-due))
+  block-few : length block ≤ most
+  block-few = omega (arith, fitting-few room due, length-take most (drop first (sheetOf s)))
 
   block-is : block ≡ take (length block) (drop first (sheetOf s))
-  block-is = fitting-front room due ∙ take-take (length block) most (drop first (sheetOf s)) (block-few .0)
+  block-is = fitting-front room due ∙ take-take (length block) most (drop first (sheetOf s)) block-few
 
   -- it and the lines behind it
   block-behind : bytesOf block ++ bytesOf (drop (first + length block) (sheetOf s)) ≡ bytesOf (drop first (sheetOf s))
@@ -166,18 +160,18 @@ module _ (s : List ℕ) (first : ℕ) (c : Call) (roomy : Roomy c) where
   fits : firstTooLong (length (c .out)) (due s first (c .most) (length (c .out))) ≡ false
   fits = not-short (length (c .out)) _ (due-short s first (c .most) (length (c .out)) (roomy .room))
 
-  answered : answerTo s first c ≡ answer.Written (record { lines = length lines; bytes = length (bytesOf lines) })
+  answered : answerTo s first c ≡ answer.Written (blockOf lines)
   unfolding blockAnswer linesDue checkRoom writtenOr
   answered = rw fits
 
   bytes-are : bytesBy (answerTo s first c) (outputAfter s first c) ≡ bytesOf lines
-  unfolding bytesBy blockOutput linesDue checkRoom inFront
+  unfolding bytesBy blockOf blockOutput linesDue checkRoom inFront
   bytes-are =
       rw (answered, fits)
       (take-at (bytesOf lines) (drop (length (bytesOf lines)) (c .out)) (length (bytesOf lines)) refl)
 
   lines-are : linesBy (answerTo s first c) ≡ length lines
-  unfolding linesBy
+  unfolding linesBy blockOf
   lines-are = rw answered
 
 -- calls one after the other
@@ -200,7 +194,6 @@ module _ (s : List ℕ) where
   all-front first (c ∷ calls) roomy =
       let r = roomy c (here refl) in
       let b = lines s first c r in
-      let n = length b in
       let next = first + linesBy (answerTo s first c) in
       let h = all-front next calls (λ d m. roomy d (there m)) in
       ap (λ x. (x ++ printed s next calls) ++ bytesOf (drop (reached s next calls) (sheetOf s))) (bytes-are s first c r)

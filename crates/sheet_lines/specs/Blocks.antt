@@ -2,9 +2,8 @@
 -- whole. No line is longer than 16,399 bytes, so there is one in each block until none is left (proofs/WholeSheet).
 use Prim.Native.Nat.{ℕ}
 use mathlib.Core.List.{List}
-use lib.ListN.{length, drop}
-use Rattle.sheet_lines.specs.Sheets.{sheetOf, bytesOf, fitting}
-use Rattle.sheet_lines.specs.declared.lines.Block.{Block}
+use lib.ListN.{drop}
+use Rattle.sheet_lines.specs.Sheets.{sheetOf, fitting}
 
 -- room for a block
 abbrev pub blockRoom : ℕ
@@ -13,7 +12,3 @@ blockRoom = 3145728
 -- the lines of the block that begins with line `first`
 unfoldable pub blockFrom : List ℕ → ℕ → List (List ℕ)
 blockFrom s first = fitting blockRoom (drop first (sheetOf s))
-
--- how many lines a block has, and how many bytes they are
-unfoldable pub blockOf : List (List ℕ) → Block
-blockOf lines = record { lines = length lines; bytes = length (bytesOf lines) }

@@ -1,4 +1,4 @@
-pub mod Blocks
 pub mod Digits
 pub mod Sheets
+pub mod Blocks
 pub mod Working

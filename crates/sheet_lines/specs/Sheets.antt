@@ -29,6 +29,7 @@ use Rattle.dividing.specs.declared.divide.Quotient.{Quotient}
 use Rattle.dividing.specs.declared.divide.Quotient.the-variants as quotient
 use Rattle.quotient.specs.Calls.{treeByNumber, byNumber}
 use Rattle.sheet_lines.specs.Digits.{decimal, hexadecimal}
+use Rattle.sheet_lines.specs.declared.lines.Block.{Block}
 use Rattle.sheet_lines.specs.declared.lines.Lines.{Lines}
 use Rattle.sheet_lines.specs.declared.lines.Lines.the-variants as answer
 
@@ -48,8 +49,8 @@ letterOf verdict.Holds = 84
 letterOf verdict.Fails = 70
 letterOf (verdict.Refused x) = dash
 
--- the two last fields and the line feed, from what the quotient's call answers, the quotient's bytes and the last verdict's letter: "If refused, the
--- quotient shows as 17 and the last field as -"
+-- the two last fields and the line feed, from what the quotient's call answers, the quotient's bytes and the last
+-- verdict's letter: "If refused, the quotient shows as 17 and the last field as -"
 unfoldable pub endingOf : Quotient → List ℕ → ℕ → List ℕ
 endingOf (quotient.Written n) text letter = hexadecimal text ++ (blank ∷ letter ∷ lineFeed ∷ [])
 endingOf (quotient.Refused x) text letter = decimal (numberOf x) ++ (blank ∷ dash ∷ lineFeed ∷ [])
@@ -69,10 +70,12 @@ quotientAt k l r s f point n = byNumber k l r s f n side.Right point textRoom
 unfoldable pub textAt : ℕ → List ℕ → List ℕ → List ℕ → List ℕ → ℕ → ℕ → List ℕ
 textAt k l r s f point n = textOf (treeByNumber k l r s f n side.Right point)
 
--- a line: "point, splitting number, joint verdict (T or F), quotient by the right half in lower-case hexadecimal, left half's verdict, all three at that point"
+-- a line: "point, splitting number, joint verdict (T or F), quotient by the right half in lower-case hexadecimal, left
+-- half's verdict, all three at that point"
 unfoldable pub lineOf : ℕ → List ℕ → List ℕ → List ℕ → List ℕ → ℕ → ℕ → List ℕ
 lineOf k l r s f point n = headOf point n (letterOf (jointVerdict k l r s f point))
-    ++ endingOf (quotientAt k l r s f point n) (textAt k l r s f point n) (letterOf (halfVerdict k l (leftHalf k l r s n) (textAt k l r s f point n) point))
+    ++ endingOf (quotientAt k l r s f point n) (textAt k l r s f point n)
+    (letterOf (halfVerdict k l (leftHalf k l r s n) (textAt k l r s f point n) point))
 
 -- what g gives from i on, so many times
 unfoldable pub listed : {A : Type 0} → (ℕ → A) → ℕ → ℕ → List A
@@ -81,7 +84,8 @@ listed g i (suc m) = g i ∷ listed g (suc i) m
 
 -- "For each point from 0, and within it each splitting of the whole run, it prints a line"
 unfoldable pub linesOf : ℕ → List ℕ → List ℕ → List ℕ → List ℕ → ℕ → List (List ℕ)
-linesOf k l r s f count = each (λ point. listed (lineOf k l r s f point) 0 count) (listed (λ point. point) 0 (suc (steps (jointOf s))))
+linesOf k l r s f count =
+    each (λ point. listed (lineOf k l r s f point) 0 count) (listed (λ point. point) 0 (suc (steps (jointOf s))))
 
 -- "A refused casebook or count prints only one line, as `R 8`"
 unfoldable pub refusedLine : Refusal → List ℕ
@@ -95,7 +99,8 @@ unfoldable pub partsLines : ℕ → List ℕ → List ℕ → List ℕ → List 
 partsLines k l r s f = countedLines (countOf k l r s) (linesOf k l r s f)
 
 unfoldable pub readLines : List ℕ → Reading → List (List ℕ)
-readLines s (reading.Casebook c) = partsLines (c .pairs) (bodyOf s (c .left)) (bodyOf s (c .right)) (bodyOf s (c .run)) (bodyOf s (c .question))
+readLines s (reading.Casebook c) =
+    partsLines (c .pairs) (bodyOf s (c .left)) (bodyOf s (c .right)) (bodyOf s (c .run)) (bodyOf s (c .question))
 readLines s (reading.Refused x) = refusedLine x ∷ []
 
 -- the sheet of any bytes
@@ -124,9 +129,13 @@ firstTooLong room (line ∷ due) = ltb room (length line)
 unfoldable pub checkRoom : List (List ℕ) → ℕ → Check
 checkRoom due room = refusedIf (firstTooLong room due) OutputTooShort
 
--- the answer: how many lines were written, and how many bytes they are; and the lent output afterwards
+-- how many lines were written, and how many bytes they are
+unfoldable pub blockOf : List (List ℕ) → Block
+blockOf block = record { lines = length block; bytes = length (bytesOf block) }
+
+-- the answer; and the lent output afterwards
 unfoldable pub writtenOr : Check → List (List ℕ) → Lines
-writtenOr check.Sound block = answer.Written (record { lines = length block; bytes = length (bytesOf block) })
+writtenOr check.Sound block = answer.Written (blockOf block)
 writtenOr (check.Refused x) block = answer.Refused x
 
 unfoldable pub blockAnswer : List (List ℕ) → ℕ → Lines

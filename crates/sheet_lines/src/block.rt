@@ -3,8 +3,8 @@ use crate::lines::Block;
 use crate::lines::fit_lines;
 ghost use mathlib.Core.Path.{_≡_};
 ghost use Rattle.labels.specs.Refusals.{inFront};
-ghost use Rattle.sheet_lines.specs.Sheets.{bytesOf};
-ghost use Rattle.sheet_lines.specs.Blocks.{blockFrom, blockOf};
+ghost use Rattle.sheet_lines.specs.Sheets.{bytesOf, blockOf};
+ghost use Rattle.sheet_lines.specs.Blocks.{blockFrom};
 
 // Writes the block of the sheet of any bytes that begins with line `first`. It has no line only if none is left, for a
 // line always fits. No sheet has over 13,172,535 lines: 201 points, and 65,535 splittings.

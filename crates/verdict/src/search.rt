@@ -149,7 +149,7 @@ fn modal<'a>(
     if len < 5 {
         return false;
     }
-    // False holds before no step.
+    // False held at no point before.
     let first = body[0];
     if first == 1 {
         return false;
