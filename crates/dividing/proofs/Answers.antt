@@ -28,7 +28,8 @@ pub text-length : (ψ : Formula) → length (spell ψ []) ≡ 2 * size ψ
 text-length ψ = omega (arith, length-spell ψ [])
 
 -- after a refusal every lent byte keeps its value
-pub refused-kept : (parts : Check) (tree : Option Formula) (out : List ℕ) (x : Refusal) → answerOf parts tree (length out) ≡ answer.Refused x → out ≡ outputAfter parts tree out
+pub refused-kept : (parts : Check) (tree : Option Formula) (out : List ℕ) (x : Refusal)
+    → answerOf parts tree (length out) ≡ answer.Refused x → out ≡ outputAfter parts tree out
 unfolding answerOf outputAfter
 refused-kept parts tree out x e = go (checkTree parts tree (length out)) e
   where
@@ -37,7 +38,8 @@ refused-kept parts tree out x e = go (checkTree parts tree (length out)) e
     go (Refused y) e = refl
 
 -- a part that is refused refuses the call
-pub part-refused : (parts : Check) (tree : Option Formula) (out : List ℕ) (x : Refusal) → parts ≡ Refused x → (answer.Refused x ≡ answerOf parts tree (length out)) × (out ≡ outputAfter parts tree out)
+pub part-refused : (parts : Check) (tree : Option Formula) (out : List ℕ) (x : Refusal) → parts ≡ Refused x
+    → (answer.Refused x ≡ answerOf parts tree (length out)) × (out ≡ outputAfter parts tree out)
 unfolding answerOf outputAfter checkTree firstOf
 part-refused parts tree out x e = rw e (refl, refl)
 
@@ -59,21 +61,31 @@ module _ (ψ : Formula) where
     enough-room room i = rw (le-ltb 4096 (size ψ) h, le-ltb room (2 * size ψ) i)
 
     -- in front of what the lent bytes past them were
-    pub text-output : (out : List ℕ) → 2 * size ψ ≤ length out → outputAfter Sound (some ψ) out ≡ spell ψ [] ++ drop (2 * size ψ) out
+    pub text-output : (out : List ℕ) → 2 * size ψ ≤ length out
+        → outputAfter Sound (some ψ) out ≡ spell ψ [] ++ drop (2 * size ψ) out
     unfolding outputAfter checkTree checkSize firstOf nodesOf textOf inFront
     text-output out i = rw (le-ltb 4096 (size ψ) h, le-ltb (length out) (2 * size ψ) i, text-length ψ)
 
-    pub text-written : (out : List ℕ) → 2 * size ψ ≤ length out → take (2 * size ψ) (outputAfter Sound (some ψ) out) ≡ spell ψ []
-    text-written out i = rw (text-output out i) (take-at (spell ψ []) (drop (2 * size ψ) out) (2 * size ψ) (text-length ψ))
+    pub text-written : (out : List ℕ) → 2 * size ψ ≤ length out
+        → take (2 * size ψ) (outputAfter Sound (some ψ) out) ≡ spell ψ []
+    text-written out i =
+        rw (text-output out i) (take-at (spell ψ []) (drop (2 * size ψ) out) (2 * size ψ) (text-length ψ))
 
-    pub rest-kept : (out : List ℕ) → 2 * size ψ ≤ length out → drop (2 * size ψ) (outputAfter Sound (some ψ) out) ≡ drop (2 * size ψ) out
+    pub rest-kept : (out : List ℕ) → 2 * size ψ ≤ length out
+        → drop (2 * size ψ) (outputAfter Sound (some ψ) out) ≡ drop (2 * size ψ) out
     rest-kept out i = rw (text-output out i) (drop-at (spell ψ []) (drop (2 * size ψ) out) (2 * size ψ) (text-length ψ))
 
   -- 17 comes for no other reason
-  pub exactly-too-large : (room : ℕ) → (answerOf Sound (some ψ) room ≡ answer.Refused QuotientTooLarge) ↔ (quotientLimit < size ψ)
+  pub exactly-too-large : (room : ℕ)
+      → (answerOf Sound (some ψ) room ≡ answer.Refused QuotientTooLarge) ↔ (quotientLimit < size ψ)
   exactly-too-large room = (λ e. go (ltb 4096 (size ψ)) (ltb room (2 * size ψ)) refl refl e, λ h. too-large h room)
     where
-      go : (a b : Bool) → ltb 4096 (size ψ) ≡ a → ltb room (2 * size ψ) ≡ b → answerOf Sound (some ψ) room ≡ answer.Refused QuotientTooLarge → quotientLimit < size ψ
+      go : (a b : Bool) → ltb 4096 (size ψ) ≡ a → ltb room (2 * size ψ) ≡ b
+          → answerOf Sound (some ψ) room ≡ answer.Refused QuotientTooLarge → quotientLimit < size ψ
       go true b p q e = ltb-true 4096 (size ψ) p
-      go false true p q e = let z = sym (too-short (ltb-false 4096 (size ψ) p) room (ltb-true room (2 * size ψ) q)) ∙ e in absurd (apart cc)
-      go false false p q e = let z = sym (enough-room (ltb-false 4096 (size ψ) p) room (ltb-false room (2 * size ψ) q)) ∙ e in absurd (apart cc)
+      go false true p q e =
+          let z = sym (too-short (ltb-false 4096 (size ψ) p) room (ltb-true room (2 * size ψ) q)) ∙ e in
+          absurd (apart cc)
+      go false false p q e =
+          let z = sym (enough-room (ltb-false 4096 (size ψ) p) room (ltb-false room (2 * size ψ) q)) ∙ e in
+          absurd (apart cc)

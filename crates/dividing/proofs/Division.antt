@@ -50,12 +50,14 @@ module _ (k : ℕ) (t h f : List ℕ) where
 
   module _ (e : checkPairs k ≡ Sound) where
     -- the question is sound: the table and the half of it are left
-    pub question-sound : (c : Check) → checkFormula k questionLimit f ≡ Sound → c ≡ checkTableAndHalf k t h → c ≡ checkDivision k t h f
+    pub question-sound : (c : Check) → checkFormula k questionLimit f ≡ Sound → c ≡ checkTableAndHalf k t h
+        → c ≡ checkDivision k t h f
     unfolding checkDivision checkTableAndHalf firstOf
     question-sound c q p = rw (e, q) p
 
     -- it is not: the table's numbers come before its own
-    pub question-refused : (c d : Check) (x : Refusal) → checkFormula k questionLimit f ≡ Refused x → d ≡ checkTable k t → c ≡ thenOf d (Refused x) → c ≡ checkDivision k t h f
+    pub question-refused : (c d : Check) (x : Refusal) → checkFormula k questionLimit f ≡ Refused x → d ≡ checkTable k t
+        → c ≡ thenOf d (Refused x) → c ≡ checkDivision k t h f
     unfolding checkDivision firstOf
     question-refused c d x q b p = rw (e, q, ← b) p
 
@@ -65,8 +67,11 @@ module _ (k : ℕ) (t h f : List ℕ) where
   division-sound e =
       let (p, a) = both-sound (checkPairs k) _ e in
       let (u, b) = both-sound (checkTable k t) _ a in
-      let (v, c) = both-sound (checkFormula k questionLimit f) _ b in
-      (sound-table k t u, passed (isHalfRun t h) _ (both-sound (checkHalf t h) Sound c .0), judges (judged-formula k questionLimit f) .0 v)
+      let (v, c) = both-sound (checkFormula k questionLimit f) _ b in (
+        sound-table k t u,
+        passed (isHalfRun t h) _ (both-sound (checkHalf t h) Sound c .0),
+        judges (judged-formula k questionLimit f) .0 v,
+      )
 
 -- the output is shorter than the question
 pub room-missing : (f : List ℕ) (room : ℕ) → room < length f → false ≡ surelyFits f room
@@ -78,75 +83,98 @@ pub forwards-seen : (f : List ℕ) (room : ℕ) → length f ≤ room → (n : �
 unfolding surelyFits
 forwards-seen f room h n e = rw (le-leb (length f) room h, e)
 
-module _ (labels : Labels) (t h f : List ℕ) (run : isHalfRun t h ≡ true) (legal : Legal (labels .pairs) questionLimit f) where
-  -- the tree of the quotient
-  pub tree : Formula
-  tree = quotient (pairs (labels .pairs)) (tableOf t) (treeOf f) (halfOf h)
+module _ (labels : Labels) (t h f : List ℕ) (run : isHalfRun t h ≡ true) (legal : Legal (labels .pairs) questionLimit f)
+  where
+    -- the tree of the quotient
+    pub tree : Formula
+    tree = quotient (pairs (labels .pairs)) (tableOf t) (treeOf f) (halfOf h)
 
-  tree-is : quotientBy (labels .pairs) t (halfOf h) f ≡ some tree
-  unfolding quotientBy treeBy tree
-  tree-is = rw (legal-tree (labels .pairs) questionLimit f legal)
+    tree-is : quotientBy (labels .pairs) t (halfOf h) f ≡ some tree
+    unfolding quotientBy treeBy tree
+    tree-is = rw (legal-tree (labels .pairs) questionLimit f legal)
 
-  -- neither 17 nor 18 with so many bytes lent
-  abbrev pub Fits : ℕ → Type 0
-  Fits room = (size tree ≤ quotientLimit) × (2 * size tree ≤ room)
+    -- neither 17 nor 18 with so many bytes lent
+    abbrev pub Fits : ℕ → Type 0
+    Fits room = (size tree ≤ quotientLimit) × (2 * size tree ≤ room)
 
-  -- a question without forward modalities has at least the nodes of its quotient, and 64 at most
-  pub sure-fits : (room : ℕ) → surelyFits f room ≡ true → Fits room
-  unfolding surelyFits tree Legal Tree
-  sure-fits room e =
-      let (long, none) = both-true {a = leb (length f) room} e in
-      let (φ, s, z, l, d) = legal in
-      let flat : nesting (treeOf f) ≡ 0 = omega (arith, nesting-forwards f (φ, [], s), eqb-true (forwardsIn f) _ none) in
-      omega (arith, quotient-size (pairs (labels .pairs)) (tableOf t) (treeOf f) (halfOf h) flat, tree-some f (φ, [], s), formula-length f φ s, z, leb-true (length f) room long)
+    -- a question without forward modalities has at least the nodes of its quotient, and 64 at most
+    pub sure-fits : (room : ℕ) → surelyFits f room ≡ true → Fits room
+    unfolding surelyFits tree Legal Tree
+    sure-fits room e =
+        let (long, none) = both-true {a = leb (length f) room} e in
+        let (φ, s, z, l, d) = legal in
+        let flat : nesting (treeOf f) ≡ 0 = omega
+        (arith, nesting-forwards f (φ, [], s), eqb-true (forwardsIn f) _ none) in
+        omega (
+          arith,
+          quotient-size (pairs (labels .pairs)) (tableOf t) (treeOf f) (halfOf h) flat,
+          tree-some f (φ, [], s),
+          formula-length f φ s,
+          z,
+          leb-true (length f) room long,
+        )
 
-  module _ (xs : List ℕ) (c : take (length h) xs ≡ h) where
-    -- the copied half and the question are ready for the count and the writing
-    pub question-ready : (sizes : List ℕ) → length sizes ≡ 64 → length xs ≡ 409 → Ready (sizesOver f sizes) xs (length h) 0 f
-    question-ready sizes z w =
-        let a = accepted-half t h run in
-        let n : length h ≤ 401 = omega (arith, a .counted, a .few, a .odd) in
-        record {
-          part = legal-part (labels .pairs) questionLimit f legal sizes (omega (arith, z));
-          held = held-copied h xs (length h) (accepted-held t h run) (c ∙ sym (take-length h)) (omega (arith, n, w));
-          room = omega (arith, legal-nesting (labels .pairs) questionLimit f legal, n, w);
-          size = w;
-          slots = length-over f sizes ∙ z;
-        }
+    module _ (xs : List ℕ) (c : take (length h) xs ≡ h) where
+      -- the copied half and the question are ready for the count and the writing
+      pub question-ready : (sizes : List ℕ) → length sizes ≡ 64 → length xs ≡ 409
+          → Ready (sizesOver f sizes) xs (length h) 0 f
+      question-ready sizes z w =
+          let a = accepted-half t h run in
+          let n : length h ≤ 401 = omega (arith, a .counted, a .few, a .odd) in
+          record {
+            part = legal-part (labels .pairs) questionLimit f legal sizes (omega (arith, z));
+            held = held-copied h xs (length h) (accepted-held t h run) (c ∙ sym (take-length h)) (omega (arith, n, w));
+            room = omega (arith, legal-nesting (labels .pairs) questionLimit f legal, n, w);
+            size = w;
+            slots = length-over f sizes ∙ z;
+          }
 
-    text-is : text labels t f (halfOf (take (length h) xs)) ≡ spell tree []
-    unfolding text pairing tree
-    text-is = rw c
+      text-is : text labels t f (halfOf (take (length h) xs)) ≡ spell tree []
+      unfolding text pairing tree
+      text-is = rw c
 
-    text-size : length (text labels t f (halfOf (take (length h) xs))) ≡ 2 * size tree
-    text-size = omega (arith, ap length text-is, length-spell tree [])
+      text-size : length (text labels t f (halfOf (take (length h) xs))) ≡ 2 * size tree
+      text-size = omega (arith, ap length text-is, length-spell tree [])
 
-    -- what the count says of the size
-    module _ (n : ℕ) (e : 2 * n ≡ min (length (text labels t f (halfOf (take (length h) xs)))) (2 * 4096 + 2)) where
-      pub answer-large : (out : List ℕ) → 4096 < n → (answer.Refused QuotientTooLarge ≡ answerOf Sound (quotientBy (labels .pairs) t (halfOf h) f) (length out))
-          × (out ≡ outputAfter Sound (quotientBy (labels .pairs) t (halfOf h) f) out)
-      answer-large out h = rw tree-is (let a = too-large tree (omega (arith, e, text-size, h)) (length out) in (sym a, refused-kept Sound (some tree) out QuotientTooLarge a))
-
-      module _ (small : n ≤ 4096) where
-        counted-size : n ≡ size tree
-        counted-size = omega (arith, e, text-size, small)
-
-        pub answer-short : (out : List ℕ) → length out < 2 * n → (answer.Refused OutputTooShort ≡ answerOf Sound (quotientBy (labels .pairs) t (halfOf h) f) (length out))
+      -- what the count says of the size
+      module _ (n : ℕ) (e : 2 * n ≡ min (length (text labels t f (halfOf (take (length h) xs)))) (2 * 4096 + 2)) where
+        pub answer-large : (out : List ℕ) → 4096 < n
+            → (answer.Refused QuotientTooLarge
+            ≡ answerOf Sound (quotientBy (labels .pairs) t (halfOf h) f) (length out))
             × (out ≡ outputAfter Sound (quotientBy (labels .pairs) t (halfOf h) f) out)
-        answer-short out h = rw tree-is (let a = too-short tree (omega (arith, counted-size, small)) (length out) (omega (arith, counted-size, h)) in (sym a, refused-kept Sound (some tree) out OutputTooShort a))
+        answer-large out h =
+            rw tree-is (let a = too-large tree (omega (arith, e, text-size, h))
+            (length out) in (sym a, refused-kept Sound (some tree) out QuotientTooLarge a))
 
-        -- what is counted within the limit and the room fits
-        pub counted-fits : (out : List ℕ) → 2 * n ≤ length out → Fits (length out)
-        counted-fits out room = omega (arith, counted-size, small, room)
+        module _ (small : n ≤ 4096) where
+          counted-size : n ≡ size tree
+          counted-size = omega (arith, e, text-size, small)
 
-    module _ (out : List ℕ) (fits : Fits (length out)) where
-      -- a quotient that fits is written, and its length is the answer
-      pub text-fits : length (text labels t f (halfOf (take (length h) xs))) ≤ length out
-      text-fits = omega (arith, text-size, fits)
+          pub answer-short : (out : List ℕ) → length out < 2 * n
+              → (answer.Refused OutputTooShort
+              ≡ answerOf Sound (quotientBy (labels .pairs) t (halfOf h) f) (length out))
+              × (out ≡ outputAfter Sound (quotientBy (labels .pairs) t (halfOf h) f) out)
+          answer-short out h =
+              rw tree-is (let a = too-short tree (omega (arith, counted-size, small)) (length out)
+              (omega (arith, counted-size, h)) in (sym a, refused-kept Sound (some tree) out OutputTooShort a))
 
-      pub answer-written : (m : ℕ) (zs : List ℕ) → m ≡ length (text labels t f (halfOf (take (length h) xs))) → zs ≡ inFront (text labels t f (halfOf (take (length h) xs))) out
-          → (answer.Written m ≡ answerOf Sound (quotientBy (labels .pairs) t (halfOf h) f) (length out)) × (zs ≡ outputAfter Sound (quotientBy (labels .pairs) t (halfOf h) f) out)
-      unfolding inFront
-      answer-written m zs p q =
-          let (s, r) = fits in
-          rw tree-is (rw (p, text-size) (sym (enough-room tree s (length out) r)), q ∙ rw (text-is, text-length tree) (sym (text-output tree s out r)))
+          -- what is counted within the limit and the room fits
+          pub counted-fits : (out : List ℕ) → 2 * n ≤ length out → Fits (length out)
+          counted-fits out room = omega (arith, counted-size, small, room)
+
+      module _ (out : List ℕ) (fits : Fits (length out)) where
+        -- a quotient that fits is written, and its length is the answer
+        pub text-fits : length (text labels t f (halfOf (take (length h) xs))) ≤ length out
+        text-fits = omega (arith, text-size, fits)
+
+        pub answer-written : (m : ℕ) (zs : List ℕ) → m ≡ length (text labels t f (halfOf (take (length h) xs)))
+            → zs ≡ inFront (text labels t f (halfOf (take (length h) xs))) out
+            → (answer.Written m ≡ answerOf Sound (quotientBy (labels .pairs) t (halfOf h) f) (length out))
+            × (zs ≡ outputAfter Sound (quotientBy (labels .pairs) t (halfOf h) f) out)
+        unfolding inFront
+        answer-written m zs p q =
+            let (s, r) = fits in
+            rw tree-is (
+              rw (p, text-size) (sym (enough-room tree s (length out) r)),
+              q ∙ rw (text-is, text-length tree) (sym (text-output tree s out r)),
+            )

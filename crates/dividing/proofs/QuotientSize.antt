@@ -24,11 +24,13 @@ module _ (P : Pairing) {T : Type 0} (K : System T) where
   quotient-size top r h = omega arith
   quotient-size bottom r h = omega arith
   quotient-size (not φ) r h = omega (arith, quotient-size φ r h)
-  quotient-size (and φ ψ) r h = omega (arith, quotient-size φ r (omega (arith, h)), quotient-size ψ r (omega (arith, h)))
+  quotient-size (and φ ψ) r h =
+      omega (arith, quotient-size φ r (omega (arith, h)), quotient-size ψ r (omega (arith, h)))
   quotient-size (or φ ψ) r h = omega (arith, quotient-size φ r (omega (arith, h)), quotient-size ψ r (omega (arith, h)))
   quotient-size (fwd a φ) r h = absurd (omega (arith, h))
   quotient-size (back a φ) (start q) h = omega arith
-  quotient-size (back a φ) (r ▸ move b q) h = omega (arith, back-size (same b a) (same 0 a) (P .partner b) (quotient P K φ r), quotient-size φ r h)
+  quotient-size (back a φ) (r ▸ move b q) h =
+      omega (arith, back-size (same b a) (same 0 a) (P .partner b) (quotient P K φ r), quotient-size φ r h)
   quotient-size (back a φ) (r ▸ idle) h = omega (arith, quotient-size φ r h)
   quotient-size (fwdIdle φ) r h = absurd (omega (arith, h))
   quotient-size (backIdle φ) (start q) h = omega arith

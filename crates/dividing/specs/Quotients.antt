@@ -1,6 +1,6 @@
 -- Quotients: document 01, "The quotient", and the numbers 17 and 18.
--- What a quotient is, is the theory's to say: `quotient` in hml's Quotient has table 1 of source document 000 as document 01 writes it out, and
--- `spell` in Spell the bytes of a formula.
+-- What a quotient is, is the theory's to say: `quotient` in hml's Quotient has table 1 of source document 000 as
+-- document 01 writes it out, and `spell` in Spell the bytes of a formula.
 use Prim.Native.Nat.{ℕ, _*_}
 use mathlib.Core.List.{List, [], _∷_}
 use mathlib.Core.Option.{Option, none, some}
@@ -43,9 +43,11 @@ textOf (some φ) = spell φ []
 unfoldable pub checkSize : Option Formula → Check
 checkSize tree = refusedIf (ltb quotientLimit (nodesOf tree)) QuotientTooLarge
 
--- behind the checks of a call's parts, 17; then 18, with so many bytes lent: "otherwise only an output under two bytes a node is refused"
+-- behind the checks of a call's parts, 17; then 18, with so many bytes lent: "otherwise only an output under two bytes
+-- a node is refused"
 unfoldable pub checkTree : Check → Option Formula → ℕ → Check
-checkTree parts tree room = firstOf (parts ∷ checkSize tree ∷ refusedIf (ltb room (2 * nodesOf tree)) OutputTooShort ∷ [])
+checkTree parts tree room =
+    firstOf (parts ∷ checkSize tree ∷ refusedIf (ltb room (2 * nodesOf tree)) OutputTooShort ∷ [])
 
 -- the answer: how many bytes were written
 abbrev pub written : Check → ℕ → Quotient

@@ -1,5 +1,5 @@
-// The disjuncts of a forward modality's quotient, listed in order, four bytes each: the operator and label of the disjunct's node, then the
-// label and target of the step by which the known half goes on there.
+// The disjuncts of a forward modality's quotient, listed in order, four bytes each: the operator and label of the
+// disjunct's node, then the label and target of the step by which the known half goes on there.
 use labels::label::Label;
 use labels::label::Labels;
 use labels::label::Partner;
@@ -14,8 +14,8 @@ ghost use Rattle.tables.specs.Working.{movesIn};
 ghost use Rattle.labels.specs.Working.{pairing};
 ghost use Rattle.dividing.specs.Working.{disjunctsOf, aloneIn, shakenIn};
 
-// Lists the disjuncts of forward by a label (operator 5) or by idle (7), where the known half ends in this state: an idle of the known half
-// first, then its moves alone, then its parts in handshakes. Gives how many bytes they are.
+// Lists the disjuncts of forward by a label (operator 5) or by idle (7), where the known half ends in this state: an
+// idle of the known half first, then its moves alone, then its parts in handshakes. Gives how many bytes they are.
 pub(crate) fn list_disjuncts(
     labels: Labels,
     table: &[u8],
@@ -27,7 +27,8 @@ pub(crate) fn list_disjuncts(
     requires { ⌜ SoundTable (labels .pairs) (now table) ⌝ }
     requires { ⌜ 68 ≤ length (now out) ⌝ }
     ensures { λ r. ⌜ r ≡ length (disjunctsOf labels (now (table .entry)) operator (label .0) state) ⌝ }
-    ensures { λ r. ⌜ now (out .exit) ≡ inFront (disjunctsOf labels (now (table .entry)) operator (label .0) state) (now (out .entry)) ⌝ }
+    ensures { λ r. ⌜ now (out .exit)
+        ≡ inFront (disjunctsOf labels (now (table .entry)) operator (label .0) state) (now (out .entry)) ⌝ }
 {
     if operator == 7 {
         put_disjunct(out, 7, Label::SILENT, Label::IDLE, state);
@@ -62,11 +63,13 @@ fn list_alone(rows: &[u8], label: Label, out: &mut [u8]) -> usize
     4 + n
 }
 
-// Lists a disjunct for each row whose label has a partner: the known half takes its part in a handshake, the other moves by the partner.
+// Lists a disjunct for each row whose label has a partner: the known half takes its part in a handshake, the other
+// moves by the partner.
 fn list_shaken(labels: Labels, rows: &[u8], out: &mut [u8]) -> usize
     requires { ⌜ length (shakenIn (pairing labels) (movesIn (now rows))) ≤ length (now out) ⌝ }
     ensures { λ r. ⌜ r ≡ length (shakenIn (pairing labels) (movesIn (now (rows .entry)))) ⌝ }
-    ensures { λ r. ⌜ now (out .exit) ≡ inFront (shakenIn (pairing labels) (movesIn (now (rows .entry)))) (now (out .entry)) ⌝ }
+    ensures { λ r. ⌜ now (out .exit)
+        ≡ inFront (shakenIn (pairing labels) (movesIn (now (rows .entry)))) (now (out .entry)) ⌝ }
 {
     if rows.len() < 3 {
         return 0;

@@ -28,8 +28,12 @@ pub enum Quotient {
 
 // Writes the quotient of a question by a half run of a table: 4, the table's numbers, 9 and 10, 15, then 17 and 18.
 pub fn divide(k: u8, table: &[u8], half: &[u8], question: &[u8], out: &mut [u8]) -> Quotient
-    ensures { λ r. ⌜ r ≡ answerOf (checkDivision k (now (table .entry)) (now (half .entry)) (now (question .entry))) (quotientBy k (now (table .entry)) (halfOf (now (half .entry))) (now (question .entry))) (length (now (out .entry))) ⌝ }
-    ensures { λ r. ⌜ now (out .exit) ≡ outputAfter (checkDivision k (now (table .entry)) (now (half .entry)) (now (question .entry))) (quotientBy k (now (table .entry)) (halfOf (now (half .entry))) (now (question .entry))) (now (out .entry)) ⌝ }
+    ensures { λ r. ⌜ r ≡ answerOf (checkDivision k (now (table .entry)) (now (half .entry)) (now (question .entry)))
+        (quotientBy k (now (table .entry)) (halfOf (now (half .entry))) (now (question .entry)))
+        (length (now (out .entry))) ⌝ }
+    ensures { λ r. ⌜ now (out .exit)
+        ≡ outputAfter (checkDivision k (now (table .entry)) (now (half .entry)) (now (question .entry)))
+        (quotientBy k (now (table .entry)) (halfOf (now (half .entry))) (now (question .entry))) (now (out .entry)) ⌝ }
 {
     let labels = Labels { pairs: k };
     match check_division(labels, table, half, question) {
@@ -41,7 +45,8 @@ pub fn divide(k: u8, table: &[u8], half: &[u8], question: &[u8], out: &mut [u8])
 
 // What a division judges, in order. Where nothing is refused the table is judged once.
 fn check_division(labels: Labels, table: &[u8], half: &[u8], question: &[u8]) -> Check
-    ensures { λ r. ⌜ r ≡ checkDivision (labels .pairs) (now (table .entry)) (now (half .entry)) (now (question .entry)) ⌝ }
+    ensures { λ r. ⌜ r ≡ checkDivision (labels .pairs) (now (table .entry)) (now (half .entry))
+        (now (question .entry)) ⌝ }
 {
     match check_pairs(labels.pairs) {
         Check::Sound => {}
@@ -53,8 +58,9 @@ fn check_division(labels: Labels, table: &[u8], half: &[u8], question: &[u8]) ->
     }
 }
 
-// Counts the nodes first, whatever output is lent (17), then looks at the output's length (18), then writes; where neither can come, it only
-// writes. The run is copied once, into a buffer with room for four steps more, and the sizes of the question's trees are found once.
+// Counts the nodes first, whatever output is lent (17), then looks at the output's length (18), then writes; where
+// neither can come, it only writes. The run is copied once, into a buffer with room for four steps more, and the sizes
+// of the question's trees are found once.
 fn write_quotient(
     labels: Labels,
     table: &[u8],
@@ -65,8 +71,13 @@ fn write_quotient(
     requires { ⌜ SoundTable (labels .pairs) (now table) ⌝ }
     requires { ⌜ isHalfRun (now table) (now half) ≡ true ⌝ }
     requires { ⌜ Legal (labels .pairs) questionLimit (now question) ⌝ }
-    ensures { λ r. ⌜ r ≡ answerOf Sound (quotientBy (labels .pairs) (now (table .entry)) (halfOf (now (half .entry))) (now (question .entry))) (length (now (out .entry))) ⌝ }
-    ensures { λ r. ⌜ now (out .exit) ≡ outputAfter Sound (quotientBy (labels .pairs) (now (table .entry)) (halfOf (now (half .entry))) (now (question .entry))) (now (out .entry)) ⌝ }
+    ensures { λ r. ⌜ r ≡ answerOf Sound
+        (quotientBy (labels .pairs) (now (table .entry)) (halfOf (now (half .entry))) (now (question .entry)))
+        (length (now (out .entry))) ⌝ }
+    ensures { λ r. ⌜ now (out .exit)
+        ≡ outputAfter Sound
+        (quotientBy (labels .pairs) (now (table .entry)) (halfOf (now (half .entry))) (now (question .entry)))
+        (now (out .entry)) ⌝ }
 {
     let len = half.len();
     let mut run = [0u8; 409];

@@ -30,7 +30,8 @@ module _ (s : List ℕ) (point : ℕ) where
   inner-prefix o h = rw (ne-eqb _ _ o, le-ltb _ _ h)
 
 -- the cut is the prefix of the half that the side stands for
-pub cut-prefix : (l r x : List ℕ) (side : Side) (known : Known) (point : ℕ) → known ≡ knownOf side → x ≡ prefixOf (knownPart l r known) point → x ≡ cutOf l r side point
+pub cut-prefix : (l r x : List ℕ) (side : Side) (known : Known) (point : ℕ) → known ≡ knownOf side
+    → x ≡ prefixOf (knownPart l r known) point → x ≡ cutOf l r side point
 unfolding cutOf
 cut-prefix l r x side known point e h = rw (← e) h
 
@@ -58,7 +59,8 @@ module _ (s : List ℕ) (point : ℕ) where
     where
       go : {b : Bool} → Placed s point b → (b ≡ true) ↔ (prefixOf s point ≡ [])
       go (outside e) = (λ h. e, λ h. refl)
-      go (inside o h e) = (λ f. absurd (apart cc), λ f. absurd (omega (arith, ap length (sym e ∙ f), length-take (2 * point + 1) s, o)))
+      go (inside o h e) =
+          (λ f. absurd (apart cc), λ f. absurd (omega (arith, ap length (sym e ∙ f), length-take (2 * point + 1) s, o)))
 
   -- the reading of a cut is the reading of the half, stopped
   pub cut-stopped : beyond s point ≡ false → halfOf (prefixOf s point) ≡ stop point (halfOf s)
@@ -69,7 +71,8 @@ module _ (s : List ℕ) (point : ℕ) where
       go (inside o h e) f = rw e (half-stop s point)
 
   -- a cut of a run of a table is one
-  pub cut-accepted : (t : List ℕ) → isHalfRun t s ≡ true → beyond s point ≡ false → isHalfRun t (prefixOf s point) ≡ true
+  pub cut-accepted : (t : List ℕ) → isHalfRun t s ≡ true → beyond s point ≡ false
+      → isHalfRun t (prefixOf s point) ≡ true
   cut-accepted t a = go (placed s point)
     where
       go : {b : Bool} → Placed s point b → b ≡ false → isHalfRun t (prefixOf s point) ≡ true
@@ -79,4 +82,5 @@ module _ (s : List ℕ) (point : ℕ) where
   -- the points of a run of a table are 0 to its number of steps
   pub cut-points : (t : List ℕ) → isHalfRun t s ≡ true → beyond s point ≡ ltb (steps (halfOf s)) point
   unfolding beyond
-  cut-points t e = let a = accepted-half t s e in rw (a .counted, ne-eqb (length s % 2) 0 (λ z. omega (arith, z, a .odd)))
+  cut-points t e =
+      let a = accepted-half t s e in rw (a .counted, ne-eqb (length s % 2) 0 (λ z. omega (arith, z, a .odd)))

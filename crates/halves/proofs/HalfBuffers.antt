@@ -6,7 +6,8 @@ use mathlib.Core.List.{List, [], _∷_, _++_, append-assoc}
 use native.Mathlib.Omega.{arith}
 use native.Mathlib.Numerals.{add-one}
 use lib.ListN.{length, getD, take, set, length-set}
-use lib.Seq.{take-take, take-suc-set, take-set-le, set-comm, set-set, set-getD, getD-set-same, getD-set-other, length-take-le, getD-take}
+use lib.Seq.{take-take, take-suc-set, take-set-le, set-comm, set-set, set-getD, getD-set-same, getD-set-other}
+use lib.Seq.{length-take-le, getD-take}
 use lib.Dec.{leb}
 use borrow.Author.Tests.{leb-true, leb-false}
 use Rattle.hml.specs.System.{start, _▸_, last}
@@ -24,11 +25,13 @@ accepted-held t a e = record { odd = accepted-half t a e .odd; within = omega ar
     kept : (m : ℕ) → 2 * m + 1 ≤ length a → last (halfOf (take (2 * m + 1) a)) ≡ getD a (2 * m) 0
     kept m i =
         let n : length (take (2 * m + 1) a) - 1 ≡ 2 * m = omega (arith, length-take-le (2 * m + 1) a i) in
-        rw (accepted-half t (take (2 * m + 1) a) (half-stopped t a m e) .ends, n) (getD-take (2 * m + 1) a (2 * m) 0 (omega arith))
+        rw (accepted-half t (take (2 * m + 1) a) (half-stopped t a m e) .ends, n)
+        (getD-take (2 * m + 1) a (2 * m) 0 (omega arith))
 
 -- a half held up to a point is held up to each before it
 pub held-to : (xs : List ℕ) (n m : ℕ) → HeldHalf xs n → m % 2 ≡ 1 → m ≤ n → HeldHalf xs m
-held-to xs n m h o l = record { odd = o; within = omega (arith, h .within, l); kept = λ i j. h .kept i (omega (arith, j, l)) }
+held-to xs n m h o l =
+    record { odd = o; within = omega (arith, h .within, l); kept = λ i j. h .kept i (omega (arith, j, l)) }
 
 -- a half that is copied to the front of a buffer is held there
 pub held-copied : (a xs : List ℕ) (n : ℕ) → HeldHalf a n → take n xs ≡ take n a → n ≤ length xs → HeldHalf xs n
@@ -37,7 +40,8 @@ held-copied a xs n h e i = record { odd = h .odd; within = i; kept = kept }
     kept : (m : ℕ) → 2 * m + 1 ≤ n → last (halfOf (take (2 * m + 1) xs)) ≡ getD xs (2 * m) 0
     kept m j =
         let same = sym (take-take (2 * m + 1) n xs j) ∙ ap (take (2 * m + 1)) e ∙ take-take (2 * m + 1) n a j in
-        let at = sym (getD-take n xs (2 * m) 0 (omega arith)) ∙ ap (λ l. getD l (2 * m) 0) e ∙ getD-take n a (2 * m) 0 (omega arith) in
+        let at = sym (getD-take n xs (2 * m) 0 (omega arith)) ∙ ap (λ l. getD l (2 * m) 0) e
+        ∙ getD-take n a (2 * m) 0 (omega arith) in
         rw (same, at) (h .kept m j)
 
 -- two bytes in the place of those from n on
@@ -48,7 +52,8 @@ pub length-put-two : (xs : List ℕ) (n a q : ℕ) → length (putTwo xs n a q) 
 length-put-two xs n a q = length-set (set xs n a) (n + 1) q ∙ length-set xs n a
 
 -- bytes that were written over can be put back
-pub put-two-back : (xs ys : List ℕ) (n a q : ℕ) → ys ≡ putTwo xs n a q → putTwo ys n (getD xs n 0) (getD xs (n + 1) 0) ≡ xs
+pub put-two-back : (xs ys : List ℕ) (n a q : ℕ) → ys ≡ putTwo xs n a q
+    → putTwo ys n (getD xs n 0) (getD xs (n + 1) 0) ≡ xs
 put-two-back xs ys n a q e = rw (
   e,
   set-comm (set xs n a) (n + 1) n q (getD xs n 0) (λ h. omega arith),
@@ -64,7 +69,8 @@ module _ (xs : List ℕ) (n a q : ℕ) where
   before-put m h = take-set-le m (set xs n a) (n + 1) q (omega arith) ∙ take-set-le m xs n a h
 
   below-put : (j : ℕ) → j < n → getD (putTwo xs n a q) j 0 ≡ getD xs j 0
-  below-put j h = getD-set-other (set xs n a) (n + 1) j q 0 (λ e. omega arith) ∙ getD-set-other xs n j a 0 (λ e. omega arith)
+  below-put j h =
+      getD-set-other (set xs n a) (n + 1) j q 0 (λ e. omega arith) ∙ getD-set-other xs n j a 0 (λ e. omega arith)
 
   module _ (h : n + 2 ≤ length xs) where
     -- and with the two they are one step more
@@ -110,17 +116,25 @@ module _ (xs : List ℕ) (n : ℕ) (h : HeldHalf xs n) where
         let j : n - 2 + 1 ≡ n - 1 = omega arith in
         let e = take-two xs (n - 2) (omega (arith, h .within)) in
         ap halfOf (rw (i, j) at e)
-        ∙ half-more (take (n - 2) xs) (getD xs (n - 2) 0) (getD xs (n - 1) 0) (rw (length-take-le (n - 2) xs (omega (arith, h .within))) (omega (arith, h .odd, l)))
+        ∙ half-more (take (n - 2) xs) (getD xs (n - 2) 0) (getD xs (n - 1) 0)
+        (rw (length-take-le (n - 2) xs (omega (arith, h .within))) (omega (arith, h .odd, l)))
 
   module _ (a q : ℕ) (room : n + 2 ≤ length xs) where
     -- the run with one step more
     pub half-longer : halfOf (take (n + 2) (putTwo xs n a q)) ≡ halfOf (take n xs) ▸ stepOf a q
-    half-longer = ap halfOf (longer-put xs n a q room) ∙ half-more (take n xs) a q (rw (length-take-le n xs (h .within)) (h .odd))
+    half-longer =
+        ap halfOf (longer-put xs n a q room) ∙ half-more (take n xs) a q (rw (length-take-le n xs (h .within)) (h .odd))
 
     pub held-longer : (a ≡ 255 → q ≡ getD xs (n - 1) 0) → HeldHalf (putTwo xs n a q) (n + 2)
-    held-longer k = record { odd = omega (arith, h .odd); within = omega (arith, room, length-put-two xs n a q); kept = λ m i. at m i (leb (2 * m + 1) n) refl }
+    held-longer k =
+        record {
+          odd = omega (arith, h .odd);
+          within = omega (arith, room, length-put-two xs n a q);
+          kept = λ m i. at m i (leb (2 * m + 1) n) refl;
+        }
       where
-        at : (m : ℕ) → 2 * m + 1 ≤ n + 2 → (b : Bool) → leb (2 * m + 1) n ≡ b → last (halfOf (take (2 * m + 1) (putTwo xs n a q))) ≡ getD (putTwo xs n a q) (2 * m) 0
+        at : (m : ℕ) → 2 * m + 1 ≤ n + 2 → (b : Bool) → leb (2 * m + 1) n ≡ b
+            → last (halfOf (take (2 * m + 1) (putTwo xs n a q))) ≡ getD (putTwo xs n a q) (2 * m) 0
         at m i true e =
             let l = leb-true (2 * m + 1) n e in
             rw (before-put xs n a q (2 * m + 1) l, below-put xs n a q (2 * m) (omega arith)) (h .kept m l)
@@ -128,4 +142,5 @@ module _ (xs : List ℕ) (n : ℕ) (h : HeldHalf xs n) where
             let l = leb-false (2 * m + 1) n e in
             let z : 2 * m + 1 ≡ n + 2 = omega (arith, h .odd, i, l) in
             let x : 2 * m ≡ n + 1 = omega (arith, z) in
-            rw (z, x, put-second xs n a q room, half-longer) (ends-in (halfOf (take n xs)) a q (λ g. rw (k g) half-last))
+            rw (z, x, put-second xs n a q room, half-longer)
+            (ends-in (halfOf (take n xs)) a q (λ g. rw (k g) half-last))

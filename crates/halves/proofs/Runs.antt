@@ -1,5 +1,5 @@
--- The laws of runs as they are written, for half runs and joint runs alike: reading, lengthening, stopping, and the test that
--- written steps go on from a state.
+-- The laws of runs as they are written, for half runs and joint runs alike: reading, lengthening, stopping, and the
+-- test that written steps go on from a state.
 use Prim.Native.Nat.{ℕ, zero, suc, _+_, _-_, _*_, _/_, _%_}
 use mathlib.Core.Path.{_≡_, refl, sym, _∙_, ap}
 use mathlib.Core.Logic.{_⊎_, inl, inr}
@@ -51,7 +51,8 @@ module _ {S : Type 0} where
   lengthened-append r (e ∷ xs) ys = lengthened-append (r ▸ stepOf (e .0) (e .1)) xs ys
 
   -- one more written step is one more step
-  pub lengthened-more : (r : Run S) (es : List (ℕ × S)) (a : ℕ) (q : S) → lengthened r (es ++ (a, q) ∷ []) ≡ lengthened r es ▸ stepOf a q
+  pub lengthened-more : (r : Run S) (es : List (ℕ × S)) (a : ℕ) (q : S)
+      → lengthened r (es ++ (a, q) ∷ []) ≡ lengthened r es ▸ stepOf a q
   unfolding lengthened
   lengthened-more r es a q = lengthened-append r es ((a, q) ∷ [])
 
@@ -100,9 +101,11 @@ module _ {S : Type 0} where
   stop-start n p = rw zero-sub
 
   -- stopping the reading is the reading of the first written steps
-  pub stop-lengthened : (n : ℕ) (p : S) (es : List (ℕ × S)) → stop n (lengthened (start p) es) ≡ lengthened (start p) (take n es)
+  pub stop-lengthened : (n : ℕ) (p : S) (es : List (ℕ × S))
+      → stop n (lengthened (start p) es) ≡ lengthened (start p) (take n es)
   stop-lengthened n p es =
-      let k : steps (lengthened (start p) es) - n ≡ length (drop n es) = omega (arith, steps-lengthened (start p) es, length-drop n es) in
+      let k : steps (lengthened (start p) es) - n
+      ≡ length (drop n es) = omega (arith, steps-lengthened (start p) es, length-drop n es) in
       rw k (ap (λ (l : List (ℕ × S)). undo (length (drop n es)) (lengthened (start p) l)) (sym (take-append-drop n es))
       ∙ ap (undo (length (drop n es))) (lengthened-append (start p) (take n es) (drop n es))
       ∙ undo-lengthened (lengthened (start p) (take n es)) (drop n es))
@@ -125,32 +128,42 @@ module _ {S : Type 0} where
   ends-written (r ▸ idle) = ends-more (first r) (written r) 255 (last r)
 
   -- written steps go on if the first of them do, and the others from where these end
-  pub goOn-append : (fits : S → ℕ → S → Bool) (p : S) (xs ys : List (ℕ × S)) → goOn fits p (xs ++ ys) ≡ (goOn fits p xs && goOn fits (ends p xs) ys)
+  pub goOn-append : (fits : S → ℕ → S → Bool) (p : S) (xs ys : List (ℕ × S))
+      → goOn fits p (xs ++ ys) ≡ (goOn fits p xs && goOn fits (ends p xs) ys)
   unfolding goOn ends
   goOn-append fits p [] ys = refl
-  goOn-append fits p (e ∷ xs) ys = rw (goOn-append fits (e .1) xs ys) (sym (and-assoc (fits p (e .0) (e .1)) (goOn fits (e .1) xs) (goOn fits (ends (e .1) xs) ys)))
+  goOn-append fits p (e ∷ xs) ys =
+      rw (goOn-append fits (e .1) xs ys)
+      (sym (and-assoc (fits p (e .0) (e .1)) (goOn fits (e .1) xs) (goOn fits (ends (e .1) xs) ys)))
 
   -- the first of written steps that go on do so
-  pub goOn-take : (fits : S → ℕ → S → Bool) (p : S) (n : ℕ) (es : List (ℕ × S)) → goOn fits p es ≡ true → goOn fits p (take n es) ≡ true
+  pub goOn-take : (fits : S → ℕ → S → Bool) (p : S) (n : ℕ) (es : List (ℕ × S)) → goOn fits p es ≡ true
+      → goOn fits p (take n es) ≡ true
   goOn-take fits p n es g = both-true (sym (goOn-append fits p (take n es) (drop n es)) ∙ rw take-append-drop g) .0
 
 module _ {S : Type 0} (M : System S) where
   -- what a system's moves keep holds in the last state of a run if it holds in the first
-  pub run-keeps : (In : S → Type 0) → ((p : S) (a : ℕ) (q : S) → In p → (a, q) ∈ M p → In q) → {r : Run S} → RunOf M r → In (first r) → In (last r)
+  pub run-keeps : (In : S → Type 0) → ((p : S) (a : ℕ) (q : S) → In p → (a, q) ∈ M p → In q) → {r : Run S} → RunOf M r
+      → In (first r) → In (last r)
   run-keeps In k begins i = i
   run-keeps In k (goes x (moves m)) i = k _ _ _ (run-keeps In k x i) m
   run-keeps In k (goes x idles) i = run-keeps In k x i
 
-module _ {S : Type 0} (M : System S) (fits : S → ℕ → S → Bool) (d : (p : S) (a : ℕ) (q : S) → Decides (Fit M p a q) (fits p a q)) where
+module _ {S : Type 0} (M : System S) (fits : S → ℕ → S → Bool)
+    (d : (p : S) (a : ℕ) (q : S) → Decides (Fit M p a q) (fits p a q)) where
   -- a step that fits is read as a step that the system has, ends in its target, and is written again as it was
-  fit-read : (r : Run S) (a : ℕ) (q : S) → Fit M (last r) a q → Allowed M (last r) (stepOf a q) × (last (r ▸ stepOf a q) ≡ q) × (written (r ▸ stepOf a q) ≡ written r ++ (a, q) ∷ [])
+  fit-read : (r : Run S) (a : ℕ) (q : S) → Fit M (last r) a q
+      → Allowed M (last r) (stepOf a q) × (last (r ▸ stepOf a q) ≡ q)
+      × (written (r ▸ stepOf a q) ≡ written r ++ (a, q) ∷ [])
   unfolding stepOf written
   fit-read r a q (inl (e, f)) = rw (eq-eqb a 255 e, e, f) (idles, refl, refl)
   fit-read r a q (inr (n, i)) = rw (ne-eqb a 255 n) (moves i, refl, refl)
 
-  -- written steps that go on from the end of a run of the system lengthen it to one, which is written with them and ends where they end
+  -- written steps that go on from the end of a run of the system lengthen it to one, which is written with them and
+  -- ends where they end
   pub goOn-on : (r : Run S) (es : List (ℕ × S)) → RunOf M r → goOn fits (last r) es ≡ true
-      → RunOf M (lengthened r es) × (written (lengthened r es) ≡ written r ++ es) × (last (lengthened r es) ≡ ends (last r) es)
+      → RunOf M (lengthened r es) × (written (lengthened r es) ≡ written r ++ es)
+      × (last (lengthened r es) ≡ ends (last r) es)
   unfolding lengthened goOn ends
   goOn-on r [] x g = (x, sym (append-nil (written r)), refl)
   goOn-on r (e ∷ es) x g =
@@ -160,7 +173,8 @@ module _ {S : Type 0} (M : System S) (fits : S → ℕ → S → Bool) (d : (p :
       (x′, m′ ∙ rw (m, append-assoc), l′ ∙ rw l)
 
   -- written steps that go on from p are read as a run of the system, which is written as they were
-  pub goOn-run : (p : S) (es : List (ℕ × S)) → goOn fits p es ≡ true → RunOf M (lengthened (start p) es) × (written (lengthened (start p) es) ≡ es)
+  pub goOn-run : (p : S) (es : List (ℕ × S)) → goOn fits p es ≡ true
+      → RunOf M (lengthened (start p) es) × (written (lengthened (start p) es) ≡ es)
   unfolding written
   goOn-run p es g = let t = goOn-on (start p) es begins g in (t .0, t .1)
 
@@ -169,14 +183,20 @@ module _ {S : Type 0} (M : System S) (fits : S → ℕ → S → Bool) (d : (p :
   goOn-last p es g = goOn-on (start p) es begins g .2
 
   -- one more step that fits
-  run-more : (r : Run S) (a : ℕ) (q : S) → Fit M (last r) a q → (goOn fits (first r) (written r) ≡ true) × (lengthened (start (first r)) (written r) ≡ r)
-      → (goOn fits (first r) (written r ++ (a, q) ∷ []) ≡ true) × (lengthened (start (first r)) (written r ++ (a, q) ∷ []) ≡ r ▸ stepOf a q)
+  run-more : (r : Run S) (a : ℕ) (q : S) → Fit M (last r) a q
+      → (goOn fits (first r) (written r) ≡ true) × (lengthened (start (first r)) (written r) ≡ r)
+      → (goOn fits (first r) (written r ++ (a, q) ∷ []) ≡ true)
+      × (lengthened (start (first r)) (written r ++ (a, q) ∷ []) ≡ r ▸ stepOf a q)
   unfolding goOn
-  run-more r a q f (g, e) = (rw (goOn-append, g, ends-written, decides (d (last r) a q) .1 f), lengthened-more (start (first r)) (written r) a q ∙ ap (_▸ stepOf a q) e)
+  run-more r a q f (g, e) = (
+    rw (goOn-append, g, ends-written, decides (d (last r) a q) .1 f),
+    lengthened-more (start (first r)) (written r) a q ∙ ap (_▸ stepOf a q) e,
+  )
 
   module _ (free : NoIdleLabel M) where
     -- a run of a system without the label 255 is written in steps that go on, and is read from them again
-    pub run-goOn : {r : Run S} → RunOf M r → (goOn fits (first r) (written r) ≡ true) × (lengthened (start (first r)) (written r) ≡ r)
+    pub run-goOn : {r : Run S} → RunOf M r
+        → (goOn fits (first r) (written r) ≡ true) × (lengthened (start (first r)) (written r) ≡ r)
     unfolding written goOn lengthened stepOf
     run-goOn begins = (refl, refl)
     run-goOn (goes {r = r} x (moves {a = a} {p′ = q} i)) =
@@ -199,15 +219,23 @@ module _ {S : Type 0} {k : ℕ} (h : S → List ℕ) {f : List ℕ → List (ℕ
   unfolding ends
   last-bytes p [] = rw (zero-mul, append-nil)
   last-bytes p (e ∷ es) =
-      let s : suc (length es) * k ≡ length (h p ++ e .0 ∷ []) + length es * k = suc-mul (length es) k ∙ omega (arith, length-append (h p) (e .0 ∷ []), c .sized (0, p)) in
+      let s : suc (length es) * k ≡ length (h p ++ e .0 ∷ []) + length es * k = suc-mul (length es) k
+      ∙ omega (arith, length-append (h p) (e .0 ∷ []), c .sized (0, p)) in
       rw (s, ← append-snoc (h p) (e .0) (h (e .1) ++ each (stepBytes h) es), drop-append-add, last-bytes (e .1) es)
 
-  module _ (M : System S) (fits : S → ℕ → S → Bool) (d : (p : S) (a : ℕ) (q : S) → Decides (Fit M p a q) (fits p a q)) (p : S) (bs : List ℕ) where
-    -- whole steps that go on from p are read as a run of the system, which is spelled with them, has as many steps, and ends in the state that they spell last
+  module _ (M : System S) (fits : S → ℕ → S → Bool) (d : (p : S) (a : ℕ) (q : S) → Decides (Fit M p a q) (fits p a q))
+      (p : S) (bs : List ℕ) where
+    -- whole steps that go on from p are read as a run of the system, which is spelled with them, has as many steps, and
+    -- ends in the state that they spell last
     pub read-accepted : length bs % k ≡ 0 → goOn fits p (f bs) ≡ true → let r = lengthened (start p) (f bs) in
-        RunOf M r × (each (stepBytes h) (written r) ≡ bs) × (steps r ≡ length bs / k) × (drop (length bs) (h p ++ bs) ≡ h (last r))
+        RunOf M r × (each (stepBytes h) (written r) ≡ bs) × (steps r ≡ length bs / k)
+        × (drop (length bs) (h p ++ bs) ≡ h (last r))
     read-accepted whole g =
         let (x, w) = goOn-run M fits d p (f bs) g in
         let b = chunks-whole c bs whole in
-        let n : length bs ≡ length (f bs) * k = ap length (sym b) ∙ length-each (stepBytes h) k (c .sized) (f bs) in
-        (x, rw (w, b), steps-lengthened (start p) (f bs) ∙ omega (arith, chunks-length c bs), rw (goOn-last M fits d p (f bs) g, n) (rw b at (last-bytes p (f bs))))
+        let n : length bs ≡ length (f bs) * k = ap length (sym b) ∙ length-each (stepBytes h) k (c .sized) (f bs) in (
+          x,
+          rw (w, b),
+          steps-lengthened (start p) (f bs) ∙ omega (arith, chunks-length c bs),
+          rw (goOn-last M fits d p (f bs) g, n) (rw b at (last-bytes p (f bs))),
+        )

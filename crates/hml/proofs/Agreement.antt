@@ -18,13 +18,20 @@ module _ {S : Type 0} (M : System S) where
   decided (and φ ψ) r = decided-and (decided φ r) (decided ψ r)
   decided (or φ ψ) r = decided-or (decided φ r) (decided ψ r)
   decided (fwd a φ) r = decided-iff
-      (λ t. (t .0 .1, ∈-cast (ap {B = ℕ × S} (λ b. (b, t .0 .1)) (sym (t .2 .0))) (t .1), subst (λ b. Sat M φ (r ▸ move b (t .0 .1))) (t .2 .0) (t .2 .1)))
+      (λ t. (
+        t .0 .1,
+        ∈-cast (ap {B = ℕ × S} (λ b. (b, t .0 .1)) (sym (t .2 .0))) (t .1),
+        subst (λ b. Sat M φ (r ▸ move b (t .0 .1))) (t .2 .0) (t .2 .1),
+      ))
       (λ t. ((a, t .0), t .1, (refl, t .2)))
       (decided-any (λ m. decided-and (decided-same (m .0) a) (decided φ (r ▸ move (m .0) (m .1)))) (M (last r)))
   decided (back a φ) (start p) = refutes (λ t. let e = t .2 in apart cc)
-  decided (back a φ) (r ▸ move b p) = decided-iff (λ t. (r, p, ap (λ c. r ▸ move c p) (t .0), t .1)) (λ t. let e = t .2 in let h : r ≡ t .0 = cc in (cc, rw h (t .3))) (decided-and (decided-same b a) (decided φ r))
+  decided (back a φ) (r ▸ move b p) =
+      decided-iff (λ t. (r, p, ap (λ c. r ▸ move c p) (t .0), t .1))
+      (λ t. let e = t .2 in let h : r ≡ t .0 = cc in (cc, rw h (t .3))) (decided-and (decided-same b a) (decided φ r))
   decided (back a φ) (r ▸ idle) = refutes (λ t. let e = t .2 in apart cc)
   decided (fwdIdle φ) r = decided φ (r ▸ idle)
   decided (backIdle φ) (start p) = refutes (λ t. let e = t .1 in apart cc)
   decided (backIdle φ) (r ▸ move b p) = refutes (λ t. let e = t .1 in apart cc)
-  decided (backIdle φ) (r ▸ idle) = decided-iff (λ s. (r, refl, s)) (λ t. let e = t .1 in let h : r ≡ t .0 = cc in rw h (t .2)) (decided φ r)
+  decided (backIdle φ) (r ▸ idle) =
+      decided-iff (λ s. (r, refl, s)) (λ t. let e = t .1 in let h : r ≡ t .0 = cc in rw h (t .2)) (decided φ r)

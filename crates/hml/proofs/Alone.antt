@@ -26,7 +26,8 @@ module _ (P : Pairing) {S T : Type 0} (M : System S) (R : System T) (q : T) (sti
   -- beside a state without moves, only the machine itself moves
   alone-moves : (f : ℕ × (S × T) → Bool) (p : S) → any f (beside P M R (p, q)) ≡ any (λ m. f (m .0, (m .1, q))) (M p)
   unfolding Composed
-  alone-moves f p = beside-composed P M R f p q ∙ rw (still, any-false (M p)) (or-false (any (λ m. f (m .0, (m .1, q))) (M p)))
+  alone-moves f p =
+      beside-composed P M R f p q ∙ rw (still, any-false (M p)) (or-false (any (λ m. f (m .0, (m .1, q))) (M p)))
 
   -- the verdict is the same
   pub holds-alone : (φ : Formula) (r : Run S) → holds (beside P M R) φ (alone q r) ≡ holds M φ r
@@ -36,7 +37,9 @@ module _ (P : Pairing) {S T : Type 0} (M : System S) (R : System T) (q : T) (sti
   holds-alone (not φ) r = ap negate (holds-alone φ r)
   holds-alone (and φ ψ) r = rw (holds-alone φ r, holds-alone ψ r)
   holds-alone (or φ ψ) r = rw (holds-alone φ r, holds-alone ψ r)
-  holds-alone (fwd a φ) r = rw (last-alone q r) (alone-moves (λ m. same (m .0) a && holds (beside P M R) φ (alone q r ▸ move (m .0) (m .1))) (last r)
+  holds-alone (fwd a φ) r =
+      rw (last-alone q r)
+      (alone-moves (λ m. same (m .0) a && holds (beside P M R) φ (alone q r ▸ move (m .0) (m .1))) (last r)
       ∙ any-cong (λ m. ap (same (m .0) a &&_) (holds-alone φ (r ▸ move (m .0) (m .1)))) (M (last r)))
   holds-alone (back a φ) (start p) = refl
   holds-alone (back a φ) (r ▸ move b p) = ap (same b a &&_) (holds-alone φ r)

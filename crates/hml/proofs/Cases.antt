@@ -1,6 +1,6 @@
--- One published case, computed from the definitions, kept for a must-fail edit of this crate that no theorem here stops: with the
--- disjuncts joined to the left (disjuncts_nested_to_the_left) the verdict stays, and only the written bytes differ. All cases that
--- document 01 marks with a star stand together in sheet_lines/proofs/Published.
+-- One published case, computed from the definitions, kept for a must-fail edit of this crate that no theorem here
+-- stops: with the disjuncts joined to the left (disjuncts_nested_to_the_left) the verdict stays, and only the written
+-- bytes differ. All cases that document 01 marks with a star stand together in sheet_lines/proofs/Published.
 use mathlib.Core.Path.{_≡_, refl}
 use mathlib.Core.List.{[], _∷_}
 use Prim.Native.Nat.{ℕ}

@@ -1,5 +1,5 @@
--- When two runs join to a third, as a relation (`Join`); what it is for a system to move as two side by side (`Composed`), and that the joint
--- system does; the two sides may change places.
+-- When two runs join to a third, as a relation (`Join`); what it is for a system to move as two side by side
+-- (`Composed`), and that the joint system does; the two sides may change places.
 use mathlib.Core.Path.{_≡_, refl, sym, _∙_, ap}
 use mathlib.Core.Bool.{Bool, _&&_, _||_}
 use mathlib.Core.Option.{some}
@@ -33,13 +33,15 @@ module _ (P : Pairing) {S T U : Type 0} (pair : S → T → U) where
   pub data Match (p : S) (q : T) : Step S → Step T → Step U → Type 0 where
     leftAlone : (a : ℕ) (p′ : S) → Match p q (move a p′) idle (move a (pair p′ q))
     rightAlone : (b : ℕ) (q′ : T) → Match p q idle (move b q′) (move b (pair p q′))
-    handshake : (a : ℕ) (p′ : S) (b : ℕ) (q′ : T) → P .partner a ≡ some b → Match p q (move a p′) (move b q′) (move 0 (pair p′ q′))
+    handshake : (a : ℕ) (p′ : S) (b : ℕ) (q′ : T) → P .partner a ≡ some b
+        → Match p q (move a p′) (move b q′) (move 0 (pair p′ q′))
     bothIdle : Match p q idle idle idle
 
   -- two runs match at each step, and join to the third
   pub data Join : Run S → Run T → Run U → Type 0 where
     starts : {p : S} {q : T} → Join (start p) (start q) (start (pair p q))
-    _▹_ : {l : Run S} {r : Run T} {j : Run U} {s : Step S} {t : Step T} {u : Step U} → Join l r j → Match (last l) (last r) s t u → Join (l ▸ s) (r ▸ t) (j ▸ u)
+    _▹_ : {l : Run S} {r : Run T} {j : Run U} {s : Step S} {t : Step T} {u : Step U} → Join l r j
+        → Match (last l) (last r) s t u → Join (l ▸ s) (r ▸ t) (j ▸ u)
 
   pub last-join : {l : Run S} {r : Run T} {j : Run U} → Join l r j → last j ≡ pair (last l) (last r)
   last-join starts = refl
@@ -53,7 +55,8 @@ module _ (P : Pairing) {S T U : Type 0} (pair : S → T → U) where
   abbrev pub flipped : T → S → U
   flipped q p = pair p q
 
-  match-flip : {p : S} {q : T} {s : Step S} {t : Step T} {u : Step U} → Match P pair p q s t u → Match P flipped q p t s u
+  match-flip : {p : S} {q : T} {s : Step S} {t : Step T} {u : Step U} → Match P pair p q s t u
+      → Match P flipped q p t s u
   match-flip (leftAlone a p) = rightAlone a p
   match-flip (rightAlone b q) = leftAlone b q
   match-flip (handshake a p b q e) = handshake b q a p (P .returned e)
@@ -65,8 +68,10 @@ module _ (P : Pairing) {S T U : Type 0} (pair : S → T → U) where
 
   pub composed-flip : (L : System S) (R : System T) (J : System U) → Composed P pair L R J → Composed P flipped R L J
   unfolding Composed
-  composed-flip L R J law f q p = law f p q ∙ or-turn (any (λ m. f (m .0, pair (m .1) q)) (L p)) (any (λ n. f (n .0, pair p (n .1))) (R q))
-      (any-swap _ (L p) (R q) ∙ any-cong (λ n. any-cong (λ m. ap (_&& f (0, pair (m .1) (n .1))) (shakes-sym P (m .0) (n .0))) (L p)) (R q))
+  composed-flip L R J law f q p =
+      law f p q ∙ or-turn (any (λ m. f (m .0, pair (m .1) q)) (L p)) (any (λ n. f (n .0, pair p (n .1))) (R q))
+      (any-swap _ (L p) (R q) ∙ any-cong
+      (λ n. any-cong (λ m. ap (_&& f (0, pair (m .1) (n .1))) (shakes-sym P (m .0) (n .0))) (L p)) (R q))
 
 -- the joint system is composed of its two
 module _ (P : Pairing) {S T : Type 0} (L : System S) (R : System T) where

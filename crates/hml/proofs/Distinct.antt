@@ -25,7 +25,8 @@ module _ {A : Type 0} where
   distinct-only true x = some nowhere none
   distinct-only false x = none
 
-  pub distinct-append : {xs ys : List A} → Distinct xs → Distinct ys → ((z : A) → z ∈ xs → z ∈ ys → ⊥) → Distinct (xs ++ ys)
+  pub distinct-append : {xs ys : List A} → Distinct xs → Distinct ys → ((z : A) → z ∈ xs → z ∈ ys → ⊥)
+      → Distinct (xs ++ ys)
   distinct-append none e h = e
   distinct-append {ys} (some {x = x} {xs = xs} n d) e h = some
       (λ (i : x ∈ (xs ++ ys)). elim (∈-append xs i) [ inl k ↦ n k | inr k ↦ h x (here refl) k ])
@@ -34,9 +35,11 @@ module _ {A : Type 0} where
 module _ {A B : Type 0} where
   pub distinct-map : (f : A → B) → ((x y : A) → f x ≡ f y → x ≡ y) → {xs : List A} → Distinct xs → Distinct (map f xs)
   distinct-map f h none = none
-  distinct-map f h (some {x = x} {xs = xs} n d) = some (λ i. let t = map-∈ f xs i in n (∈-cast (h x (t .0) (sym (t .2))) (t .1))) (distinct-map f h d)
+  distinct-map f h (some {x = x} {xs = xs} n d) = some
+      (λ i. let t = map-∈ f xs i in n (∈-cast (h x (t .0) (sym (t .2))) (t .1))) (distinct-map f h d)
 
-  pub distinct-each : (g : A → List B) → ((x : A) → Distinct (g x)) → ((x y : A) (z : B) → z ∈ g x → z ∈ g y → x ≡ y) → {xs : List A} → Distinct xs → Distinct (each g xs)
+  pub distinct-each : (g : A → List B) → ((x : A) → Distinct (g x)) → ((x y : A) (z : B) → z ∈ g x → z ∈ g y → x ≡ y)
+      → {xs : List A} → Distinct xs → Distinct (each g xs)
   distinct-each g u h none = none
   distinct-each g u h (some {x = x} {xs = xs} n d) = distinct-append (u x) (distinct-each g u h d)
       (λ z i k. let t = each-∈ g xs k in n (∈-cast (h x (t .0) z i (t .2)) (t .1)))
@@ -49,15 +52,19 @@ module _ {A B : Type 0} (F : A → Bool) (y : A) (found : (x : A) → F x ≡ tr
   each-once (some {x = x} {xs = xs} n d) = go (F x) refl (any F xs) refl (each-once d)
     where
       missing : F x ≡ true → any F xs ≡ true → ⊥
-      missing e a = let (z, i, h) = decides (decided-any (λ z. decided-true (F z)) xs) .0 a in n (∈-cast (found x e ∙ sym (found z h)) i)
+      missing e a =
+          let (z, i, h) = decides (decided-any (λ z. decided-true (F z)) xs) .0 a in
+          n (∈-cast (found x e ∙ sym (found z h)) i)
 
-      go : (b : Bool) → F x ≡ b → (a : Bool) → any F xs ≡ a → each (λ x. only (F x) (g x)) xs ≡ only (any F xs) (g y) → only b (g x) ++ each (λ x. only (F x) (g x)) xs ≡ only (b || any F xs) (g y)
+      go : (b : Bool) → F x ≡ b → (a : Bool) → any F xs ≡ a → each (λ x. only (F x) (g x)) xs ≡ only (any F xs) (g y)
+          → only b (g x) ++ each (λ x. only (F x) (g x)) xs ≡ only (b || any F xs) (g y)
       go true e true f r = absurd (missing e f)
       go true e false f r = rw (found x e) (ap (g y ∷_) (r ∙ rw f))
       go false e a f r = r
 
   -- the same beside a test that does not look at the element
-  pub each-found : (b : Bool) {t : A → Bool} → ((x : A) → t x ≡ (b && F x)) → {xs : List A} → Distinct xs → each (λ x. only (t x) (g x)) xs ≡ only (b && any F xs) (g y)
+  pub each-found : (b : Bool) {t : A → Bool} → ((x : A) → t x ≡ (b && F x)) → {xs : List A} → Distinct xs
+      → each (λ x. only (t x) (g x)) xs ≡ only (b && any F xs) (g y)
   unfolding only
   each-found true h {xs} d = each-cong (λ x. ap (λ b. only b (g x)) (h x)) xs ∙ each-once d
   each-found false h {xs} d = each-none _ (λ x. ap (λ b. only b (g x)) (h x)) xs
@@ -65,7 +72,8 @@ module _ {A B : Type 0} (F : A → Bool) (y : A) (found : (x : A) → F x ≡ tr
 pair-path : {A B : Type 0} {u v : A × B} → u .0 ≡ v .0 → u .1 ≡ v .1 → u ≡ v
 pair-path e f i = (e i, f i)
 
-grown-injective : {S T : Type 0} (h h′ : Run S × Run T) (k k′ : Step S × Step T) → grown h k ≡ grown h′ k′ → (h ≡ h′) × (k ≡ k′)
+grown-injective : {S T : Type 0} (h h′ : Run S × Run T) (k k′ : Step S × Step T) → grown h k ≡ grown h′ k′
+    → (h ≡ h′) × (k ≡ k′)
 grown-injective h h′ k k′ e =
     let a : h .0 ▸ k .0 ≡ h′ .0 ▸ k′ .0 = ap (λ z. z .0) e in
     let b : h .1 ▸ k .1 ≡ h′ .1 ▸ k′ .1 = ap (λ z. z .1) e in
@@ -73,10 +81,13 @@ grown-injective h h′ k k′ e =
 
 module _ (P : Pairing) {S T : Type 0} (L : System S) (R : System T) where
   -- what a member of each list of ways looks like
-  with-row : (m : ℕ × S) (q : T) {w : Way S T} → w ∈ each (λ n. only (shakes P (m .0) (n .0)) (both (m .0) (m .1) (n .0) (n .1))) (R q) → (n : ℕ × T) × (w ≡ both (m .0) (m .1) (n .0) (n .1))
+  with-row : (m : ℕ × S) (q : T) {w : Way S T}
+      → w ∈ each (λ n. only (shakes P (m .0) (n .0)) (both (m .0) (m .1) (n .0) (n .1))) (R q)
+      → (n : ℕ × T) × (w ≡ both (m .0) (m .1) (n .0) (n .1))
   with-row m q i = let t = each-∈ _ (R q) i in (t .0, ∈-only (shakes P (m .0) (t .0 .0)) .0 (t .2) .1)
 
-  is-both : (p : S) (q : T) {w : Way S T} → w ∈ handshakes P L R p q → (m : ℕ × S) × (n : ℕ × T) × (w ≡ both (m .0) (m .1) (n .0) (n .1))
+  is-both : (p : S) (q : T) {w : Way S T} → w ∈ handshakes P L R p q
+      → (m : ℕ × S) × (n : ℕ × T) × (w ≡ both (m .0) (m .1) (n .0) (n .1))
   is-both p q i = let t = each-∈ _ (L p) i in let s = with-row (t .0) q (t .2) in (t .0, s .0, s .1)
 
   is-left : (p : S) {w : Way S T} → w ∈ lefts P L R p → (m : ℕ × S) × (w ≡ left (m .0) (m .1))
@@ -85,7 +96,8 @@ module _ (P : Pairing) {S T : Type 0} (L : System S) (R : System T) where
   is-right : (q : T) {w : Way S T} → w ∈ rights P L R q → (n : ℕ × T) × (w ≡ right (n .0) (n .1))
   is-right q i = let t = map-∈ _ (R q) i in (t .0, sym (t .2))
 
-module _ (P : Pairing) {S T : Type 0} (L : System S) (R : System T) (dl : (p : S) → Distinct (L p)) (dr : (q : T) → Distinct (R q)) where
+module _ (P : Pairing) {S T : Type 0} (L : System S) (R : System T) (dl : (p : S) → Distinct (L p))
+    (dr : (q : T) → Distinct (R q)) where
   distinct-handshakes : (p : S) (q : T) → Distinct (handshakes P L R p q)
   distinct-handshakes p q = distinct-each _
       (λ m. distinct-each _ (λ n. distinct-only (shakes P (m .0) (n .0)) (both (m .0) (m .1) (n .0) (n .1)))
@@ -122,11 +134,13 @@ whole-halves (left a p) = refl
 whole-halves (right b q) = refl
 whole-halves (both a p b q) = refl
 
-module _ (P : Pairing) {S T : Type 0} (A : Tested S) (B : Tested T) (L : System S) (R : System T) (dl : (p : S) → Distinct (L p)) (dr : (q : T) → Distinct (R q)) where
+module _ (P : Pairing) {S T : Type 0} (A : Tested S) (B : Tested T) (L : System S) (R : System T)
+    (dl : (p : S) → Distinct (L p)) (dr : (q : T) → Distinct (R q)) where
   distinct-options : (u : S × T) (s : Step (S × T)) → Distinct (options P (A .equal) (B .equal) L R u s)
   distinct-options u (move c v) = distinct-each _
       (λ w. distinct-only (moves-tested P A B L R .equal (joint (u .0) (u .1) w) (c, v)) (halves w))
-      (λ w w′ k i o. let e : k ≡ halves w = ∈-only _ .0 i .1 in let e′ : k ≡ halves w′ = ∈-only _ .0 o .1 in cc (whole-halves w, whole-halves w′))
+      (λ w w′ k i o. let e : k ≡ halves w = ∈-only _ .0 i .1 in
+      let e′ : k ≡ halves w′ = ∈-only _ .0 o .1 in cc (whole-halves w, whole-halves w′))
       (distinct-ways P L R dl dr (u .0) (u .1))
   distinct-options u idle = some nowhere none
 

@@ -1,5 +1,5 @@
--- The elements of a list by their numbers, from 0: each number below the length has an element, each element a number, and in a list without
--- repetition only one.
+-- The elements of a list by their numbers, from 0: each number below the length has an element, each element a number,
+-- and in a list without repetition only one.
 use mathlib.Core.Path.{_≡_, refl, sym, ap}
 use mathlib.Core.List.{List, [], _∷_, List·Memᴰ·head as here, List·Memᴰ·tail as there, Memᴰ·cast as ∈-cast}
 use Prim.Native.Nat.{ℕ, zero, suc, _<_}
@@ -21,7 +21,8 @@ module _ {A : Type 0} (d : A) where
   number-of (there m) = let (i, h, e) = number-of m in (suc i, omega (arith, h), e)
 
   -- only one, if the list is without repetition
-  pub number-once : {xs : List A} → Distinct xs → (i j : ℕ) → i < length xs → j < length xs → getD xs i d ≡ getD xs j d → i ≡ j
+  pub number-once : {xs : List A} → Distinct xs → (i j : ℕ) → i < length xs → j < length xs → getD xs i d ≡ getD xs j d
+      → i ≡ j
   number-once none i j h k e = absurd (omega (arith, h))
   number-once (some n u) zero zero h k e = refl
   number-once (some {xs = xs} n u) zero (suc j) h k e = absurd (n (∈-cast e (element xs j (omega (arith, k)))))

@@ -31,7 +31,10 @@ module _ (P : Pairing) {S : Type 0} (L : System S) where
   quotients [] φ = φ
   quotients (k ∷ ks) φ = quotients ks (quotient P (k .0) φ (k .1))
 
-  pub line-kept : (l : Run S) (ks : List Part) (φ : Formula) (j : Run (State ks)) → Joins l ks j → holds (line ks) φ j ≡ holds L (quotients ks φ) l
+  pub line-kept : (l : Run S) (ks : List Part) (φ : Formula) (j : Run (State ks)) → Joins l ks j
+      → holds (line ks) φ j ≡ holds L (quotients ks φ) l
   unfolding line quotients
   line-kept l [] φ j e = ap (holds L φ) e
-  line-kept l (k ∷ ks) φ j (i, h, m) = quotient-sound P paired (line ks) (k .0) (beside P (line ks) (k .0)) (beside-composed P (line ks) (k .0)) φ m ∙ line-kept l ks (quotient P (k .0) φ (k .1)) i h
+  line-kept l (k ∷ ks) φ j (i, h, m) =
+      quotient-sound P paired (line ks) (k .0) (beside P (line ks) (k .0)) (beside-composed P (line ks) (k .0)) φ m
+      ∙ line-kept l ks (quotient P (k .0) φ (k .1)) i h

@@ -14,7 +14,8 @@ use Rattle.hml.proofs.Tests.{apart, Decides, refutes, decided-or, decid
 use Rattle.hml.specs.Lists.{_∈_, only, given, present, any, each}
 
 module _ {A : Type 0} where
-  pub decided-any : {P : A → Type 0} {f : A → Bool} → ((x : A) → Decides (P x) (f x)) → (xs : List A) → Decides ((x : A) × x ∈ xs × P x) (any f xs)
+  pub decided-any : {P : A → Type 0} {f : A → Bool} → ((x : A) → Decides (P x) (f x)) → (xs : List A)
+      → Decides ((x : A) × x ∈ xs × P x) (any f xs)
   decided-any d [] = refutes (λ t. nowhere (t .1))
   decided-any {P} d (x ∷ xs) = decided-iff found lost (decided-or (d x) (decided-any d xs))
     where
@@ -30,9 +31,11 @@ module _ {A : Type 0} where
   ∈-only true = (λ i. (refl, ∈-single i), λ t. here (t .1))
   ∈-only false = (λ i. absurd (nowhere i), λ t. absurd (false≢true (t .0)))
 
-  pub decided-present : {P : A → Type 0} {f : A → Bool} → ((x : A) → Decides (P x) (f x)) → (o : Option A) → Decides ((x : A) × (o ≡ some x) × P x) (present f o)
+  pub decided-present : {P : A → Type 0} {f : A → Bool} → ((x : A) → Decides (P x) (f x)) → (o : Option A)
+      → Decides ((x : A) × (o ≡ some x) × P x) (present f o)
   decided-present d none = refutes (λ t. let e = t .1 in apart cc)
-  decided-present {P} d (some x) = decided-iff (λ h. (x, refl, h)) (λ t. let e = t .1 in let h : x ≡ t .0 = cc in rw h (t .2)) (d x)
+  decided-present {P} d (some x) =
+      decided-iff (λ h. (x, refl, h)) (λ t. let e = t .1 in let h : x ≡ t .0 = cc in rw h (t .2)) (d x)
 
   pub any-cong : {f g : A → Bool} → ((x : A) → f x ≡ g x) → (xs : List A) → any f xs ≡ any g xs
   any-cong h xs = ap (λ f. any f xs) (fun-ext h)
@@ -76,13 +79,17 @@ module _ {A B : Type 0} where
   any-each f g (x ∷ xs) = any-append f (g x) (each g xs) ∙ ap (any f (g x) ||_) (any-each f g xs)
 
   -- the order of two searches does not matter
-  pub any-swap : (f : A → B → Bool) (xs : List A) (ys : List B) → any (λ x. any (f x) ys) xs ≡ any (λ y. any (λ x. f x y) xs) ys
+  pub any-swap : (f : A → B → Bool) (xs : List A) (ys : List B)
+      → any (λ x. any (f x) ys) xs ≡ any (λ y. any (λ x. f x y) xs) ys
   any-swap f [] ys = sym (any-false ys)
   any-swap f (x ∷ xs) ys = rw (any-swap f xs ys) (sym (any-or (f x) (λ y. any (λ x. f x y) xs) ys))
 
-  pub length-each : (g : A → List B) (k : ℕ) → ((x : A) → length (g x) ≡ k) → (xs : List A) → length (each g xs) ≡ length xs * k
+  pub length-each : (g : A → List B) (k : ℕ) → ((x : A) → length (g x) ≡ k) → (xs : List A)
+      → length (each g xs) ≡ length xs * k
   length-each g k h [] = sym (zero-mul k)
-  length-each g k h (x ∷ xs) = length-append (g x) (each g xs) ∙ rw (h x, length-each g k h xs, suc-mul (length xs) k) (add-comm k (length xs * k))
+  length-each g k h (x ∷ xs) =
+      length-append (g x) (each g xs)
+      ∙ rw (h x, length-each g k h xs, suc-mul (length xs) k) (add-comm k (length xs * k))
 
   -- lists made from each element of two lists, of a list that was changed, or of a list that was so made
   pub each-append : (g : A → List B) (xs ys : List A) → each g (xs ++ ys) ≡ each g xs ++ each g ys

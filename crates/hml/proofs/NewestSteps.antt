@@ -1,6 +1,7 @@
--- The newest steps of a run as a run of their own, and their splittings. "The first step varies slowest": so the splitting of number i, stopped at a point,
--- has the number i / S, with S splittings of what follows the point; and the last steps of the splitting of number m are those of number m % W, with W
--- splittings of these steps alone. A quotient looks back over few steps only (Window), and so it is known by the splittings of these few.
+-- The newest steps of a run as a run of their own, and their splittings. "The first step varies slowest": so the
+-- splitting of number i, stopped at a point, has the number i / S, with S splittings of what follows the point; and the
+-- last steps of the splitting of number m are those of number m % W, with W splittings of these steps alone. A quotient
+-- looks back over few steps only (Window), and so it is known by the splittings of these few.
 use mathlib.Core.Path.{_≡_, refl, sym, _∙_, ap}
 use Prim.Native.Nat.{ℕ, zero, suc, _+_, _-_, _*_, _/_, _%_, _≤_, _<_}
 use native.Mathlib.Nat.{mul-one, mul-zero, mul-pos, le-mul-of-pos-right, mul-assoc, mul-comm, div-one, mod-lt}
@@ -77,10 +78,12 @@ module _ {S : Type 0} where
   module _ (n p : ℕ) (r : Run S) (h : p ≤ steps r) where
     pub window-cut : stop (p - (p - n)) (behind (steps r - (p - n)) r) ≡ behind n (stop p r)
     window-cut =
-        let y : steps (behind (steps r - (p - n)) r) - (p - (p - n)) ≡ steps r - p = ap (_- (p - (p - n))) (steps-from (p - n) r) ∙ omega arith in
+        let y : steps (behind (steps r - (p - n)) r) - (p - (p - n))
+        ≡ steps r - p = ap (_- (p - (p - n))) (steps-from (p - n) r) ∙ omega arith in
         let z : steps r - (p - n) ≡ (steps r - p) + (p - (p - n)) = omega arith in
         let x : p ≡ steps (stop p r) = omega (arith, steps-undo (steps r - p) r) in
-        rw y (ap (λ m. undo (steps r - p) (behind m r)) z ∙ behind-undo (steps r - p) (p - (p - n)) r ∙ ap (λ m. behind (m - (m - n)) (stop p r)) x ∙ behind-all n (stop p r))
+        rw y (ap (λ m. undo (steps r - p) (behind m r)) z ∙ behind-undo (steps r - p) (p - (p - n)) r
+        ∙ ap (λ m. behind (m - (m - n)) (stop p r)) x ∙ behind-all n (stop p r))
 
     pub window-steps : steps (behind n (stop p r)) ≡ p - (p - n)
     window-steps = omega (arith, steps-behind n (stop p r), steps-undo (steps r - p) r)
@@ -129,31 +132,41 @@ module _ (P : Pairing) {S T : Type 0} (A : Tested S) (B : Tested T) (L : System 
   choices-some j s x = positive (count j) (choices j s) (rw (splits-count P A B L R j s) at (splits-some x))
 
   -- what is left of a number when the last step is chosen numbers a splitting of the steps before it
-  number-before : (j : Run (S × T)) (s : Step (S × T)) → 0 < choices j s → (i : ℕ) → i < count (j ▸ s) → i / choices j s < count j
+  number-before : (j : Run (S × T)) (s : Step (S × T)) → 0 < choices j s → (i : ℕ) → i < count (j ▸ s)
+      → i / choices j s < count j
   number-before j s w i h = div-lt-iff-lt-mul w .1 (rw (splits-count P A B L R j s) at h)
 
   -- behind the newest steps alone a step has the same splittings
-  count-behind : (n : ℕ) (j : Run (S × T)) (s : Step (S × T)) → count (behind n j ▸ s) ≡ count (behind n j) * choices j s
+  count-behind : (n : ℕ) (j : Run (S × T)) (s : Step (S × T))
+      → count (behind n j ▸ s) ≡ count (behind n j) * choices j s
   count-behind n j s = splits-count P A B L R (behind n j) s ∙ rw (last-behind n j)
 
-  divided-behind : (n : ℕ) (j : Run (S × T)) (s : Step (S × T)) (i : ℕ) → i / choices j s / count (behind n j) ≡ i / count (behind n j ▸ s)
-  divided-behind n j s i = rw (count-behind n j s, mul-comm (count (behind n j)) (choices j s)) (div-div-eq-div-mul i (choices j s) (count (behind n j)))
+  divided-behind : (n : ℕ) (j : Run (S × T)) (s : Step (S × T)) (i : ℕ)
+      → i / choices j s / count (behind n j) ≡ i / count (behind n j ▸ s)
+  divided-behind n j s i =
+      rw (count-behind n j s, mul-comm (count (behind n j)) (choices j s))
+      (div-div-eq-div-mul i (choices j s) (count (behind n j)))
 
   -- the splittings of a run are as many as those of its newest steps and those of the steps before, multiplied
   pub count-parts : (n : ℕ) (j : Run (S × T)) → count j ≡ count (undo n j) * count (behind n j)
   unfolding splits
   count-parts zero j = sym (mul-one (count j))
   count-parts (suc n) (start u) = refl
-  count-parts (suc n) (j ▸ s) = splits-count P A B L R j s ∙ ap (_* choices j s) (count-parts n j) ∙ mul-assoc (count (undo n j)) (count (behind n j)) (choices j s)
+  count-parts (suc n) (j ▸ s) =
+      splits-count P A B L R j s ∙ ap (_* choices j s) (count-parts n j)
+      ∙ mul-assoc (count (undo n j)) (count (behind n j)) (choices j s)
       ∙ ap (count (undo n j) *_) (sym (count-behind n j s))
 
   -- so neither part has more than the run
   module _ (n : ℕ) {j : Run (S × T)} (x : RunOf (beside P L R) j) where
     pub fewer-undone : count (undo n j) ≤ count j
-    fewer-undone = rw (count-parts n j) (le-mul-of-pos-right (count (undo n j)) (splits-some (run-behind (beside P L R) n x)))
+    fewer-undone =
+        rw (count-parts n j) (le-mul-of-pos-right (count (undo n j)) (splits-some (run-behind (beside P L R) n x)))
 
     pub fewer-behind : count (behind n j) ≤ count j
-    fewer-behind = rw (count-parts n j, mul-comm (count (undo n j)) (count (behind n j))) (le-mul-of-pos-right (count (behind n j)) (splits-some (run-undo (beside P L R) n x)))
+    fewer-behind =
+        rw (count-parts n j, mul-comm (count (undo n j)) (count (behind n j)))
+        (le-mul-of-pos-right (count (behind n j)) (splits-some (run-undo (beside P L R) n x)))
 
   -- the splitting of a number; d stands where there is none
   module _ (d : Run S × Run T) where
@@ -168,7 +181,8 @@ module _ (P : Pairing) {S T : Type 0} (A : Tested S) (B : Tested T) (L : System 
     unfolding splits
     only-one u i h = let z : i ≡ 0 = omega arith in rw z
 
-    -- without its newest steps it is a splitting of the run without them: its number is divided by how many splittings the newest steps have
+    -- without its newest steps it is a splitting of the run without them: its number is divided by how many splittings
+    -- the newest steps have
     pub nth-undone : (n : ℕ) (j : Run (S × T)) → RunOf (beside P L R) j → (i : ℕ) → i < count j
         → let h = nth j i in (undo n (h .0), undo n (h .1)) ≡ nth (undo n j) (i / count (behind n j))
     unfolding splits
@@ -176,41 +190,55 @@ module _ (P : Pairing) {S T : Type 0} (A : Tested S) (B : Tested T) (L : System 
     nth-undone (suc n) (start u) x i h = rw (only-one u i h, only-one u (i / 1) (rw (div-one i) h))
     nth-undone (suc n) (j ▸ s) (goes x a) i h =
         let w = choices-some j s (goes x a) in
-        rw (splits-at P A B L R j s i d d (idle, idle) w h) (nth-undone n j x (i / choices j s) (number-before j s w i h) ∙ ap (nth (undo n j)) (divided-behind n j s i))
+        rw (splits-at P A B L R j s i d d (idle, idle) w h)
+        (nth-undone n j x (i / choices j s) (number-before j s w i h) ∙ ap (nth (undo n j)) (divided-behind n j s i))
 
     -- its halves join to the run
     nth-joins : (j : Run (S × T)) (i : ℕ) → i < count j → Join P paired (nth j i .0) (nth j i .1) j
     nth-joins j i h = splits-sound P A B L R j (nth j i) (element d (splits P (A .equal) (B .equal) L R j) i h) .0
 
-    -- a remainder numbers a splitting of newest steps: the last of them by its lowest digit, those before it by the next
+    -- a remainder numbers a splitting of newest steps: the last of them by its lowest digit, those before it by the
+    -- next
     nth-remainder : (n : ℕ) (j : Run (S × T)) (s : Step (S × T)) → 0 < count (behind n j) → 0 < choices j s → (i : ℕ)
-        → nth (behind n j ▸ s) (i % count (behind n j ▸ s)) ≡ grown (nth (behind n j) (i / choices j s % count (behind n j))) (nth-option j s (i % choices j s))
+        → nth (behind n j ▸ s) (i % count (behind n j ▸ s))
+        ≡ grown (nth (behind n j) (i / choices j s % count (behind n j))) (nth-option j s (i % choices j s))
     nth-remainder n j s W w i =
         let e : last (behind n j) ≡ last j = last-behind n j in
         let c = count-behind n j s in
         let h : i % count (behind n j ▸ s) < count (behind n j ▸ s) = mod-lt i (rw c (mul-pos W w)) in
-        splits-at P A B L R (behind n j) s (i % count (behind n j ▸ s)) d d (idle, idle) (rw e w) h ∙ rw (e, c, next-digit i W w, lowest-digit i W w)
+        splits-at P A B L R (behind n j) s (i % count (behind n j ▸ s)) d d (idle, idle) (rw e w) h
+        ∙ rw (e, c, next-digit i W w, lowest-digit i W w)
 
     -- its newest steps are those of the splitting of these alone whose number is the remainder
     pub nth-alike : (n : ℕ) (j : Run (S × T)) → RunOf (beside P L R) j → (i : ℕ) → i < count j
-        → let h = nth j i in let g = nth (behind n j) (i % count (behind n j)) in Alike n (h .0) (g .0) × Alike n (h .1) (g .1)
+        → let h =
+        nth j i in let g = nth (behind n j) (i % count (behind n j)) in Alike n (h .0) (g .0) × Alike n (h .1) (g .1)
     unfolding splits
-    nth-alike zero j x i h = let e = last-join P paired (nth-joins j i h) in rw (only-one (last j) (i % 1) (mod-lt i (omega arith))) (ends (ap (λ u. u .0) (sym e)), ends (ap (λ u. u .1) (sym e)))
-    nth-alike (suc n) (start u) x i h = rw (only-one u i h, only-one u (i % 1) (mod-lt i (omega arith))) (alike-begins (u .0), alike-begins (u .1))
+    nth-alike zero j x i h =
+        let e = last-join P paired (nth-joins j i h) in
+        rw (only-one (last j) (i % 1) (mod-lt i (omega arith)))
+        (ends (ap (λ u. u .0) (sym e)), ends (ap (λ u. u .1) (sym e)))
+    nth-alike (suc n) (start u) x i h =
+        rw (only-one u i h, only-one u (i % 1) (mod-lt i (omega arith))) (alike-begins (u .0), alike-begins (u .1))
     nth-alike (suc n) (j ▸ s) (goes x a) i h =
         let w = choices-some j s (goes x a) in
         let W = splits-some (run-behind (beside P L R) n x) in
         let e = nth-alike n j x (i / choices j s) (number-before j s w i h) in
-        rw (splits-at P A B L R j s i d d (idle, idle) w h, nth-remainder n j s W w i) (alike-steps (nth-option j s (i % choices j s) .0) (e .0), alike-steps (nth-option j s (i % choices j s) .1) (e .1))
+        rw (splits-at P A B L R j s i d d (idle, idle) w h, nth-remainder n j s W w i) (
+          alike-steps (nth-option j s (i % choices j s) .0) (e .0),
+          alike-steps (nth-option j s (i % choices j s) .1) (e .1),
+        )
 
     -- both together: stopped at a point, it ends as a splitting of the window, the last n steps before the point
     pub nth-window : (n p : ℕ) (j : Run (S × T)) → RunOf (beside P L R) j → (i : ℕ) → i < count j
-        → let h = nth j i in let w = behind n (stop p j) in let g = nth w (i / count (behind (steps j - p) j) % count w) in
+        → let h =
+        nth j i in let w = behind n (stop p j) in let g = nth w (i / count (behind (steps j - p) j) % count w) in
         Alike n (stop p (h .0)) (g .0) × Alike n (stop p (h .1)) (g .1)
     nth-window n p j x i h =
         let (u, v) = join-steps P paired (nth-joins j i h) in
         let c = steps j - p in
-        let k : i / count (behind c j) < count (undo c j) = div-lt-iff-lt-mul (splits-some (run-behind (beside P L R) c x)) .1 (rw (count-parts c j) at h) in
+        let k : i / count (behind c j) < count (undo c j) = div-lt-iff-lt-mul
+        (splits-some (run-behind (beside P L R) c x)) .1 (rw (count-parts c j) at h) in
         let e = nth-undone c j x i h in
         let a = nth-alike n (undo c j) (run-undo (beside P L R) c x) (i / count (behind c j)) k in
         rw (u, v, ap (λ z. z .0) e, ap (λ z. z .1) e) a

@@ -1,5 +1,5 @@
--- What it is for a joint step to be real (document 01, "A joint step .. is real exactly if one of these ways exists"), and that
--- the moves of the joint system are the real steps.
+-- What it is for a joint step to be real (document 01, "A joint step .. is real exactly if one of these ways exists"),
+-- and that the moves of the joint system are the real steps.
 use mathlib.Core.Path.{_≡_, refl, sym}
 use mathlib.Core.Logic.{_↔_, _⊎_, inl, inr}
 use mathlib.Core.List.{_++_, List·Memᴰ·append-cases as ∈-append, Memᴰ·append-left as ∈-left}
@@ -30,7 +30,8 @@ module _ (P : Pairing) {S T : Type 0} (L : System S) (R : System T) where
   pub offered-way : (p : S) (q : T) (w : Way S T) → Offered p q w → w ∈ ways P L R p q
   unfolding ways
   offered-way p q (left a p′) i = ∈-left (rights P L R q ++ handshakes P L R p q) (∈-map (λ m. left (m .0) (m .1)) i)
-  offered-way p q (right b q′) i = ∈-right (lefts P L R p) (∈-left (handshakes P L R p q) (∈-map (λ n. right (n .0) (n .1)) i))
+  offered-way p q (right b q′) i =
+      ∈-right (lefts P L R p) (∈-left (handshakes P L R p q) (∈-map (λ n. right (n .0) (n .1)) i))
   offered-way p q (both a p′ b q′) i = ∈-right (lefts P L R p) (∈-right (rights P L R q)
       (∈-each _ (i .0) (∈-each _ (i .1) (∈-only (shakes P a b) .1 (decides (decided-shakes P a b) .1 (i .2), refl)))))
 
@@ -65,20 +66,25 @@ module _ (P : Pairing) {S T : Type 0} (L : System S) (R : System T) where
   abbrev pub Splits : S → T → Step S × Step T → Step (S × T) → Type 0
   Splits p q k s = Match P paired p q (k .0) (k .1) s × Allowed L p (k .0) × Allowed R q (k .1)
 
-  pub way-splits : (p : S) (q : T) (w : Way S T) → Offered p q w → (c : ℕ × (S × T)) → joint p q w ≡ c → Splits p q (halves w) (move (c .0) (c .1))
+  pub way-splits : (p : S) (q : T) (w : Way S T) → Offered p q w → (c : ℕ × (S × T)) → joint p q w ≡ c
+      → Splits p q (halves w) (move (c .0) (c .1))
   way-splits p q (left a p′) i c e = rw (← e) (leftAlone a p′, moves i, idles)
   way-splits p q (right b q′) i c e = rw (← e) (rightAlone b q′, idles, moves i)
   way-splits p q (both a p′ b q′) i c e = rw (← e) (handshake a p′ b q′ (i .2), moves (i .0), moves (i .1))
 
   -- a joint step is real exactly if it splits
-  pub real-splits : (p : S) (q : T) {s : Step (S × T)} → Allowed (beside P L R) (p, q) s → (k : Step S × Step T) × Splits p q k s
-  real-splits p q (moves {a = c} {p′ = v} i) = let t = real-rows p q (c, v) .0 i in (halves (t .0), way-splits p q (t .0) (t .1) (c, v) (t .2))
+  pub real-splits : (p : S) (q : T) {s : Step (S × T)} → Allowed (beside P L R) (p, q) s
+      → (k : Step S × Step T) × Splits p q k s
+  real-splits p q (moves {a = c} {p′ = v} i) = let t = real-rows p q (c, v) .0
+      i in (halves (t .0), way-splits p q (t .0) (t .1) (c, v) (t .2))
   real-splits p q idles = ((idle, idle), (bothIdle, idles, idles))
 
-  pub splits-real : (p : S) (q : T) {s : Step S} {t : Step T} {u : Step (S × T)} → Match P paired p q s t u → Allowed L p s → Allowed R q t → Allowed (beside P L R) (p, q) u
+  pub splits-real : (p : S) (q : T) {s : Step S} {t : Step T} {u : Step (S × T)} → Match P paired p q s t u
+      → Allowed L p s → Allowed R q t → Allowed (beside P L R) (p, q) u
   splits-real p q (leftAlone a p′) (moves i) idles = moves (real-rows p q _ .1 (left a p′, i, refl))
   splits-real p q (rightAlone b q′) idles (moves i) = moves (real-rows p q _ .1 (right b q′, i, refl))
-  splits-real p q (handshake a p′ b q′ e) (moves i) (moves k) = moves (real-rows p q _ .1 (both a p′ b q′, (i, k, e), refl))
+  splits-real p q (handshake a p′ b q′ e) (moves i) (moves k) =
+      moves (real-rows p q _ .1 (both a p′ b q′, (i, k, e), refl))
   splits-real p q bothIdle idles idles = idles
 
   -- two runs of the two systems that join to j
@@ -86,9 +92,11 @@ module _ (P : Pairing) {S T : Type 0} (L : System S) (R : System T) where
   JoinOf l r j = Join P paired l r j × RunOf L l × RunOf R r
 
   -- what they join to is a run of the joint system, and each of its runs is so joined
-  pub join-run : {l : Run S} {r : Run T} {j : Run (S × T)} → Join P paired l r j → RunOf L l → RunOf R r → RunOf (beside P L R) j
+  pub join-run : {l : Run S} {r : Run T} {j : Run (S × T)} → Join P paired l r j → RunOf L l → RunOf R r
+      → RunOf (beside P L R) j
   join-run starts begins begins = begins
-  join-run (_▹_ {u = u} m w) (goes x a) (goes y b) = goes {s = u} (join-run m x y) (rw (last-join P paired m) (splits-real _ _ w a b))
+  join-run (_▹_ {u = u} m w) (goes x a) (goes y b) = goes {s = u} (join-run m x y)
+      (rw (last-join P paired m) (splits-real _ _ w a b))
 
   pub run-joined : {j : Run (S × T)} → RunOf (beside P L R) j → (l : Run S) × (r : Run T) × JoinOf l r j
   run-joined (begins {p = u}) = (start (u .0), start (u .1), (starts, begins, begins))

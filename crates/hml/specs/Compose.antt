@@ -1,5 +1,6 @@
--- Two systems side by side: the ways of a joint step (document 01, "A joint step .. is real exactly if one of these ways exists"), the
--- joint system, and what a way makes each half do. Document 01 counts all ways; source document 000 picks one by which side changed.
+-- Two systems side by side: the ways of a joint step (document 01, "A joint step .. is real exactly if one of these
+-- ways exists"), the joint system, and what a way makes each half do. Document 01 counts all ways; source document 000
+-- picks one by which side changed.
 use mathlib.Core.Bool.{Bool}
 use mathlib.Core.List.{List, _++_, map}
 use Prim.Native.Nat.{ℕ}

@@ -1,5 +1,5 @@
--- Joining as a function: the one run that two matching halves give, or none. Document 01: "Two steps match if they form one of the
--- ways, and two halves match if they are equally long and match at each step."
+-- Joining as a function: the one run that two matching halves give, or none. Document 01: "Two steps match if they form
+-- one of the ways, and two halves match if they are equally long and match at each step."
 use mathlib.Core.Option.{Option, none, some}
 use Rattle.hml.specs.Lists.{guard}
 use Rattle.hml.specs.System.{Step, move, idle, Run, start, _▸_, last, Pairing}

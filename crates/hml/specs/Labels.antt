@@ -1,6 +1,7 @@
--- Document 01's labels: "With k handshake pairs, k from 0 to 15, the labels are 0 to 2k; the partner of an odd label is the
--- next number, of an even one (from 2) the number before." This is one `Pairing` for each k. A `Pairing` holds two proofs, that nobody is the
--- partner of 0 and that partners have each other: they stand between the partners and `pairs`.
+-- Document 01's labels: "With k handshake pairs, k from 0 to 15, the labels are 0 to 2k; the partner of an odd label is
+-- the next number, of an even one (from 2) the number before." This is one `Pairing` for each k. A `Pairing` holds two
+-- proofs, that nobody is the partner of 0 and that partners have each other: they stand between the partners and
+-- `pairs`.
 use mathlib.Core.Path.{_≡_, refl, _∙_, ap}
 use mathlib.Core.Bool.{Bool, true, false, cond}
 use mathlib.Core.Option.{Option, none, some}
@@ -47,7 +48,8 @@ no-partner : {b : ℕ} → none ≡ some b → ⊥
 no-partner e = let z : _≡_ {A = ℕ} 0 1 = cc in omega arith
 
 -- a label and its partner are labels of the k pairs, from 1 on, and have each other
-pub partners : (k a b : ℕ) → partnerAmong k a ≡ some b → (1 ≤ a) × (a ≤ count k) × (1 ≤ b) × (b ≤ count k) × (partnerAmong k b ≡ some a)
+pub partners : (k a b : ℕ) → partnerAmong k a ≡ some b
+    → (1 ≤ a) × (a ≤ count k) × (1 ≤ b) × (b ≤ count k) × (partnerAmong k b ≡ some a)
 unfolding partnerAmong partnerOf
 partners k a b e = go (leb a (count k)) (eqb a 0) (eqb (a % 2) 1) refl refl refl e
   where
@@ -66,7 +68,11 @@ partners k a b e = go (leb a (count k)) (eqb a 0) (eqb (a % 2) 1) refl refl refl
           l,
           omega arith,
           c,
-          rw (le-leb (a + 1) (count k) c, ne-eqb (a + 1) 0 (λ z. omega (arith, z)), ne-eqb ((a + 1) % 2) 1 (λ z. omega (arith, m, z)))
+          rw (
+            le-leb (a + 1) (count k) c,
+            ne-eqb (a + 1) 0 (λ z. omega (arith, z)),
+            ne-eqb ((a + 1) % 2) 1 (λ z. omega (arith, m, z)),
+          )
               (ap some (omega arith)),
         )
     go true false false h n p e =
@@ -80,7 +86,11 @@ partners k a b e = go (leb a (count k)) (eqb a 0) (eqb (a % 2) 1) refl refl refl
           l,
           omega (arith, o, m),
           c,
-          rw (le-leb (a - 1) (count k) c, ne-eqb (a - 1) 0 (λ z. omega (arith, o, m, z)), eq-eqb ((a - 1) % 2) 1 (omega (arith, o, m)))
+          rw (
+            le-leb (a - 1) (count k) c,
+            ne-eqb (a - 1) 0 (λ z. omega (arith, o, m, z)),
+            eq-eqb ((a - 1) % 2) 1 (omega (arith, o, m)),
+          )
               (ap some (omega (arith, o))),
         )
 

@@ -1,5 +1,5 @@
--- The theory of source document 000 as document 01 reads it, in reading order: definitions only; theorems about them stand in proofs/. It
--- knows nothing of tables' and runs' bytes, nor of refusals.
+-- The theory of source document 000 as document 01 reads it, in reading order: definitions only; theorems about them
+-- stand in proofs/. It knows nothing of tables' and runs' bytes, nor of refusals.
 
 -- the small functions that the definitions use
 pub mod Lists

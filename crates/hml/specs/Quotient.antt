@@ -1,5 +1,5 @@
--- The quotient of a formula by one half of a joint run: table 1 of source document 000, as document 01 writes it out. That it keeps the
--- verdict (theorem 1) is `quotient-sound`, proofs/Quotients.
+-- The quotient of a formula by one half of a joint run: table 1 of source document 000, as document 01 writes it out.
+-- That it keeps the verdict (theorem 1) is `quotient-sound`, proofs/Quotients.
 use mathlib.Core.Bool.{Bool, true, false}
 use mathlib.Core.List.{List, [], _∷_, _++_}
 use mathlib.Core.Option.{Option, none, some}
@@ -34,7 +34,8 @@ module _ (P : Pairing) {T : Type 0} (K : System T) where
   quotient (or φ ψ) r = or (quotient φ r) (quotient ψ r)
   quotient (fwd a φ) r = ors (fwd a (quotient φ (r ▸ idle)))
       (each (λ (n : ℕ × T). only (same (n .0) a) (fwdIdle (quotient φ (r ▸ move (n .0) (n .1))))) (K (last r))
-      ++ each (λ (n : ℕ × T). ofPartner (P .partner (n .0)) (λ c. fwd c (quotient φ (r ▸ move (n .0) (n .1))))) (given (same 0 a) (K (last r))))
+      ++ each (λ (n : ℕ × T). ofPartner (P .partner (n .0)) (λ c. fwd c (quotient φ (r ▸ move (n .0) (n .1)))))
+      (given (same 0 a) (K (last r))))
   quotient (back a φ) (start q) = bottom
   quotient (back a φ) (r ▸ move b q) = backBy (same b a) (same 0 a) (P .partner b) (quotient φ r)
   quotient (back a φ) (r ▸ idle) = back a (quotient φ r)

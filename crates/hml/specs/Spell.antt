@@ -1,5 +1,5 @@
--- A formula as bytes: two for each node, operator and label, in prefix order; and reading them back. That the two are inverse is proved in
--- proofs/Spelling.
+-- A formula as bytes: two for each node, operator and label, in prefix order; and reading them back. That the two are
+-- inverse is proved in proofs/Spelling.
 use mathlib.Core.List.{List, [], _∷_}
 use mathlib.Core.Option.{Option, none, some}
 use Prim.Native.Nat.{ℕ, zero, suc}

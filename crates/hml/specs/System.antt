@@ -1,5 +1,5 @@
--- Labelled transition systems (definition 1) and their runs (the computations of definition 2, with idles). A machine of
--- document 01 is such a system; so are two of them side by side.
+-- Labelled transition systems (definition 1) and their runs (the computations of definition 2, with idles). A machine
+-- of document 01 is such a system; so are two of them side by side.
 use mathlib.Core.List.{List}
 use mathlib.Core.Option.{Option, none, some}
 use mathlib.Core.Path.{_≡_}
@@ -56,8 +56,8 @@ module _ {S : Type 0} where
     begins : {p : S} → RunOf M (start p)
     goes : {r : Run S} {s : Step S} → RunOf M r → Allowed M (last r) s → RunOf M (r ▸ s)
 
--- which label shakes hands with which (the bar of source document 000): none does with the silent label 0, and partners have
--- each other. Nothing else is asked of it: a label may be its own partner, or have none
+-- which label shakes hands with which (the bar of source document 000): none does with the silent label 0, and partners
+-- have each other. Nothing else is asked of it: a label may be its own partner, or have none
 pub record Pairing : Type 0 where
   pub partner : ℕ → Option ℕ
   pub silent : partner 0 ≡ none

@@ -29,16 +29,20 @@ module _ (k : ℕ) (l r a b : List ℕ) where
   unfolding checkTableAndHalf checkRuns firstOf
   runs-sound e f = f ∙ go (checkTable k l) (checkHalf l a) e
     where
-      go : (t h : Check) → thenOf t (thenOf h Sound) ≡ Sound → checkTableAndHalf k r b ≡ thenOf t (thenOf (checkTable k r) (thenOf h (thenOf (checkHalf r b) Sound)))
+      go : (t h : Check) → thenOf t (thenOf h Sound) ≡ Sound
+          → checkTableAndHalf k r b ≡ thenOf t (thenOf (checkTable k r) (thenOf h (thenOf (checkHalf r b) Sound)))
       go Sound Sound e = refl
       go Sound (Refused y) e = absurd (apart cc)
       go (Refused y) h e = absurd (apart cc)
 
-  pub runs-refused : (y : Refusal) → checkTableAndHalf k l a ≡ Refused y → {u v c x : Check} → u ≡ checkTable k l → v ≡ checkTable k r → c ≡ thenOf u v → x ≡ thenOf c (Refused y) → x ≡ checkRuns k l r a b
+  pub runs-refused : (y : Refusal) → checkTableAndHalf k l a ≡ Refused y → {u v c x : Check} → u ≡ checkTable k l
+      → v ≡ checkTable k r → c ≡ thenOf u v → x ≡ thenOf c (Refused y) → x ≡ checkRuns k l r a b
   unfolding checkTableAndHalf checkRuns firstOf
   runs-refused y e left right both last = last ∙ rw (both, left, right) (go (checkTable k l) (checkHalf l a) e)
     where
-      go : (t h : Check) → thenOf t (thenOf h Sound) ≡ Refused y → thenOf (thenOf t (checkTable k r)) (Refused y) ≡ thenOf t (thenOf (checkTable k r) (thenOf h (thenOf (checkHalf r b) Sound)))
+      go : (t h : Check) → thenOf t (thenOf h Sound) ≡ Refused y
+          → thenOf (thenOf t (checkTable k r)) (Refused y)
+          ≡ thenOf t (thenOf (checkTable k r) (thenOf h (thenOf (checkHalf r b) Sound)))
       go Sound Sound e = absurd (apart cc)
       go Sound (Refused z) e = ap (thenOf (checkTable k r)) (sym e)
       go (Refused z) h e = refl
@@ -53,11 +57,16 @@ module _ (k : ℕ) (l r a b : List ℕ) where
       (accepted-held l a (passed (isHalfRun l a) _ left), accepted-held r b (passed (isHalfRun r b) _ right))
 
   -- the checks of halves, as the code groups them
-  halves-regroup : checkHalves k l r a b ≡ thenOf (checkPairs k) (thenOf (checkRuns k l r a b) (refusedIf (not (halvesMatch k a b)) HalvesDoNotMatch))
+  halves-regroup : checkHalves k l r a b
+      ≡ thenOf (checkPairs k) (thenOf (checkRuns k l r a b) (refusedIf (not (halvesMatch k a b)) HalvesDoNotMatch))
   unfolding checkHalves checkRuns firstOf
-  halves-regroup = go (checkPairs k) (checkTable k l) (checkTable k r) (checkHalf l a) (checkHalf r b) (refusedIf (not (halvesMatch k a b)) HalvesDoNotMatch)
+  halves-regroup =
+      go (checkPairs k) (checkTable k l) (checkTable k r) (checkHalf l a) (checkHalf r b)
+      (refusedIf (not (halvesMatch k a b)) HalvesDoNotMatch)
     where
-      go : (c l r a b m : Check) → thenOf c (thenOf l (thenOf r (thenOf a (thenOf b (thenOf m Sound))))) ≡ thenOf c (thenOf (thenOf l (thenOf r (thenOf a (thenOf b Sound)))) m)
+      go : (c l r a b m : Check)
+          → thenOf c (thenOf l (thenOf r (thenOf a (thenOf b (thenOf m Sound)))))
+          ≡ thenOf c (thenOf (thenOf l (thenOf r (thenOf a (thenOf b Sound)))) m)
       go (Refused x) l r a b m = refl
       go Sound (Refused x) r a b m = refl
       go Sound Sound (Refused x) a b m = refl
@@ -94,7 +103,8 @@ module _ (k : ℕ) (l r a b : List ℕ) where
 
   -- the answers, and the output afterwards
   module _ (out : List ℕ) where
-    pub join-refused : (x : Refusal) → checkHalves k l r a b ≡ Refused x → (joining.Refused x ≡ joiningOf k l r a b (length out)) × (out ≡ joinOutput k l r a b out)
+    pub join-refused : (x : Refusal) → checkHalves k l r a b ≡ Refused x
+        → (joining.Refused x ≡ joiningOf k l r a b (length out)) × (out ≡ joinOutput k l r a b out)
     unfolding joiningOf joinOutput checkJoin firstOf
     join-refused x e = rw e (refl, refl)
 
@@ -102,7 +112,8 @@ module _ (k : ℕ) (l r a b : List ℕ) where
       size : length (joinBytes k a b) ≡ 3 * (length a / 2) + 2
       size = let h = halves-call c in join-length k a b (h .left) (h .right) (h .match)
 
-      pub join-short : length out < 3 * (length a / 2) + 2 → (joining.Refused OutputTooShort ≡ joiningOf k l r a b (length out)) × (out ≡ joinOutput k l r a b out)
+      pub join-short : length out < 3 * (length a / 2) + 2
+          → (joining.Refused OutputTooShort ≡ joiningOf k l r a b (length out)) × (out ≡ joinOutput k l r a b out)
       unfolding joiningOf joinOutput checkJoin firstOf
       join-short h = rw (c, lt-ltb (length out) (length (joinBytes k a b)) (omega (arith, size))) (refl, refl)
 
@@ -110,6 +121,9 @@ module _ (k : ℕ) (l r a b : List ℕ) where
         pub join-room : length (joinBytes k a b) ≤ length out
         join-room = omega (arith, size)
 
-        pub join-written : {out′ : List ℕ} → out′ ≡ inFront (joinBytes k a b) out → (joining.Joined (3 * (length a / 2) + 2) ≡ joiningOf k l r a b (length out)) × (out′ ≡ joinOutput k l r a b out)
+        pub join-written : {out′ : List ℕ} → out′ ≡ inFront (joinBytes k a b) out
+            → (joining.Joined (3 * (length a / 2) + 2) ≡ joiningOf k l r a b (length out))
+            × (out′ ≡ joinOutput k l r a b out)
         unfolding joiningOf joinOutput checkJoin firstOf
-        join-written e = rw (c, le-ltb (length out) (length (joinBytes k a b)) join-room) (ap joining.Joined (sym size), e)
+        join-written e =
+            rw (c, le-ltb (length out) (length (joinBytes k a b)) join-room) (ap joining.Joined (sym size), e)

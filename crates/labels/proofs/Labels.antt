@@ -27,11 +27,13 @@ idle-found a e = rw e
 no-idle : (a : ℕ) → a < 256 → (a ≡ 255 → ⊥) → a ≤ 254
 no-idle a h n = omega (arith, h, n)
 
-pub odd-found : (a b : ℕ) → a < 256 → (a ≡ 255 → ⊥) → (a ≡ 0 → ⊥) → a % 2 ≡ 1 → b ≡ a + 1 → partner.Label (record { 0 = b }) ≡ partnerFound (anyPartner a)
+pub odd-found : (a b : ℕ) → a < 256 → (a ≡ 255 → ⊥) → (a ≡ 0 → ⊥) → a % 2 ≡ 1 → b ≡ a + 1
+    → partner.Label (record { 0 = b }) ≡ partnerFound (anyPartner a)
 unfolding anyPartner partnerFound partnerAmong partnerOf count
 odd-found a b h m n o e = rw (e, le-leb a 254 (no-idle a h m), ne-eqb a 0 n, eq-eqb (a % 2) 1 o)
 
-pub even-found : (a b : ℕ) → a < 256 → (a ≡ 255 → ⊥) → (a ≡ 0 → ⊥) → (a % 2 ≡ 1 → ⊥) → b ≡ a - 1 → partner.Label (record { 0 = b }) ≡ partnerFound (anyPartner a)
+pub even-found : (a b : ℕ) → a < 256 → (a ≡ 255 → ⊥) → (a ≡ 0 → ⊥) → (a % 2 ≡ 1 → ⊥) → b ≡ a - 1
+    → partner.Label (record { 0 = b }) ≡ partnerFound (anyPartner a)
 unfolding anyPartner partnerFound partnerAmong partnerOf count
 even-found a b h m n o e = rw (e, le-leb a 254 (no-idle a h m), ne-eqb a 0 n, ne-eqb (a % 2) 1 o)
 
@@ -40,11 +42,14 @@ unfolding count
 count-most k a h = omega (arith, h)
 
 -- among the labels of a call the partner is that of the label as such, since a partner is never above the highest label
-pub inside-found : (labels : Labels) (a : ℕ) → leb a (count (labels .pairs)) ≡ true → partnerFound (anyPartner a) ≡ partnerFound (pairing labels .partner a)
+pub inside-found : (labels : Labels) (a : ℕ) → leb a (count (labels .pairs)) ≡ true
+    → partnerFound (anyPartner a) ≡ partnerFound (pairing labels .partner a)
 unfolding anyPartner pairing pairs partnerAmong
-inside-found labels a h = rw (h, le-leb a (count 127) (count-most (labels .pairs) a (leb-true a (count (labels .pairs)) h)))
+inside-found labels a h =
+    rw (h, le-leb a (count 127) (count-most (labels .pairs) a (leb-true a (count (labels .pairs)) h)))
 
-pub outside-found : (labels : Labels) (a : ℕ) → leb a (count (labels .pairs)) ≡ false → partner.Nobody ≡ partnerFound (pairing labels .partner a)
+pub outside-found : (labels : Labels) (a : ℕ) → leb a (count (labels .pairs)) ≡ false
+    → partner.Nobody ≡ partnerFound (pairing labels .partner a)
 unfolding pairing pairs partnerAmong partnerFound
 outside-found labels a h = rw h
 

@@ -22,7 +22,8 @@ none-left : (k : ℕ) (l : List ℕ) → drop (length l - k) (drop k l) ≡ []
 none-left k l = drop-of-length-le (drop k l) {i = length l - k} (omega (arith, length-drop k l))
 
 -- the second piece goes into the rest: together they are one piece
-pub front-after : (b d xs zs ys : List ℕ) (k : ℕ) → k ≡ length b → zs ≡ inFront b xs → ys ≡ inFront d (rest k zs) → putMid k (length zs - k) zs ys ≡ inFront (b ++ d) xs
+pub front-after : (b d xs zs ys : List ℕ) (k : ℕ) → k ≡ length b → zs ≡ inFront b xs → ys ≡ inFront d (rest k zs)
+    → putMid k (length zs - k) zs ys ≡ inFront (b ++ d) xs
 unfolding inFront
 front-after b d xs zs ys k p q r =
     rw (
@@ -46,7 +47,8 @@ put-two [] o a h = absurd (omega arith)
 put-two (x ∷ []) o a h = absurd (omega arith)
 put-two (x ∷ y ∷ xs) o a h = refl
 
-pub put-four : (xs : List ℕ) (o a b q : ℕ) → 4 ≤ length xs → set (set (set (set xs 0 o) 1 a) 2 b) 3 q ≡ inFront (o ∷ a ∷ b ∷ q ∷ []) xs
+pub put-four : (xs : List ℕ) (o a b q : ℕ) → 4 ≤ length xs
+    → set (set (set (set xs 0 o) 1 a) 2 b) 3 q ≡ inFront (o ∷ a ∷ b ∷ q ∷ []) xs
 unfolding inFront
 put-four [] o a b q h = absurd (omega arith)
 put-four (x ∷ []) o a b q h = absurd (omega arith)

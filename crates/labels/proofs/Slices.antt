@@ -34,9 +34,17 @@ take-two l n h =
     rw (take-add, drop-cons l n 0 (omega arith), drop-cons l (suc n) 0 (omega arith), e)
 
 -- bytes d written behind the bytes b
-pub written-behind : (b d xs : List ℕ) (n : ℕ) → length b ≡ n → n + length d ≤ length xs → sets (b ++ drop n xs) n d ≡ (b ++ d) ++ drop (n + length d) xs
-written-behind b d xs n e h = sets-eq d (b ++ drop n xs) n (omega (arith, length-append b (drop n xs), length-drop n xs))
-    ∙ rw (take-at b (drop n xs) n e, ← drop-drop (length d) n (b ++ drop n xs), drop-at b (drop n xs) n e, drop-drop (length d) n xs, append-assoc)
+pub written-behind : (b d xs : List ℕ) (n : ℕ) → length b ≡ n → n + length d ≤ length xs
+    → sets (b ++ drop n xs) n d ≡ (b ++ d) ++ drop (n + length d) xs
+written-behind b d xs n e h =
+    sets-eq d (b ++ drop n xs) n (omega (arith, length-append b (drop n xs), length-drop n xs))
+    ∙ rw (
+      take-at b (drop n xs) n e,
+      ← drop-drop (length d) n (b ++ drop n xs),
+      drop-at b (drop n xs) n e,
+      drop-drop (length d) n xs,
+      append-assoc,
+    )
 
 -- bytes that were copied to the front of others
 pub copied : (h xs ys : List ℕ) → xs ≡ take (length h) h ++ ys → take (length h) xs ≡ h

@@ -13,7 +13,8 @@ use Rattle.labels.specs.declared.label.Partner.the-variants as partner
 abbrev pub checkPairs : ℕ → Check
 checkPairs k = refusedIf (ltb 15 k) TooManyPairs
 
--- the partner of a label as such, whatever the call: among all labels that a byte can hold, which are those of 127 pairs
+-- the partner of a label as such, whatever the call: among all labels that a byte can hold, which are those of 127
+-- pairs
 unfoldable pub anyPartner : ℕ → Option ℕ
 anyPartner a = partnerAmong 127 a
 

@@ -48,7 +48,8 @@ firstOf (c ∷ cs) = thenOf c (firstOf cs)
 unfoldable pub inFront : List ℕ → List ℕ → List ℕ
 inFront b xs = b ++ drop (length b) xs
 
--- a lent output afterwards: "After an answer, lent bytes past it keep theirs"; after a refusal every byte keeps its value
+-- a lent output afterwards: "After an answer, lent bytes past it keep theirs"; after a refusal every byte keeps its
+-- value
 abbrev pub outputOf : Check → List ℕ → List ℕ → List ℕ
 outputOf Sound bytes out = inFront bytes out
 outputOf (Refused r) bytes out = out

@@ -35,7 +35,8 @@ impl Label {
         self.0 == Label::IDLE.0
     }
 
-    // Of an odd label the next number, of an even one the number before. The silent step and the mark of an idle have none.
+    // Of an odd label the next number, of an even one the number before. The silent step and the mark of an idle have
+    // none.
     pub fn partner(self) -> Partner
         ensures { λ r. ⌜ r ≡ partnerFound (anyPartner (self .0)) ⌝ }
     {

@@ -6,7 +6,8 @@ use mathlib.Core.List.{List, [], _∷_, _++_, append-assoc}
 use native.Mathlib.Omega.{arith}
 use native.Mathlib.Numerals.{add-one}
 use lib.ListN.{length, getD, take, set, length-set}
-use lib.Seq.{take-suc-set, take-set-le, set-comm, set-set, set-getD, getD-set-same, getD-set-other, length-take-le, take-suc, getD-take}
+use lib.Seq.{take-suc-set, take-set-le, set-comm, set-set, set-getD, getD-set-same, getD-set-other, length-take-le}
+use lib.Seq.{take-suc, getD-take}
 use lib.Dec.{leb}
 use borrow.Author.Tests.{leb-true, leb-false}
 use Rattle.hml.specs.System.{start, _▸_, last}
@@ -18,23 +19,34 @@ use Rattle.machines.proofs.JointRuns.{accepted-joint, joint-more, joint
 use Rattle.machines.specs.Working.{Held, put}
 
 -- an accepted joint run is so held in its own bytes
-pub accepted-held : (k : ℕ) (l r : List ℕ) → NoIdleLabel (tableOf l) → NoIdleLabel (tableOf r) → (s : List ℕ) → fitJoint s ≡ true → isJointRun k l r s ≡ true → Held s (length s)
-accepted-held k l r fl fr s fit real = record { whole = accepted-joint k l r fl fr s fit real .whole; within = omega arith; kept = kept }
+pub accepted-held : (k : ℕ) (l r : List ℕ) → NoIdleLabel (tableOf l) → NoIdleLabel (tableOf r) → (s : List ℕ)
+    → fitJoint s ≡ true → isJointRun k l r s ≡ true → Held s (length s)
+accepted-held k l r fl fr s fit real =
+    record { whole = accepted-joint k l r fl fr s fit real .whole; within = omega arith; kept = kept }
   where
-    kept : (m : ℕ) → 3 * m + 2 ≤ length s → last (jointOf (take (3 * m + 2) s)) ≡ (getD s (3 * m) 0, getD s (3 * m + 1) 0)
+    kept : (m : ℕ) → 3 * m + 2 ≤ length s
+        → last (jointOf (take (3 * m + 2) s)) ≡ (getD s (3 * m) 0, getD s (3 * m + 1) 0)
     kept m i =
         let (f, e) = joint-stopped k l r s m fit real in
         let a = accepted-joint k l r fl fr (take (3 * m + 2) s) f e in
         let n : length (take (3 * m + 2) s) ≡ 3 * m + 2 = length-take-le (3 * m + 2) s i in
         let u : length (take (3 * m + 2) s) - 2 ≡ 3 * m = omega (arith, n) in
         let v : length (take (3 * m + 2) s) - 1 ≡ 3 * m + 1 = omega (arith, n) in
-        rw (a .ends, u, v, getD-take (3 * m + 2) s (3 * m) 0 (omega arith), getD-take (3 * m + 2) s (3 * m + 1) 0 (omega arith))
+        rw (
+          a .ends,
+          u,
+          v,
+          getD-take (3 * m + 2) s (3 * m) 0 (omega arith),
+          getD-take (3 * m + 2) s (3 * m + 1) 0 (omega arith),
+        )
 
 pub length-put : (xs : List ℕ) (n a p q : ℕ) → length (put xs n a p q) ≡ length xs
-length-put xs n a p q = length-set (set (set xs n a) (n + 1) p) (n + 2) q ∙ length-set (set xs n a) (n + 1) p ∙ length-set xs n a
+length-put xs n a p q =
+    length-set (set (set xs n a) (n + 1) p) (n + 2) q ∙ length-set (set xs n a) (n + 1) p ∙ length-set xs n a
 
 -- bytes that were written over can be put back
-pub put-back : (xs ys : List ℕ) (n a p q : ℕ) → ys ≡ put xs n a p q → put ys n (getD xs n 0) (getD xs (n + 1) 0) (getD xs (n + 2) 0) ≡ xs
+pub put-back : (xs ys : List ℕ) (n a p q : ℕ) → ys ≡ put xs n a p q
+    → put ys n (getD xs n 0) (getD xs (n + 1) 0) (getD xs (n + 2) 0) ≡ xs
 put-back xs ys n a p q e = rw (
   e,
   set-comm (set (set xs n a) (n + 1) p) (n + 2) n q (getD xs n 0) (λ h. omega arith),
@@ -67,7 +79,8 @@ module _ (xs : List ℕ) (n a p q : ℕ) where
     longer-put : take (n + 3) (put xs n a p q) ≡ take n xs ++ a ∷ p ∷ q ∷ []
     longer-put =
         ap (λ (k : ℕ). take k (put xs n a p q)) (three n)
-        ∙ take-suc-set (set (set xs n a) (n + 1) p) (n + 2) q (omega (arith, length-set (set xs n a) (n + 1) p, length-set xs n a))
+        ∙ take-suc-set (set (set xs n a) (n + 1) p) (n + 2) q
+        (omega (arith, length-set (set xs n a) (n + 1) p, length-set xs n a))
         ∙ ap (λ (k : ℕ). take k (set (set xs n a) (n + 1) p) ++ q ∷ []) (two n)
         ∙ ap (_++ q ∷ []) (take-suc-set (set xs n a) (n + 1) p (omega (arith, length-set xs n a)))
         ∙ ap (λ (k : ℕ). (take k (set xs n a) ++ p ∷ []) ++ q ∷ []) (add-one n)
@@ -87,7 +100,9 @@ module _ (xs : List ℕ) (n a p q : ℕ) where
         ∙ getD-set-same (set xs n a) (n + 1) p 0 (omega (arith, length-set xs n a))
 
     put-third : getD (put xs n a p q) (n + 2) 0 ≡ q
-    put-third = getD-set-same (set (set xs n a) (n + 1) p) (n + 2) q 0 (omega (arith, length-set (set xs n a) (n + 1) p, length-set xs n a))
+    put-third =
+        getD-set-same (set (set xs n a) (n + 1) p) (n + 2) q 0
+        (omega (arith, length-set (set xs n a) (n + 1) p, length-set xs n a))
 
 -- two bytes are a run of no step
 first-two : (xs : List ℕ) → 2 ≤ length xs → jointOf (take 2 xs) ≡ start (getD xs 0 0, getD xs 1 0)
@@ -97,7 +112,8 @@ first-two (p ∷ []) l = absurd (omega arith)
 first-two (p ∷ q ∷ xs) l = refl
 
 -- three bytes more
-take-three : (xs : List ℕ) (m : ℕ) → m + 3 ≤ length xs → take (m + 3) xs ≡ take m xs ++ getD xs m 0 ∷ getD xs (m + 1) 0 ∷ getD xs (m + 2) 0 ∷ []
+take-three : (xs : List ℕ) (m : ℕ) → m + 3 ≤ length xs
+    → take (m + 3) xs ≡ take m xs ++ getD xs m 0 ∷ getD xs (m + 1) 0 ∷ getD xs (m + 2) 0 ∷ []
 take-three xs m l =
     let a : m + 3 ≡ suc (m + 2) = omega arith in
     let b : m + 2 ≡ suc (m + 1) = omega arith in
@@ -129,33 +145,53 @@ module _ (xs : List ℕ) (n : ℕ) (h : Held xs n) where
   module _ (l : 5 ≤ n) where
     -- the run without its last step, and that step
     pub held-shorter : Held xs (n - 3)
-    held-shorter = record { whole = omega (arith, h .whole, l); within = omega (arith, h .within); kept = λ m i. h .kept m (omega arith) }
+    held-shorter =
+        record {
+          whole = omega (arith, h .whole, l);
+          within = omega (arith, h .within);
+          kept = λ m i. h .kept m (omega arith);
+        }
 
-    pub held-step : jointOf (take n xs) ≡ jointOf (take (n - 3) xs) ▸ stepOf (getD xs (n - 3) 0) (getD xs (n - 2) 0, getD xs (n - 1) 0)
+    pub held-step : jointOf (take n xs)
+        ≡ jointOf (take (n - 3) xs) ▸ stepOf (getD xs (n - 3) 0) (getD xs (n - 2) 0, getD xs (n - 1) 0)
     held-step =
         let i : n - 3 + 3 ≡ n = omega arith in
         let j : n - 3 + 1 ≡ n - 2 = omega arith in
         let k : n - 3 + 2 ≡ n - 1 = omega arith in
         let e = take-three xs (n - 3) (omega (arith, h .within)) in
         ap jointOf (rw (i, j, k) at e)
-        ∙ joint-more (take (n - 3) xs) (getD xs (n - 3) 0) (getD xs (n - 2) 0) (getD xs (n - 1) 0) (rw (length-take-le (n - 3) xs (omega (arith, h .within))) (omega (arith, h .whole, l)))
+        ∙ joint-more (take (n - 3) xs) (getD xs (n - 3) 0) (getD xs (n - 2) 0) (getD xs (n - 1) 0)
+        (rw (length-take-le (n - 3) xs (omega (arith, h .within))) (omega (arith, h .whole, l)))
 
   module _ (a p q : ℕ) (room : n + 3 ≤ length xs) where
     -- the run with one step more
     pub longer-run : jointOf (take (n + 3) (put xs n a p q)) ≡ jointOf (take n xs) ▸ stepOf a (p, q)
-    longer-run = ap jointOf (longer-put xs n a p q room) ∙ joint-more (take n xs) a p q (rw (length-take-le n xs (h .within)) (h .whole))
+    longer-run =
+        ap jointOf (longer-put xs n a p q room)
+        ∙ joint-more (take n xs) a p q (rw (length-take-le n xs (h .within)) (h .whole))
 
     pub held-longer : (a ≡ 255 → (p ≡ getD xs (n - 2) 0) × (q ≡ getD xs (n - 1) 0)) → Held (put xs n a p q) (n + 3)
-    held-longer k = record { whole = omega (arith, h .whole); within = omega (arith, room, length-put xs n a p q); kept = λ m i. at m i (leb (3 * m + 2) n) refl }
+    held-longer k =
+        record {
+          whole = omega (arith, h .whole);
+          within = omega (arith, room, length-put xs n a p q);
+          kept = λ m i. at m i (leb (3 * m + 2) n) refl;
+        }
       where
         at : (m : ℕ) → 3 * m + 2 ≤ n + 3 → (b : Bool) → leb (3 * m + 2) n ≡ b
-            → last (jointOf (take (3 * m + 2) (put xs n a p q))) ≡ (getD (put xs n a p q) (3 * m) 0, getD (put xs n a p q) (3 * m + 1) 0)
+            → last (jointOf (take (3 * m + 2) (put xs n a p q)))
+            ≡ (getD (put xs n a p q) (3 * m) 0, getD (put xs n a p q) (3 * m + 1) 0)
         at m i true e =
             let l = leb-true (3 * m + 2) n e in
-            rw (before-put xs n a p q (3 * m + 2) l, below-put xs n a p q (3 * m) (omega arith), below-put xs n a p q (3 * m + 1) (omega arith)) (h .kept m l)
+            rw (
+              before-put xs n a p q (3 * m + 2) l,
+              below-put xs n a p q (3 * m) (omega arith),
+              below-put xs n a p q (3 * m + 1) (omega arith),
+            ) (h .kept m l)
         at m i false e =
             let l = leb-false (3 * m + 2) n e in
             let z : 3 * m + 2 ≡ n + 3 = omega (arith, h .whole, i, l) in
             let x : 3 * m ≡ n + 1 = omega (arith, z) in
             let y : 3 * m + 1 ≡ n + 2 = omega (arith, z) in
-            rw (y, z, x, put-second xs n a p q room, put-third xs n a p q room, longer-run) (ends-in (jointOf (take n xs)) a (p, q) (λ g. rw (k g .0, k g .1) held-last))
+            rw (y, z, x, put-second xs n a p q room, put-third xs n a p q room, longer-run)
+            (ends-in (jointOf (take n xs)) a (p, q) (λ g. rw (k g .0, k g .1) held-last))

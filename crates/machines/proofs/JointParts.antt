@@ -1,4 +1,5 @@
--- The parts of an accepted joint run, up to one of its points and from it on: they are accepted, and read as the parts of what is read.
+-- The parts of an accepted joint run, up to one of its points and from it on: they are accepted, and read as the parts
+-- of what is read.
 use Prim.Native.Nat.{ℕ, zero, suc, _+_, _-_, _*_, _≤_, _<_}
 use mathlib.Core.Path.{_≡_, sym, _∙_, ap}
 use mathlib.Core.Bool.{true}
@@ -24,25 +25,30 @@ use Rattle.machines.proofs.JointRuns.{joint-in-range, joint-stop, joint
 use Rattle.machines.specs.Working.{Tables, AcceptedJoint, tablesOf}
 
 -- a written step more, in a run and in its newest steps
-more-behind : (n : ℕ) (j : Run (ℕ × ℕ)) (e : ℕ × (ℕ × ℕ)) → jointBytes (behind n j) ≡ drop (3 * (steps j - n)) (jointBytes j)
+more-behind : (n : ℕ) (j : Run (ℕ × ℕ)) (e : ℕ × (ℕ × ℕ))
+    → jointBytes (behind n j) ≡ drop (3 * (steps j - n)) (jointBytes j)
     → stateBytes (first (behind n j)) ++ each (stepBytes stateBytes) (written (behind n j) ++ e ∷ [])
     ≡ drop (3 * (suc (steps j) - suc n)) (stateBytes (first j) ++ each (stepBytes stateBytes) (written j ++ e ∷ []))
 unfolding jointBytes
 more-behind n j e b =
     let g = stepBytes stateBytes in
     let m : 3 * (suc (steps j) - suc n) ≡ 3 * (steps j - n) = omega arith in
-    let k : 3 * (steps j - n) ≤ length (jointBytes j) = omega (arith, length-each g 3 (steps-chunks .sized) (written j), length-written j) in
-    rw (m, each-append g (written (behind n j)) (e ∷ []), each-append g (written j) (e ∷ [])) (ap (_++ (g e ++ [])) b ∙ sym (drop-append-le (3 * (steps j - n)) (jointBytes j) (g e ++ []) k))
+    let k : 3 * (steps j - n) ≤ length (jointBytes j) = omega
+    (arith, length-each g 3 (steps-chunks .sized) (written j), length-written j) in
+    rw (m, each-append g (written (behind n j)) (e ∷ []), each-append g (written j) (e ∷ []))
+    (ap (_++ (g e ++ [])) b ∙ sym (drop-append-le (3 * (steps j - n)) (jointBytes j) (g e ++ []) k))
 
 -- the newest steps of a joint run are spelled by the last bytes of its spelling, from the states before these steps on
-bytes-behind : (n : ℕ) (j : Run (ℕ × ℕ)) → n ≤ steps j → jointBytes (behind n j) ≡ drop (3 * (steps j - n)) (jointBytes j)
+bytes-behind : (n : ℕ) (j : Run (ℕ × ℕ)) → n ≤ steps j
+    → jointBytes (behind n j) ≡ drop (3 * (steps j - n)) (jointBytes j)
 unfolding jointBytes written
 bytes-behind zero j h =
     let m : 3 * (steps j - 0) ≡ length (written j) * 3 = omega (arith, length-written j) in
     rw m (sym (last-bytes stateBytes steps-chunks (first j) (written j) ∙ ap stateBytes (ends-written j)))
 bytes-behind (suc n) (start u) h = absurd (omega arith)
 bytes-behind (suc n) (j ▸ move a u) h = more-behind n j (a, u) (bytes-behind n j (omega arith))
-bytes-behind (suc n) (j ▸ idle) h = rw (last-behind n j) (more-behind n j (255, last j) (bytes-behind n j (omega arith)))
+bytes-behind (suc n) (j ▸ idle) h =
+    rw (last-behind n j) (more-behind n j (255, last j) (bytes-behind n j (omega arith)))
 
 -- an accepted joint run of two sound tables
 module _ (k : ℕ) (l r : List ℕ) (tables : Tables k l r) (s : List ℕ) (sound : checkJoint k l r s ≡ Sound) where
@@ -50,7 +56,9 @@ module _ (k : ℕ) (l r : List ℕ) (tables : Tables k l r) (s : List ℕ) (soun
   free = (no-idle-label (tables .left), no-idle-label (tables .right))
 
   tested : (fitJoint s ≡ true) × (isJointRun k l r s ≡ true)
-  tested = both-true (decides (joint-decides k l r (free .0) (free .1) s) .1 (judges (judged-joint k l r s (tables .left) (tables .right)) .0 sound))
+  tested =
+      both-true (decides (joint-decides k l r (free .0) (free .1) s) .1
+      (judges (judged-joint k l r s (tables .left) (tables .right)) .0 sound))
 
   accepted : AcceptedJoint k l r s
   accepted = accepted-joint k l r (free .0) (free .1) s (tested .0) (tested .1)
@@ -65,7 +73,9 @@ module _ (k : ℕ) (l r : List ℕ) (tables : Tables k l r) (s : List ℕ) (soun
     ranged : (last (stop n (jointOf s)) .0 < statesOf l) × (last (stop n (jointOf s)) .1 < statesOf r)
     ranged =
         let (f, e) = joint-stopped k l r s n (tested .0) (tested .1) in
-        rw (joint-stop s n) at (joint-in-range k l r (free .0) (free .1) (λ p a q m. move-ranged (tables .left) p a q m .2) (λ p a q m. move-ranged (tables .right) p a q m .2) (take (3 * n + 2) s) f e)
+        rw (joint-stop s n)
+        at (joint-in-range k l r (free .0) (free .1) (λ p a q m. move-ranged (tables .left) p a q m .2)
+        (λ p a q m. move-ranged (tables .right) p a q m .2) (take (3 * n + 2) s) f e)
 
     module _ (within : n ≤ steps (jointOf s)) where
       -- what follows the point, as a run
@@ -90,5 +100,11 @@ module _ (k : ℕ) (l r : List ℕ) (tables : Tables k l r) (s : List ℕ) (soun
       unfolding JointRun
       joint-from =
           let f = first-behind (steps (jointOf s) - n) (jointOf s) in
-          judges (judged-joint k l r (drop (3 * n) s) (tables .left) (tables .right)) .1
-          (follows, sym follows-bytes, follows-run, rw f (ranged .0), rw f (ranged .1), omega (arith, steps-from n (jointOf s), accepted .few))
+          judges (judged-joint k l r (drop (3 * n) s) (tables .left) (tables .right)) .1 (
+            follows,
+            sym follows-bytes,
+            follows-run,
+            rw f (ranged .0),
+            rw f (ranged .1),
+            omega (arith, steps-from n (jointOf s), accepted .few),
+          )

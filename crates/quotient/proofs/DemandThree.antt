@@ -1,6 +1,6 @@
--- Demand 3: the verdict on a log stopped at a point is the verdict on either half stopped there, under the very bytes written as the quotient by the
--- other half stopped there. One theorem, `demand-three`, over the definitions that the public calls promise to answer, for every accepted log, every point
--- of it, every splitting and both known sides.
+-- Demand 3: the verdict on a log stopped at a point is the verdict on either half stopped there, under the very bytes
+-- written as the quotient by the other half stopped there. One theorem, `demand-three`, over the definitions that the
+-- public calls promise to answer, for every accepted log, every point of it, every splitting and both known sides.
 use Prim.Native.Nat.{ℕ, _*_, _≤_}
 use mathlib.Core.Path.{_≡_, refl, sym, _∙_, ap}
 use mathlib.Core.List.{List, []}
@@ -29,60 +29,80 @@ use Rattle.dividing.specs.declared.divide.Quotient.{Quotient}
 use Rattle.dividing.proofs.Answers.{refused-kept, too-short, enough-room, text-written, rest-kept, exactly-too-large}
 use Rattle.quotient.specs.Calls.{treeByHalf, byHalf, byHalfOutput, treeByNumber, byNumber, byNumberOutput}
 use Rattle.quotient.proofs.Quotients.{tree-found, question-read, question-fits, quotient-fits, verdict-kept}
-use Rattle.quotient.proofs.SplitRuns.{LogParts, log-parts, SplitRun, split-run, joint-call-sound, by-number-sound, known-within, by-half-sound, half-call-sound}
+use Rattle.quotient.proofs.SplitRuns.{LogParts, log-parts, SplitRun, split-run, joint-call-sound}
+use Rattle.quotient.proofs.SplitRuns.{by-number-sound, known-within, by-half-sound, half-call-sound}
 use Rattle.quotient.proofs.GivenVerdicts.{joint-given, half-given}
 use Rattle.quotient.specs.Demand.{Given, Decomposed, Demand}
 
 -- one splitting of a sound log and a legal question φ: a call whose checks pass does what the demand says
-module _ (k : ℕ) (l r s a b f : List ℕ) (side : Side) (point : ℕ) (log : LogParts k l r s) (within : point ≤ steps (jointOf s)) (split : SplitRun k l r s a b point) (φ : Formula) (asked : f ≡ spell φ []) where
-  -- the tree of the quotient by the known half stopped at the point
-  abbrev ψ : Formula
-  ψ = quotient (pairs k) (tableOf (knownPart l r (knownOf side))) φ (stop point (halfOf (knownPart a b (knownOf side))))
+module _ (k : ℕ) (l r s a b f : List ℕ) (side : Side) (point : ℕ) (log : LogParts k l r s)
+    (within : point ≤ steps (jointOf s)) (split : SplitRun k l r s a b point) (φ : Formula) (asked : f ≡ spell φ [])
+  where
+    -- the tree of the quotient by the known half stopped at the point
+    abbrev ψ : Formula
+    ψ =
+        quotient (pairs k) (tableOf (knownPart l r (knownOf side))) φ
+        (stop point (halfOf (knownPart a b (knownOf side))))
 
-  tree-is : treeByHalf k l r a b f side point ≡ some ψ
-  unfolding treeByHalf
-  tree-is = tree-found k (knownPart l r (knownOf side)) (stop point (halfOf (knownPart a b (knownOf side)))) f φ asked
+    tree-is : treeByHalf k l r a b f side point ≡ some ψ
+    unfolding treeByHalf
+    tree-is = tree-found k (knownPart l r (knownOf side)) (stop point (halfOf (knownPart a b (knownOf side)))) f φ asked
 
-  cut-is : halfOf (cutOf a b side point) ≡ stop point (halfOf (knownPart a b (knownOf side)))
-  unfolding cutOf
-  cut-is = cut-stopped (knownPart a b (knownOf side)) point (known-within k l r s a b point split (knownOf side))
+    cut-is : halfOf (cutOf a b side point) ≡ stop point (halfOf (knownPart a b (knownOf side)))
+    unfolding cutOf
+    cut-is = cut-stopped (knownPart a b (knownOf side)) point (known-within k l r s a b point split (knownOf side))
 
-  module _ (legal : checkFormula k questionLimit f ≡ Sound) where
-    log-verdict : jointVerdict k l r s f point ≡ verdictOf (holds (beside (pairs k) (tableOf l) (tableOf r)) φ (stop point (jointOf s)))
-    log-verdict = joint-given k f φ asked point l r s (joint-call-sound k l r s log point within f (question-fits k f legal))
+    module _ (legal : checkFormula k questionLimit f ≡ Sound) where
+      log-verdict : jointVerdict k l r s f point
+          ≡ verdictOf (holds (beside (pairs k) (tableOf l) (tableOf r)) φ (stop point (jointOf s)))
+      log-verdict =
+          joint-given k f φ asked point l r s (joint-call-sound k l r s log point within f (question-fits k f legal))
 
-    -- the tree's bytes are a formula that verdicts take, and under them the verdict on the other half is that on the log
-    other-verdict : size ψ ≤ quotientLimit → halfVerdict k (otherPart l r (knownOf side)) (otherPart a b (knownOf side)) (spell ψ []) point ≡ jointVerdict k l r s f point
-    other-verdict h =
-        let fits = quotient-fits k (knownPart l r (knownOf side)) (stop point (halfOf (knownPart a b (knownOf side)))) f φ asked legal h in
-        half-given k (spell ψ []) ψ refl point _ _ (half-call-sound k l r s log point within (spell ψ []) a b split fits (knownOf side))
-        ∙ ap verdictOf (sym (verdict-kept k l r a b (knownOf side) φ (jointOf s) point (split .join))) ∙ sym log-verdict
+      -- the tree's bytes are a formula that verdicts take, and under them the verdict on the other half is that on the
+      -- log
+      other-verdict : size ψ ≤ quotientLimit
+          → halfVerdict k (otherPart l r (knownOf side)) (otherPart a b (knownOf side)) (spell ψ []) point
+          ≡ jointVerdict k l r s f point
+      other-verdict h =
+          let fits = quotient-fits k (knownPart l r (knownOf side)) (stop point (halfOf (knownPart a b (knownOf side))))
+          f
+          φ asked legal h in
+          half-given k (spell ψ []) ψ refl point _ _
+          (half-call-sound k l r s log point within (spell ψ []) a b split fits (knownOf side))
+          ∙ ap verdictOf (sym (verdict-kept k l r a b (knownOf side) φ (jointOf s) point (split .join)))
+          ∙ sym log-verdict
 
-    module _ (answer : ℕ → Quotient) (output : List ℕ → List ℕ) (answers : (room : ℕ) → answer room ≡ answerOf Sound (some ψ) room) (outputs : (out : List ℕ) → output out ≡ outputAfter Sound (some ψ) out) where
-      tree-given : size ψ ≤ quotientLimit → (out : List ℕ) → 2 * size ψ ≤ length out → Given k l r s a b f side point answer output ψ out
-      tree-given h out i =
-          let bytes : take (2 * size ψ) (output out) ≡ spell ψ [] = ap (take (2 * size ψ)) (outputs out) ∙ text-written ψ h out i in
-          record {
-            written = answers (length out) ∙ enough-room ψ h (length out) i;
-            spelled = bytes;
-            kept = ap (drop (2 * size ψ)) (outputs out) ∙ rest-kept ψ h out i;
-            agree = ap (λ x. halfVerdict k (otherPart l r (knownOf side)) (otherPart a b (knownOf side)) x point) bytes ∙ other-verdict h;
-          }
+      module _ (answer : ℕ → Quotient) (output : List ℕ → List ℕ)
+          (answers : (room : ℕ) → answer room ≡ answerOf Sound (some ψ) room)
+          (outputs : (out : List ℕ) → output out ≡ outputAfter Sound (some ψ) out) where
+        tree-given : size ψ ≤ quotientLimit → (out : List ℕ) → 2 * size ψ ≤ length out
+            → Given k l r s a b f side point answer output ψ out
+        tree-given h out i =
+            let bytes : take (2 * size ψ) (output out) ≡ spell ψ [] = ap (take (2 * size ψ)) (outputs out)
+            ∙ text-written ψ h out i in
+            record {
+              written = answers (length out) ∙ enough-room ψ h (length out) i;
+              spelled = bytes;
+              kept = ap (drop (2 * size ψ)) (outputs out) ∙ rest-kept ψ h out i;
+              agree =
+                  ap (λ x. halfVerdict k (otherPart l r (knownOf side)) (otherPart a b (knownOf side)) x point) bytes
+                  ∙ other-verdict h;
+            }
 
-      decomposed : Decomposed k l r s a b f side point answer output
-      decomposed = record {
-        question = φ;
-        asked = asked;
-        tree = ψ;
-        divided = refl;
-        found = tree-is;
-        cut = cut-is;
-        verdict = log-verdict;
-        tooLarge = λ room. rw (answers room) (exactly-too-large ψ room);
-        tooShort = λ h room i. answers room ∙ too-short ψ h room i;
-        untouched = λ out x e. outputs out ∙ sym (refused-kept Sound (some ψ) out x (sym (answers (length out)) ∙ e));
-        given = tree-given;
-      }
+        decomposed : Decomposed k l r s a b f side point answer output
+        decomposed = record {
+          question = φ;
+          asked = asked;
+          tree = ψ;
+          divided = refl;
+          found = tree-is;
+          cut = cut-is;
+          verdict = log-verdict;
+          tooLarge = λ room. rw (answers room) (exactly-too-large ψ room);
+          tooShort = λ h room i. answers room ∙ too-short ψ h room i;
+          untouched = λ out x e. outputs out ∙ sym (refused-kept Sound (some ψ) out x (sym (answers (length out)) ∙ e));
+          given = tree-given;
+        }
 
 -- demand 3
 pub demand-three : (k : ℕ) (l r s f : List ℕ) (side : Side) (point : ℕ)
@@ -102,7 +122,8 @@ demand-three k l r s f side point log question within = record {
       let split = split-run k l r s _ _ point e j within in
       let tree = tree-is k l r s _ _ f side point parts within split φ asked in
       let sound = by-number-sound k l r s parts point within f question n h i in
-      decomposed k l r s (leftHalf k l r s n) (rightHalf k l r s n) f side point parts within split φ asked question _ _ (λ room. rw (sound, tree)) (λ out. rw (sound, tree));
+      decomposed k l r s (leftHalf k l r s n) (rightHalf k l r s n) f side point parts within split φ asked question _ _
+      (λ room. rw (sound, tree)) (λ out. rw (sound, tree));
 }
   where
     parts : LogParts k l r s
@@ -120,4 +141,5 @@ demand-three k l r s f side point log question within = record {
         let split = split-run k l r s a b point e j within in
         let tree = tree-is k l r s a b f side point parts within split φ asked in
         let sound = by-half-sound k l r s parts point within f a b split question side in
-        decomposed k l r s a b f side point parts within split φ asked question _ _ (λ room. rw (sound, tree)) (λ out. rw (sound, tree))
+        decomposed k l r s a b f side point parts within split φ asked question _ _ (λ room. rw (sound, tree))
+        (λ out. rw (sound, tree))

@@ -12,15 +12,19 @@ use Rattle.tables.specs.Tables.{tableOf}
 use Rattle.halves.specs.Halves.{halfOf}
 use Rattle.machines.specs.Joints.{jointOf}
 use Rattle.formulas.proofs.Checking.{formula-spell}
-use Rattle.verdict.specs.Verdicts.{jointHolds, halfHolds, checkJointCall, checkHalfCall, verdictOf, answered, jointVerdict, halfVerdict}
+use Rattle.verdict.specs.Verdicts.{jointHolds, halfHolds, checkJointCall, checkHalfCall, verdictOf, answered}
+use Rattle.verdict.specs.Verdicts.{jointVerdict, halfVerdict}
 
 module _ (k : ℕ) (f : List ℕ) (φ : Formula) (spelled : f ≡ spell φ []) (point : ℕ) where
   -- on a joint run
-  pub joint-holds : (l r s : List ℕ) → jointHolds k l r s f point ≡ holds (beside (pairs k) (tableOf l) (tableOf r)) φ (stop point (jointOf s))
+  pub joint-holds : (l r s : List ℕ)
+      → jointHolds k l r s f point ≡ holds (beside (pairs k) (tableOf l) (tableOf r)) φ (stop point (jointOf s))
   unfolding jointHolds
   joint-holds l r s = rw (spelled, formula-spell φ)
 
-  pub joint-given : (l r s : List ℕ) → checkJointCall k l r s f point ≡ Sound → jointVerdict k l r s f point ≡ verdictOf (holds (beside (pairs k) (tableOf l) (tableOf r)) φ (stop point (jointOf s)))
+  pub joint-given : (l r s : List ℕ) → checkJointCall k l r s f point ≡ Sound
+      → jointVerdict k l r s f point ≡ verdictOf
+      (holds (beside (pairs k) (tableOf l) (tableOf r)) φ (stop point (jointOf s)))
   unfolding jointVerdict answered
   joint-given l r s e = rw (e, joint-holds l r s)
 
@@ -29,6 +33,7 @@ module _ (k : ℕ) (f : List ℕ) (φ : Formula) (spelled : f ≡ spell φ []) (
   unfolding halfHolds
   half-holds t h = rw (spelled, formula-spell φ)
 
-  pub half-given : (t h : List ℕ) → checkHalfCall k t h f point ≡ Sound → halfVerdict k t h f point ≡ verdictOf (holds (tableOf t) φ (stop point (halfOf h)))
+  pub half-given : (t h : List ℕ) → checkHalfCall k t h f point ≡ Sound
+      → halfVerdict k t h f point ≡ verdictOf (holds (tableOf t) φ (stop point (halfOf h)))
   unfolding halfVerdict answered
   half-given t h e = rw (e, half-holds t h)

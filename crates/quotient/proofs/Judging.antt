@@ -26,7 +26,8 @@ use Rattle.quotient.specs.Working.{checkAsked, checkAskedRun, checkAsked
 
 module _ (k : ℕ) (a b f : List ℕ) (side : Side) (point : ℕ) where
   -- what is asked of two halves
-  pub question-refused : (x : Refusal) → checkFormula k questionLimit f ≡ Refused x → Refused x ≡ checkAsked k a b f side point
+  pub question-refused : (x : Refusal) → checkFormula k questionLimit f ≡ Refused x
+      → Refused x ≡ checkAsked k a b f side point
   unfolding checkAsked firstOf
   question-refused x e = rw e
 
@@ -45,14 +46,22 @@ module _ (k : ℕ) (a b f : List ℕ) (side : Side) (point : ℕ) where
 
   -- what a call judges that takes halves, with what is asked as one
   by-half-regroup : (l r : List ℕ) → checkByHalf k l r a b f side point
-      ≡ thenOf (checkPairs k) (thenOf (checkTable k l) (thenOf (checkTable k r) (thenOf (checkAsked k a b f side point) (thenOf (checkHalf l a) (thenOf (checkHalf r b) (refusedIf (not (halvesMatch k a b)) HalvesDoNotMatch))))))
+      ≡ thenOf (checkPairs k)
+      (thenOf (checkTable k l)
+      (thenOf (checkTable k r)
+      (thenOf (checkAsked k a b f side point)
+      (thenOf (checkHalf l a) (thenOf (checkHalf r b) (refusedIf (not (halvesMatch k a b)) HalvesDoNotMatch))))))
   unfolding checkByHalf checkAsked firstOf
-  by-half-regroup l r = go (checkPairs k) (checkTable k l) (checkTable k r) (checkFormula k questionLimit f) (refusedIf (beyond (knownPart a b (knownOf side)) point) PointBeyond) (checkHalf l a) (checkHalf r b)
+  by-half-regroup l r =
+      go (checkPairs k) (checkTable k l) (checkTable k r) (checkFormula k questionLimit f)
+      (refusedIf (beyond (knownPart a b (knownOf side)) point) PointBeyond) (checkHalf l a) (checkHalf r b)
     where
       m : Check
       m = refusedIf (not (halvesMatch k a b)) HalvesDoNotMatch
 
-      go : (c l r f p a b : Check) → thenOf c (thenOf l (thenOf r (thenOf f (thenOf p (thenOf a (thenOf b (thenOf m Sound))))))) ≡ thenOf c (thenOf l (thenOf r (thenOf (thenOf f (thenOf p Sound)) (thenOf a (thenOf b m)))))
+      go : (c l r f p a b : Check)
+          → thenOf c (thenOf l (thenOf r (thenOf f (thenOf p (thenOf a (thenOf b (thenOf m Sound)))))))
+          ≡ thenOf c (thenOf l (thenOf r (thenOf (thenOf f (thenOf p Sound)) (thenOf a (thenOf b m)))))
       go (Refused x) l r f p a b = refl
       go Sound (Refused x) r f p a b = refl
       go Sound Sound (Refused x) f p a b = refl
@@ -64,22 +73,27 @@ module _ (k : ℕ) (a b f : List ℕ) (side : Side) (point : ℕ) where
 
   module _ (l r : List ℕ) where
     -- nothing asked is refused: the halves' checks decide
-    pub halves-decide : checkAsked k a b f side point ≡ Sound → {c : Check} → c ≡ checkHalves k l r a b → c ≡ checkByHalf k l r a b f side point
+    pub halves-decide : checkAsked k a b f side point ≡ Sound → {c : Check} → c ≡ checkHalves k l r a b
+        → c ≡ checkByHalf k l r a b f side point
     unfolding checkHalves firstOf
-    halves-decide e d = d ∙ rw (by-half-regroup l r, e, then-sound (refusedIf (not (halvesMatch k a b)) HalvesDoNotMatch))
+    halves-decide e d =
+        d ∙ rw (by-half-regroup l r, e, then-sound (refusedIf (not (halvesMatch k a b)) HalvesDoNotMatch))
 
     pub pairs-decide : (x : Refusal) → checkPairs k ≡ Refused x → Refused x ≡ checkByHalf k l r a b f side point
     unfolding checkByHalf firstOf
     pairs-decide x e = rw e
 
     -- else the tables are judged first
-    pub asked-decides : checkPairs k ≡ Sound → (x : Refusal) → checkAsked k a b f side point ≡ Refused x → {t u c d : Check} → t ≡ checkTable k l → u ≡ checkTable k r → c ≡ thenOf t u → d ≡ thenOf c (Refused x)
+    pub asked-decides : checkPairs k ≡ Sound → (x : Refusal) → checkAsked k a b f side point ≡ Refused x
+        → {t u c d : Check} → t ≡ checkTable k l → u ≡ checkTable k r → c ≡ thenOf t u → d ≡ thenOf c (Refused x)
         → d ≡ checkByHalf k l r a b f side point
-    asked-decides e x h t u c d = d ∙ rw (c, t, u, by-half-regroup l r, e, h) (then-assoc (checkTable k l) (checkTable k r) (Refused x))
+    asked-decides e x h t u c d =
+        d ∙ rw (c, t, u, by-half-regroup l r, e, h) (then-assoc (checkTable k l) (checkTable k r) (Refused x))
 
 -- what is asked of a joint run
 module _ (k : ℕ) (s f : List ℕ) (point : ℕ) where
-  pub run-question-refused : (x : Refusal) → checkFormula k questionLimit f ≡ Refused x → Refused x ≡ checkAskedRun k s f point
+  pub run-question-refused : (x : Refusal) → checkFormula k questionLimit f ≡ Refused x
+      → Refused x ≡ checkAskedRun k s f point
   unfolding checkAskedRun firstOf
   run-question-refused x e = rw e
 
@@ -97,6 +111,7 @@ module _ (k : ℕ) (s f : List ℕ) (point : ℕ) where
     unfolding checkAskedLog
     log-left e = rw e
 
-    pub log-judged : (x : Refusal) → checkAskedRun k s f point ≡ Refused x → {c d : Check} → c ≡ checkLog k l r s → d ≡ thenOf c (Refused x) → d ≡ checkAskedLog k l r s f point
+    pub log-judged : (x : Refusal) → checkAskedRun k s f point ≡ Refused x → {c d : Check} → c ≡ checkLog k l r s
+        → d ≡ thenOf c (Refused x) → d ≡ checkAskedLog k l r s f point
     unfolding checkAskedLog
     log-judged x e c d = rw (e, ← c) d

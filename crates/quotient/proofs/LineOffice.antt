@@ -36,7 +36,8 @@ use Rattle.splitting.proofs.LogRuns.{sound-halves, halves-join, joined-read}
 use Rattle.splitting.proofs.AllSplittings.{joined-log}
 use Rattle.dividing.specs.Quotients.{nodesOf, textOf, checkSize, checkTree, written, answerOf}
 use Rattle.dividing.specs.declared.divide.Quotient.the-variants as answer
-use Rattle.quotient.specs.Calls.{treeByHalf, checkByHalf, byHalf, byHalfOutput, lineHolds, machineHolds, checkLine, verdictsOf, officeOf, Same}
+use Rattle.quotient.specs.Calls.{treeByHalf, checkByHalf, byHalf, byHalfOutput, lineHolds, machineHolds}
+use Rattle.quotient.specs.Calls.{checkLine, verdictsOf, officeOf, Same}
 use Rattle.quotient.specs.Working.{bothOf}
 use Rattle.quotient.specs.declared.line.LineOffice.{LineOffice}
 use Rattle.quotient.specs.declared.line.LineOffice.the-variants as line
@@ -56,11 +57,14 @@ written-told Sound m n e = (refl, cc)
 written-told (Refused y) m n e = absurd (apart cc)
 
 -- with two bytes lent for each node of the limit there is no 18
-no-short : (parts : Check) (tree : Option Formula) (room : ℕ) → 8192 ≤ room → checkTree parts tree room ≡ firstOf (parts ∷ checkSize tree ∷ [])
+no-short : (parts : Check) (tree : Option Formula) (room : ℕ) → 8192 ≤ room
+    → checkTree parts tree room ≡ firstOf (parts ∷ checkSize tree ∷ [])
 unfolding checkTree checkSize firstOf
 no-short parts tree room h = ap (thenOf parts) (go (ltb 4096 (nodesOf tree)) refl)
   where
-    go : (b : Bool) → ltb 4096 (nodesOf tree) ≡ b → thenOf (refusedIf b QuotientTooLarge) (thenOf (refusedIf (ltb room (2 * nodesOf tree)) OutputTooShort) Sound) ≡ thenOf (refusedIf b QuotientTooLarge) Sound
+    go : (b : Bool) → ltb 4096 (nodesOf tree) ≡ b
+        → thenOf (refusedIf b QuotientTooLarge) (thenOf (refusedIf (ltb room (2 * nodesOf tree)) OutputTooShort) Sound)
+        ≡ thenOf (refusedIf b QuotientTooLarge) Sound
     go true e = refl
     go false e = rw (le-ltb room (2 * nodesOf tree) (omega (arith, ltb-false 4096 (nodesOf tree) e)))
 
@@ -94,42 +98,62 @@ module _ (k : ℕ) (l r a b f : List ℕ) (side : Side) (point : ℕ) where
         let halves = sound-halves k l r a b halves-sound in
         let (m, n) = join-steps (pairs k) paired (halves-join halves .0) in
         let h = passed (isHalfRun (knownPart l r (knownOf side)) (knownPart a b (knownOf side))) _ (parts .half) in
-        let i = ltb-false _ _ (sym (cut-points (knownPart a b (knownOf side)) point (knownPart l r (knownOf side)) h) ∙ parts .within) in
+        let i = ltb-false _ _
+        (sym (cut-points (knownPart a b (knownOf side)) point (knownPart l r (knownOf side)) h) ∙ parts .within) in
         rw (joined-read halves) (go (knownOf side) m n i)
       where
-        go : {j : ℕ} (known : Known) → steps (halfOf a) ≡ j → steps (halfOf b) ≡ j → point ≤ steps (halfOf (knownPart a b known)) → point ≤ j
+        go : {j : ℕ} (known : Known) → steps (halfOf a) ≡ j → steps (halfOf b) ≡ j
+            → point ≤ steps (halfOf (knownPart a b known)) → point ≤ j
         go known.Left m n i = omega (arith, m, i)
         go known.Right m n i = omega (arith, n, i)
 
     demand : Decomposed k l r log a b f side point (byHalf k l r a b f side point) (byHalfOutput k l r a b f side point)
-    demand = demand-three k l r log f side point (joined-log k l r a b halves-sound) (by-half-checked k l r a b f side point parts-sound .0 .question) point-within .byHalves a b halves-sound refl
+    demand =
+        demand-three k l r log f side point (joined-log k l r a b halves-sound)
+        (by-half-checked k l r a b f side point parts-sound .0 .question) point-within .byHalves a b halves-sound refl
 
     small : nodesOf tree ≤ 4096
     unfolding checkLine checkSize firstOf
-    small = let (s, _) = both-sound (refusedIf (ltb 4096 (nodesOf tree)) _) _ (both-sound (checkByHalf k l r a b f side point) _ e .1) in ltb-false 4096 _ (unrefused _ _ s)
+    small =
+        let (s, _) = both-sound (refusedIf (ltb 4096 (nodesOf tree)) _) _
+        (both-sound (checkByHalf k l r a b f side point) _ e .1) in
+        ltb-false 4096 _ (unrefused _ _ s)
 
     -- the verdict on the line is given
     line-verdict : jointVerdict k l r log f point ≡ verdictOf (lineHolds k l r a b f point)
     unfolding lineHolds
-    line-verdict = demand .verdict ∙ ap verdictOf (sym (joint-holds k f (demand .question) (demand .asked) point l r log))
+    line-verdict =
+        demand .verdict ∙ ap verdictOf (sym (joint-holds k f (demand .question) (demand .asked) point l r log))
 
     -- and that on the machine is the same
     pub verdicts-same : lineHolds k l r a b f point ≡ machineHolds k l r a b f side point
     unfolding lineHolds machineHolds textOf
     verdicts-same =
         let halves = sound-halves k l r a b halves-sound in
-        let join : Join (pairs k) paired (halfOf a) (halfOf b) (jointOf log) = rw (joined-read halves) (halves-join halves .0) in
+        let join : Join (pairs k) paired (halfOf a) (halfOf b) (jointOf log) = rw (joined-read halves)
+        (halves-join halves .0) in
         joint-holds k f (demand .question) (demand .asked) point l r log
         ∙ verdict-kept k l r a b (knownOf side) (demand .question) (jointOf log) point join
-        ∙ rw (demand .found, half-holds k (spell (demand .tree) []) (demand .tree) refl point (otherPart l r (knownOf side)) (otherPart a b (knownOf side)), demand .divided)
+        ∙ rw (
+          demand .found,
+          half-holds k (spell (demand .tree) []) (demand .tree) refl point (otherPart l r (knownOf side))
+              (otherPart a b (knownOf side)),
+          demand .divided,
+        )
 
     -- under the bytes that were written
-    module _ (n : ℕ) (out : List ℕ) (room : 8192 ≤ length out) (told : byHalf k l r a b f side point (length out) ≡ answer.Written n) where
+    module _ (n : ℕ) (out : List ℕ) (room : 8192 ≤ length out)
+        (told : byHalf k l r a b f side point (length out) ≡ answer.Written n) where
       size-told : n ≡ 2 * size (demand .tree)
       unfolding byHalf answerOf nodesOf
-      size-told = let (_, z) = written-told (checkTree (checkByHalf k l r a b f side point) tree (length out)) (2 * nodesOf tree) n told in sym (rw (demand .found) at z)
+      size-told =
+          let (_, z) = written-told (checkTree (checkByHalf k l r a b f side point) tree (length out))
+          (2 * nodesOf tree) n told in
+          sym (rw (demand .found) at z)
 
-      machine-verdict : halfVerdict k (otherPart l r (knownOf side)) (otherPart a b (knownOf side)) (take n (byHalfOutput k l r a b f side point out)) point ≡ verdictOf (machineHolds k l r a b f side point)
+      machine-verdict : halfVerdict k (otherPart l r (knownOf side)) (otherPart a b (knownOf side))
+          (take n (byHalfOutput k l r a b f side point out)) point
+          ≡ verdictOf (machineHolds k l r a b f side point)
       unfolding nodesOf
       machine-verdict =
           let h : size (demand .tree) ≤ 4096 = rw (demand .found) at small in
@@ -140,7 +164,8 @@ module _ (k : ℕ) (l r a b f : List ℕ) (side : Side) (point : ℕ) where
   unfolding officeOf Same
   answers-same = go (checkLine k l r a b f side point) refl
     where
-      go : (c : Check) → checkLine k l r a b f side point ≡ c → Same (verdictsOf c (lineHolds k l r a b f point) (machineHolds k l r a b f side point))
+      go : (c : Check) → checkLine k l r a b f side point ≡ c
+          → Same (verdictsOf c (lineHolds k l r a b f point) (machineHolds k l r a b f side point))
       go Sound e = verdicts-same e
       go (Refused x) e = tt
 
@@ -153,18 +178,31 @@ module _ (k : ℕ) (l r a b f : List ℕ) (side : Side) (point : ℕ) where
     -- the bytes written have room
     pub line-room : n ≤ room
     unfolding byHalf answerOf
-    line-room = omega (arith, written-told (checkTree (checkByHalf k l r a b f side point) tree room) _ n told .1, small line-sound, enough)
+    line-room =
+        omega (
+          arith,
+          written-told (checkTree (checkByHalf k l r a b f side point) tree room) _ n told .1,
+          small line-sound,
+          enough,
+        )
 
   -- the answers
-  pub line-refused : (room : ℕ) (x : Refusal) → byHalf k l r a b f side point room ≡ answer.Refused x → 8192 ≤ room → (line.Refused x ≡ officeOf k l r a b f side point) × Same (line.Refused x)
+  pub line-refused : (room : ℕ) (x : Refusal) → byHalf k l r a b f side point room ≡ answer.Refused x → 8192 ≤ room
+      → (line.Refused x ≡ officeOf k l r a b f side point) × Same (line.Refused x)
   unfolding byHalf answerOf officeOf checkLine Same
-  line-refused room x told enough = let c = sym (no-short (checkByHalf k l r a b f side point) tree room enough) ∙ written-refused _ _ x told in (rw c, tt)
+  line-refused room x told enough =
+      let c = sym (no-short (checkByHalf k l r a b f side point) tree room enough)
+      ∙ written-refused _ _ x told in (rw c, tt)
 
-  pub line-answered : (out text : List ℕ) (n : ℕ) → byHalf k l r a b f side point (length out) ≡ answer.Written n → text ≡ byHalfOutput k l r a b f side point out
-      → (t h : List ℕ) → t ≡ otherPart l r (knownOf side) → h ≡ otherPart a b (knownOf side) → (m : Verdict) → m ≡ halfVerdict k t h (take n text) point
+  pub line-answered : (out text : List ℕ) (n : ℕ) → byHalf k l r a b f side point (length out) ≡ answer.Written n
+      → text ≡ byHalfOutput k l r a b f side point out
+      → (t h : List ℕ) → t ≡ otherPart l r (knownOf side) → h ≡ otherPart a b (knownOf side) → (m : Verdict)
+      → m ≡ halfVerdict k t h (take n text) point
       → (q : LineOffice) → q ≡ bothOf m → 8192 ≤ length out → (q ≡ officeOf k l r a b f side point) × Same q
   unfolding officeOf
   line-answered out text n told e t h u v m y q z enough = (given, rw given answers-same)
     where
       given : q ≡ officeOf k l r a b f side point
-      given = let sound = line-sound (length out) n told enough in z ∙ rw (y, u, v, e, machine-verdict sound n out enough told, both-given, sound, verdicts-same sound)
+      given =
+          let sound = line-sound (length out) n told enough in
+          z ∙ rw (y, u, v, e, machine-verdict sound n out enough told, both-given, sound, verdicts-same sound)

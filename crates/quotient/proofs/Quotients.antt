@@ -26,7 +26,8 @@ use Rattle.formulas.proofs.Checking.{judged-formula, formula-spell, one-formula
 use Rattle.dividing.specs.Quotients.{quotientBy, treeBy}
 
 -- the tree of the quotient of bytes that spell a formula
-pub tree-found : (k : ℕ) (t : List ℕ) (x : Run ℕ) (f : List ℕ) (φ : Formula) → f ≡ spell φ [] → quotientBy k t x f ≡ some (quotient (pairs k) (tableOf t) φ x)
+pub tree-found : (k : ℕ) (t : List ℕ) (x : Run ℕ) (f : List ℕ) (φ : Formula) → f ≡ spell φ []
+    → quotientBy k t x f ≡ some (quotient (pairs k) (tableOf t) φ x)
 unfolding quotientBy treeBy
 tree-found k t x f φ e = rw (e, formula-spell φ)
 
@@ -35,13 +36,19 @@ pub question-read : (k : ℕ) (f : List ℕ) → checkFormula k questionLimit f 
 unfolding Legal
 question-read k f e = let (φ, spelled, _, _, _) = judges (judged-formula k questionLimit f) .0 e in (φ, spelled)
 
-pub question-fits : (k : ℕ) (f : List ℕ) → checkFormula k questionLimit f ≡ Sound → checkFormula k quotientLimit f ≡ Sound
+pub question-fits : (k : ℕ) (f : List ℕ) → checkFormula k questionLimit f ≡ Sound
+    → checkFormula k quotientLimit f ≡ Sound
 unfolding Legal
-question-fits k f e = let (φ, spelled, s, l, n) = judges (judged-formula k questionLimit f) .0 e in judges (judged-formula k quotientLimit f) .1 (φ, spelled, omega (arith, s), l, n)
+question-fits k f e =
+    let (φ, spelled, s, l, n) = judges (judged-formula k questionLimit f) .0 e in
+    judges (judged-formula k quotientLimit f) .1 (φ, spelled, omega (arith, s), l, n)
 
--- its quotient, if it has at most 4,096 nodes, is one too: the labels are those of the k pairs, and forward modalities nest no deeper
-pub quotient-fits : (k : ℕ) (t : List ℕ) (x : Run ℕ) (f : List ℕ) (φ : Formula) → f ≡ spell φ [] → checkFormula k questionLimit f ≡ Sound
-    → size (quotient (pairs k) (tableOf t) φ x) ≤ quotientLimit → checkFormula k quotientLimit (spell (quotient (pairs k) (tableOf t) φ x) []) ≡ Sound
+-- its quotient, if it has at most 4,096 nodes, is one too: the labels are those of the k pairs, and forward modalities
+-- nest no deeper
+pub quotient-fits : (k : ℕ) (t : List ℕ) (x : Run ℕ) (f : List ℕ) (φ : Formula) → f ≡ spell φ []
+    → checkFormula k questionLimit f ≡ Sound
+    → size (quotient (pairs k) (tableOf t) φ x) ≤ quotientLimit
+    → checkFormula k quotientLimit (spell (quotient (pairs k) (tableOf t) φ x) []) ≡ Sound
 unfolding Legal pairs
 quotient-fits k t x f φ spelled e s = go (judges (judged-formula k questionLimit f) .0 e)
   where
@@ -51,12 +58,23 @@ quotient-fits k t x f φ spelled e s = go (judges (judged-formula k questionLimi
     go : Legal k questionLimit f → checkFormula k quotientLimit (spell (quotient (pairs k) (tableOf t) φ x) []) ≡ Sound
     go (χ, other, _, l, n) =
         let same : χ ≡ φ = one-formula χ φ (sym other ∙ spelled) in
-        judges (judged-formula k quotientLimit (spell (quotient (pairs k) (tableOf t) φ x) [])) .1
-        (quotient (pairs k) (tableOf t) φ x, refl, s, quotient-labelled (count k) (pairs k) ranged (tableOf t) φ x (rw same at l), omega (arith, quotient-nested (pairs k) (tableOf t) φ x, rw same at n))
+        judges (judged-formula k quotientLimit (spell (quotient (pairs k) (tableOf t) φ x) [])) .1 (
+          quotient (pairs k) (tableOf t) φ x,
+          refl,
+          s,
+          quotient-labelled (count k) (pairs k) ranged (tableOf t) φ x (rw same at l),
+          omega (arith, quotient-nested (pairs k) (tableOf t) φ x, rw same at n),
+        )
 
--- a formula holds on a joint run stopped at a point exactly if its quotient by the known half, stopped there, holds on the other half, stopped there
-pub verdict-kept : (k : ℕ) (l r a b : List ℕ) (known : Known) (φ : Formula) (j : Run (ℕ × ℕ)) (point : ℕ) → Join (pairs k) paired (halfOf a) (halfOf b) j
+-- a formula holds on a joint run stopped at a point exactly if its quotient by the known half, stopped there, holds on
+-- the other half, stopped there
+pub verdict-kept : (k : ℕ) (l r a b : List ℕ) (known : Known) (φ : Formula) (j : Run (ℕ × ℕ)) (point : ℕ)
+    → Join (pairs k) paired (halfOf a) (halfOf b) j
     → holds (beside (pairs k) (tableOf l) (tableOf r)) φ (stop point j)
-    ≡ holds (tableOf (otherPart l r known)) (quotient (pairs k) (tableOf (knownPart l r known)) φ (stop point (halfOf (knownPart a b known)))) (stop point (halfOf (otherPart a b known)))
-verdict-kept k l r a b known.Left φ j point m = by-left (pairs k) (tableOf l) (tableOf r) φ (join-stop (pairs k) paired point m)
-verdict-kept k l r a b known.Right φ j point m = by-right (pairs k) (tableOf l) (tableOf r) φ (join-stop (pairs k) paired point m)
+    ≡ holds (tableOf (otherPart l r known))
+    (quotient (pairs k) (tableOf (knownPart l r known)) φ (stop point (halfOf (knownPart a b known))))
+    (stop point (halfOf (otherPart a b known)))
+verdict-kept k l r a b known.Left φ j point m =
+    by-left (pairs k) (tableOf l) (tableOf r) φ (join-stop (pairs k) paired point m)
+verdict-kept k l r a b known.Right φ j point m =
+    by-right (pairs k) (tableOf l) (tableOf r) φ (join-stop (pairs k) paired point m)

@@ -56,7 +56,8 @@ within-half : (t a : List ℕ) (point : ℕ) → checkHalf t a ≡ Sound → poi
 unfolding checkHalf
 within-half t a point e h = cut-points a point t (passed (isHalfRun t a) _ e) ∙ le-ltb (steps (halfOf a)) point h
 
-pub split-run : (k : ℕ) (l r s a b : List ℕ) (point : ℕ) → checkHalves k l r a b ≡ Sound → joinBytes k a b ≡ s → point ≤ steps (jointOf s) → SplitRun k l r s a b point
+pub split-run : (k : ℕ) (l r s a b : List ℕ) (point : ℕ) → checkHalves k l r a b ≡ Sound → joinBytes k a b ≡ s
+    → point ≤ steps (jointOf s) → SplitRun k l r s a b point
 unfolding checkHalves firstOf
 split-run k l r s a b point e j h =
     let (_, u) = both-sound (checkPairs k) _ e in
@@ -66,7 +67,8 @@ split-run k l r s a b point e j h =
     let (y, q) = both-sound (checkHalf r b) _ p in
     let (m, _) = both-sound (refusedIf (not (halvesMatch k a b)) _) _ q in
     let halves = sound-halves k l r a b e in
-    let join : Join (pairs k) paired (halfOf a) (halfOf b) (jointOf s) = rw (← j, joined-read halves) (halves-join halves .0) in
+    let join : Join (pairs k) paired (halfOf a) (halfOf b) (jointOf s) = rw (← j, joined-read halves)
+    (halves-join halves .0) in
     let (f, g) = join-steps (pairs k) paired join in
     record {
       left = x;
@@ -78,29 +80,63 @@ split-run k l r s a b point e j h =
     }
 
 -- either half has the point
-pub known-within : (k : ℕ) (l r s a b : List ℕ) (point : ℕ) → SplitRun k l r s a b point → (known : Known) → beyond (knownPart a b known) point ≡ false
+pub known-within : (k : ℕ) (l r s a b : List ℕ) (point : ℕ) → SplitRun k l r s a b point → (known : Known)
+    → beyond (knownPart a b known) point ≡ false
 known-within k l r s a b point split known.Left = split .leftWithin
 known-within k l r s a b point split known.Right = split .rightWithin
 
-module _ (k : ℕ) (l r s : List ℕ) (log : LogParts k l r s) (point : ℕ) (within : point ≤ steps (jointOf s)) (f : List ℕ) where
-  -- the verdict on the log refuses nothing
-  pub joint-call-sound : checkFormula k quotientLimit f ≡ Sound → checkJointCall k l r s f point ≡ Sound
-  unfolding checkJointCall firstOf
-  joint-call-sound e = rw (log .machines .pairs, log .machines .left, log .machines .right, log .run, e, le-ltb (steps (jointOf s)) point within)
+module _ (k : ℕ) (l r s : List ℕ) (log : LogParts k l r s) (point : ℕ) (within : point ≤ steps (jointOf s)) (f : List ℕ)
+  where
+    -- the verdict on the log refuses nothing
+    pub joint-call-sound : checkFormula k quotientLimit f ≡ Sound → checkJointCall k l r s f point ≡ Sound
+    unfolding checkJointCall firstOf
+    joint-call-sound e =
+        rw (
+          log .machines .pairs,
+          log .machines .left,
+          log .machines .right,
+          log .run,
+          e,
+          le-ltb (steps (jointOf s)) point within,
+        )
 
-  -- nor does the quotient by the splitting of a number
-  pub by-number-sound : checkFormula k questionLimit f ≡ Sound → (n : ℕ) → n < length (splittingsOf k l r s) → length (splittingsOf k l r s) ≤ 65535 → checkByNumber k l r s f n point ≡ Sound
-  unfolding checkByNumber firstOf splittingLimit
-  by-number-sound e n h i = rw (log .machines .pairs, log .machines .left, log .machines .right, log .run, e, le-ltb (steps (jointOf s)) point within, le-ltb 65535 (length (splittingsOf k l r s)) i, lt-leb (length (splittingsOf k l r s)) n h)
+    -- nor does the quotient by the splitting of a number
+    pub by-number-sound : checkFormula k questionLimit f ≡ Sound → (n : ℕ) → n < length (splittingsOf k l r s)
+        → length (splittingsOf k l r s) ≤ 65535 → checkByNumber k l r s f n point ≡ Sound
+    unfolding checkByNumber firstOf splittingLimit
+    by-number-sound e n h i =
+        rw (
+          log .machines .pairs,
+          log .machines .left,
+          log .machines .right,
+          log .run,
+          e,
+          le-ltb (steps (jointOf s)) point within,
+          le-ltb 65535 (length (splittingsOf k l r s)) i,
+          lt-leb (length (splittingsOf k l r s)) n h,
+        )
 
-  module _ (a b : List ℕ) (split : SplitRun k l r s a b point) where
-    -- nor the quotient by the known one of its halves
-    pub by-half-sound : checkFormula k questionLimit f ≡ Sound → (side : Side) → checkByHalf k l r a b f side point ≡ Sound
-    unfolding checkByHalf firstOf
-    by-half-sound e side = rw (log .machines .pairs, log .machines .left, log .machines .right, e, known-within k l r s a b point split (knownOf side), split .left, split .right, split .match)
+    module _ (a b : List ℕ) (split : SplitRun k l r s a b point) where
+      -- nor the quotient by the known one of its halves
+      pub by-half-sound : checkFormula k questionLimit f ≡ Sound → (side : Side)
+          → checkByHalf k l r a b f side point ≡ Sound
+      unfolding checkByHalf firstOf
+      by-half-sound e side =
+          rw (
+            log .machines .pairs,
+            log .machines .left,
+            log .machines .right,
+            e,
+            known-within k l r s a b point split (knownOf side),
+            split .left,
+            split .right,
+            split .match,
+          )
 
-    -- nor the verdict on the other half
-    pub half-call-sound : checkFormula k quotientLimit f ≡ Sound → (known : Known) → checkHalfCall k (otherPart l r known) (otherPart a b known) f point ≡ Sound
-    unfolding checkHalfCall firstOf
-    half-call-sound e known.Left = rw (log .machines .pairs, log .machines .right, e, split .rightWithin, split .right)
-    half-call-sound e known.Right = rw (log .machines .pairs, log .machines .left, e, split .leftWithin, split .left)
+      -- nor the verdict on the other half
+      pub half-call-sound : checkFormula k quotientLimit f ≡ Sound → (known : Known)
+          → checkHalfCall k (otherPart l r known) (otherPart a b known) f point ≡ Sound
+      unfolding checkHalfCall firstOf
+      half-call-sound e known.Left =
+          rw (log .machines .pairs, log .machines .right, e, split .rightWithin, split .right)
+      half-call-sound e known.Right = rw (log .machines .pairs, log .machines .left, e, split .leftWithin, split .left)

@@ -1,6 +1,7 @@
--- The window of a point: the quotient at a point by the known half of any splitting of a log is that by the known half of a splitting of the window alone, at
--- its end, if the window has as many steps as the formula nests back modalities. So a program that asks for the quotients by all splittings of a log divides
--- once for each splitting of the window, and not for each of the log.
+-- The window of a point: the quotient at a point by the known half of any splitting of a log is that by the known half
+-- of a splitting of the window alone, at its end, if the window has as many steps as the formula nests back modalities.
+-- So a program that asks for the quotients by all splittings of a log divides once for each splitting of the window,
+-- and not for each of the log.
 use Prim.Native.Nat.{ℕ, _-_, _*_, _/_, _%_, _≤_, _<_}
 use mathlib.Core.Path.{_≡_, _∙_, ap}
 use mathlib.Core.List.{List}
@@ -51,8 +52,11 @@ pub record Windowed (k : ℕ) (l r s : List ℕ) (p b : ℕ) : Type 0 where
   pub someWindow : 1 ≤ length (splittingsOf k l r (windowOf s p b))
   pub someRest : 1 ≤ length (splittingsOf k l r (restOf s p))
   -- the quotient by the known half of splitting n, at the point, is that by the window's splitting
-  pub tree : (f : List ℕ) (φ : Formula) → formulaOf f ≡ some φ → backs φ ≤ b → (n : ℕ) → n < length (splittingsOf k l r s) → (side : Side)
-      → treeByNumber k l r s f n side p ≡ treeByNumber k l r (windowOf s p b) f ((n / length (splittingsOf k l r (restOf s p))) % length (splittingsOf k l r (windowOf s p b))) side (p - (p - b))
+  pub tree : (f : List ℕ) (φ : Formula) → formulaOf f ≡ some φ → backs φ ≤ b → (n : ℕ)
+      → n < length (splittingsOf k l r s) → (side : Side)
+      → treeByNumber k l r s f n side p
+      ≡ treeByNumber k l r (windowOf s p b) f
+      ((n / length (splittingsOf k l r (restOf s p))) % length (splittingsOf k l r (windowOf s p b))) side (p - (p - b))
 
 -- an accepted log, at a point of it
 module _ (k : ℕ) (l r s : List ℕ) (p b : ℕ) (sound : checkLog k l r s ≡ Sound) (within : p ≤ steps (jointOf s)) where
@@ -68,7 +72,13 @@ module _ (k : ℕ) (l r s : List ℕ) (p b : ℕ) (sound : checkLog k l r s ≡ 
   -- what follows the point is accepted, and read as what follows
   rest-sound : checkLog k l r (restOf s p) ≡ Sound
   unfolding checkLog firstOf restOf
-  rest-sound = rw (parts .machines .pairs, parts .machines .left, parts .machines .right, joint-from k l r tables s (parts .run) p within)
+  rest-sound =
+      rw (
+        parts .machines .pairs,
+        parts .machines .left,
+        parts .machines .right,
+        joint-from k l r tables s (parts .run) p within,
+      )
 
   rest-read : jointOf (restOf s p) ≡ behind (steps (jointOf s) - p) (jointOf s)
   unfolding restOf
@@ -81,12 +91,15 @@ module _ (k : ℕ) (l r s : List ℕ) (p b : ℕ) (sound : checkLog k l r s ≡ 
     parts .machines .pairs,
     parts .machines .left,
     parts .machines .right,
-    joint-until k l r tables (drop (3 * (p - b)) s) (joint-from k l r tables s (parts .run) (p - b) (omega (arith, within))) (p - (p - b)),
+    joint-until k l r tables (drop (3 * (p - b)) s)
+        (joint-from k l r tables s (parts .run) (p - b) (omega (arith, within))) (p - (p - b)),
   )
 
   window-read : jointOf (windowOf s p b) ≡ behind b (stop p (jointOf s))
   unfolding windowOf
-  window-read = joint-stop (drop (3 * (p - b)) s) (p - (p - b)) ∙ rw (joint-later k l r tables s (parts .run) (p - b) (omega (arith, within))) (window-cut b p (jointOf s) within)
+  window-read =
+      joint-stop (drop (3 * (p - b)) s) (p - (p - b))
+      ∙ rw (joint-later k l r tables s (parts .run) (p - b) (omega (arith, within))) (window-cut b p (jointOf s) within)
 
   window-points : steps (jointOf (windowOf s p b)) ≡ p - (p - b)
   window-points = ap steps window-read ∙ window-steps b p (jointOf s) within
@@ -100,7 +113,8 @@ module _ (k : ℕ) (l r s : List ℕ) (p b : ℕ) (sound : checkLog k l r s ≡ 
   unfolding splittingsOf
   few-window = rw window-read (omega (
     arith,
-    fewer-behind (pairs k) tested-ℕ tested-ℕ (tableOf l) (tableOf r) b (run-undo (tablesOf k l r) (steps (jointOf s) - p) run),
+    fewer-behind (pairs k) tested-ℕ tested-ℕ (tableOf l) (tableOf r) b
+        (run-undo (tablesOf k l r) (steps (jointOf s) - p) run),
     fewer-undone (pairs k) tested-ℕ tested-ℕ (tableOf l) (tableOf r) (steps (jointOf s) - p) run,
   ))
 
@@ -123,24 +137,32 @@ module _ (k : ℕ) (l r s : List ℕ) (p b : ℕ) (sound : checkLog k l r s ≡ 
     halves-alike =
         let g = nth k l r (windowOf s p b) (place n) in
         let (u, v) = join-steps (pairs k) paired (nth-joins k l r (windowOf s p b) (place n) placed .0) in
-        rw (whole (g .0) u, whole (g .1) v, window-read, rest-read) (nth-window (pairs k) tested-ℕ tested-ℕ (tableOf l) (tableOf r) (start 0, start 0) b p (jointOf s) run n below)
+        rw (whole (g .0) u, whole (g .1) v, window-read, rest-read)
+        (nth-window (pairs k) tested-ℕ tested-ℕ (tableOf l) (tableOf r) (start 0, start 0) b p (jointOf s) run n below)
 
     -- so the quotients by them are the same
     tree-known : (f : List ℕ) (φ : Formula) → formulaOf f ≡ some φ → backs φ ≤ b → (known : Known)
-        → quotientBy k (knownPart l r known) (stop p (halfOf (knownPart (leftHalf k l r s n) (rightHalf k l r s n) known))) f
-        ≡ quotientBy k (knownPart l r known) (stop (p - (p - b)) (halfOf (knownPart (leftHalf k l r (windowOf s p b) (place n)) (rightHalf k l r (windowOf s p b) (place n)) known))) f
+        → quotientBy k (knownPart l r known)
+        (stop p (halfOf (knownPart (leftHalf k l r s n) (rightHalf k l r s n) known))) f
+        ≡ quotientBy k (knownPart l r known)
+        (stop (p - (p - b))
+        (halfOf (knownPart (leftHalf k l r (windowOf s p b) (place n)) (rightHalf k l r (windowOf s p b) (place n))
+        known))) f
     unfolding quotientBy treeBy leftHalf rightHalf
     tree-known f φ e h known.Left =
         let (_, x, _) = nth-joins k l r s n below in
         let (_, y, _) = nth-joins k l r (windowOf s p b) (place n) placed in
-        rw (e, left-read (parts .machines) x, left-read (parts .machines) y) (ap some (quotient-alike (pairs k) (tableOf l) φ b _ _ h (halves-alike .0)))
+        rw (e, left-read (parts .machines) x, left-read (parts .machines) y)
+        (ap some (quotient-alike (pairs k) (tableOf l) φ b _ _ h (halves-alike .0)))
     tree-known f φ e h known.Right =
         let (_, _, x) = nth-joins k l r s n below in
         let (_, _, y) = nth-joins k l r (windowOf s p b) (place n) placed in
-        rw (e, right-read (parts .machines) x, right-read (parts .machines) y) (ap some (quotient-alike (pairs k) (tableOf r) φ b _ _ h (halves-alike .1)))
+        rw (e, right-read (parts .machines) x, right-read (parts .machines) y)
+        (ap some (quotient-alike (pairs k) (tableOf r) φ b _ _ h (halves-alike .1)))
 
 -- every accepted log, every point of it and every length of the window
-pub windowed : (k : ℕ) (l r s : List ℕ) (p b : ℕ) → checkLog k l r s ≡ Sound → p ≤ steps (jointOf s) → Windowed k l r s p b
+pub windowed : (k : ℕ) (l r s : List ℕ) (p b : ℕ) → checkLog k l r s ≡ Sound → p ≤ steps (jointOf s)
+    → Windowed k l r s p b
 unfolding treeByNumber treeByHalf
 windowed k l r s p b sound within = record {
   window = window-sound k l r s p b sound within;

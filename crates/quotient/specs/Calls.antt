@@ -1,5 +1,5 @@
--- The quotient's calls: document 01, "The quotient" and "Who can cause a refusal". The tree of a quotient, its bytes and the numbers 17 and 18
--- are dividing's (Quotients).
+-- The quotient's calls: document 01, "The quotient" and "Who can cause a refusal". The tree of a quotient, its bytes
+-- and the numbers 17 and 18 are dividing's (Quotients).
 use Prim.Native.Nat.{ℕ}
 use mathlib.Core.Path.{_≡_}
 use mathlib.Core.Bool.{Bool, not}
@@ -13,7 +13,8 @@ use Rattle.labels.specs.Refusals.{refusedIf, firstOf, Answer, refusedAs, giving
 use Rattle.labels.specs.Labels.{checkPairs}
 use Rattle.labels.specs.declared.refusal.Check.{Check}
 use Rattle.labels.specs.declared.refusal.Check.the-variants as check
-use Rattle.labels.specs.declared.refusal.Refusal.the-variants.{PointBeyond, TooManySplittings, NoSuchSplitting, HalvesDoNotMatch}
+use Rattle.labels.specs.declared.refusal.Refusal.the-variants.{PointBeyond, TooManySplittings, NoSuchSplitting}
+use Rattle.labels.specs.declared.refusal.Refusal.the-variants.{HalvesDoNotMatch}
 use Rattle.tables.specs.Tables.{checkTable}
 use Rattle.halves.specs.Halves.{halfOf, checkHalf}
 use Rattle.halves.specs.Cuts.{knownOf, knownPart, otherPart, beyond}
@@ -28,12 +29,14 @@ use Rattle.dividing.specs.declared.divide.Quotient.{Quotient}
 use Rattle.quotient.specs.declared.line.LineOffice.{LineOffice}
 use Rattle.quotient.specs.declared.line.LineOffice.the-variants as line
 
--- the quotient of a question by the known half stopped at a point: by the right half from the right table, "by the left half everything is
--- mirrored"
+-- the quotient of a question by the known half stopped at a point: by the right half from the right table, "by the left
+-- half everything is mirrored"
 unfoldable pub treeByHalf : ℕ → List ℕ → List ℕ → List ℕ → List ℕ → List ℕ → Side → ℕ → Option Formula
-treeByHalf k l r a b f side point = quotientBy k (knownPart l r (knownOf side)) (stop point (halfOf (knownPart a b (knownOf side)))) f
+treeByHalf k l r a b f side point =
+    quotientBy k (knownPart l r (knownOf side)) (stop point (halfOf (knownPart a b (knownOf side)))) f
 
--- what a call judges that takes halves, in order: the parts' numbers; 12 on the known half alone; 15 for either half; 16
+-- what a call judges that takes halves, in order: the parts' numbers; 12 on the known half alone; 15 for either half;
+-- 16
 unfoldable pub checkByHalf : ℕ → List ℕ → List ℕ → List ℕ → List ℕ → List ℕ → Side → ℕ → Check
 checkByHalf k l r a b f side point = firstOf
     (checkPairs k
@@ -48,10 +51,12 @@ checkByHalf k l r a b f side point = firstOf
 
 -- the answer, with so many bytes lent, and the lent output afterwards; 17 and 18 come last
 unfoldable pub byHalf : ℕ → List ℕ → List ℕ → List ℕ → List ℕ → List ℕ → Side → ℕ → ℕ → Quotient
-byHalf k l r a b f side point room = answerOf (checkByHalf k l r a b f side point) (treeByHalf k l r a b f side point) room
+byHalf k l r a b f side point room =
+    answerOf (checkByHalf k l r a b f side point) (treeByHalf k l r a b f side point) room
 
 unfoldable pub byHalfOutput : ℕ → List ℕ → List ℕ → List ℕ → List ℕ → List ℕ → Side → ℕ → List ℕ → List ℕ
-byHalfOutput k l r a b f side point out = outputAfter (checkByHalf k l r a b f side point) (treeByHalf k l r a b f side point) out
+byHalfOutput k l r a b f side point out =
+    outputAfter (checkByHalf k l r a b f side point) (treeByHalf k l r a b f side point) out
 
 -- the quotient by the known half of the splitting of a number
 unfoldable pub treeByNumber : ℕ → List ℕ → List ℕ → List ℕ → List ℕ → ℕ → Side → ℕ → Option Formula
@@ -71,10 +76,12 @@ checkByNumber k l r s f n point = firstOf
     ∷ [])
 
 unfoldable pub byNumber : ℕ → List ℕ → List ℕ → List ℕ → List ℕ → ℕ → Side → ℕ → ℕ → Quotient
-byNumber k l r s f n side point room = answerOf (checkByNumber k l r s f n point) (treeByNumber k l r s f n side point) room
+byNumber k l r s f n side point room =
+    answerOf (checkByNumber k l r s f n point) (treeByNumber k l r s f n side point) room
 
 unfoldable pub byNumberOutput : ℕ → List ℕ → List ℕ → List ℕ → List ℕ → ℕ → Side → ℕ → List ℕ → List ℕ
-byNumberOutput k l r s f n side point out = outputAfter (checkByNumber k l r s f n point) (treeByNumber k l r s f n side point) out
+byNumberOutput k l r s f n side point out =
+    outputAfter (checkByNumber k l r s f n point) (treeByNumber k l r s f n side point) out
 
 -- the line office: one statement put to the whole line, stopped at the point
 unfoldable pub lineHolds : ℕ → List ℕ → List ℕ → List ℕ → List ℕ → List ℕ → ℕ → Bool
@@ -82,11 +89,14 @@ lineHolds k l r a b f point = jointHolds k l r (joinBytes k a b) f point
 
 -- and to one machine: the quotient's bytes on the other half, stopped at the point
 unfoldable pub machineHolds : ℕ → List ℕ → List ℕ → List ℕ → List ℕ → List ℕ → Side → ℕ → Bool
-machineHolds k l r a b f side point = halfHolds (otherPart l r (knownOf side)) (otherPart a b (knownOf side)) (textOf (treeByHalf k l r a b f side point)) point
+machineHolds k l r a b f side point =
+    halfHolds (otherPart l r (knownOf side)) (otherPart a b (knownOf side)) (textOf (treeByHalf k l r a b f side point))
+    point
 
 -- judged as a quotient given halves is, without 18
 unfoldable pub checkLine : ℕ → List ℕ → List ℕ → List ℕ → List ℕ → List ℕ → Side → ℕ → Check
-checkLine k l r a b f side point = firstOf (checkByHalf k l r a b f side point ∷ checkSize (treeByHalf k l r a b f side point) ∷ [])
+checkLine k l r a b f side point =
+    firstOf (checkByHalf k l r a b f side point ∷ checkSize (treeByHalf k l r a b f side point) ∷ [])
 
 -- the answer: both verdicts, of the line and of the machine
 abbrev pub verdictsOf : Check → Bool → Bool → LineOffice
@@ -94,7 +104,8 @@ verdictsOf check.Sound j h = line.Verdicts j h
 verdictsOf (check.Refused x) j h = line.Refused x
 
 unfoldable pub officeOf : ℕ → List ℕ → List ℕ → List ℕ → List ℕ → List ℕ → Side → ℕ → LineOffice
-officeOf k l r a b f side point = verdictsOf (checkLine k l r a b f side point) (lineHolds k l r a b f point) (machineHolds k l r a b f side point)
+officeOf k l r a b f side point =
+    verdictsOf (checkLine k l r a b f side point) (lineHolds k l r a b f point) (machineHolds k l r a b f side point)
 
 -- the number of the line office, and its values: the line's verdict and the machine's
 unfoldable pub lineAnswer : LineOffice → Answer

@@ -27,31 +27,38 @@ use Rattle.labels.specs.declared.refusal.Check.the-variants.{Sound}
 use Rattle.joining.specs.Joinings.{joinBytes, checkHalves}
 use Rattle.splitting.specs.Splittings.{splittingsOf, splittingLimit, leftHalf, rightHalf}
 
--- what a call that answers `answer` with so many bytes lent, and leaves a lent output as `output`, gives for a tree ψ where there is room: the tree's bytes, and
--- under them the other half's verdict is that on the log
-pub record Given (k : ℕ) (l r s a b f : List ℕ) (side : Side) (point : ℕ) (answer : ℕ → Quotient) (output : List ℕ → List ℕ) (ψ : Formula) (out : List ℕ) : Type 0 where
+-- what a call that answers `answer` with so many bytes lent, and leaves a lent output as `output`, gives for a tree ψ
+-- where there is room: the tree's bytes, and under them the other half's verdict is that on the log
+pub record Given (k : ℕ) (l r s a b f : List ℕ) (side : Side) (point : ℕ) (answer : ℕ → Quotient)
+    (output : List ℕ → List ℕ) (ψ : Formula) (out : List ℕ) : Type 0 where
   -- the answer is the number of the bytes written: two a node
   pub written : answer (length out) ≡ Written (2 * size ψ)
   -- "which spell its tree"
   pub spelled : take (2 * size ψ) (output out) ≡ spell ψ []
   -- "lent bytes past it keep theirs"
   pub kept : drop (2 * size ψ) (output out) ≡ drop (2 * size ψ) out
-  -- "the verdict on the log stopped at p equals the verdict on the other half stopped at p, under the very bytes written"
-  pub agree : halfVerdict k (otherPart l r (knownOf side)) (otherPart a b (knownOf side)) (take (2 * size ψ) (output out)) point ≡ jointVerdict k l r s f point
+  -- "the verdict on the log stopped at p equals the verdict on the other half stopped at p, under the very bytes
+  -- written"
+  pub agree : halfVerdict k (otherPart l r (knownOf side)) (otherPart a b (knownOf side))
+      (take (2 * size ψ) (output out)) point
+      ≡ jointVerdict k l r s f point
 
 -- what demand 3 says of a splitting with the halves a and b, at a point, with one side known
-pub record Decomposed (k : ℕ) (l r s a b f : List ℕ) (side : Side) (point : ℕ) (answer : ℕ → Quotient) (output : List ℕ → List ℕ) : Type 0 where
+pub record Decomposed (k : ℕ) (l r s a b f : List ℕ) (side : Side) (point : ℕ) (answer : ℕ → Quotient)
+    (output : List ℕ → List ℕ) : Type 0 where
   -- the question is the formula that its bytes spell
   pub question : Formula
   pub asked : f ≡ spell question []
   -- the tree is that of table 1, by the known half stopped at the point
   pub tree : Formula
-  pub divided : tree ≡ quotient (pairs k) (tableOf (knownPart l r (knownOf side))) question (stop point (halfOf (knownPart a b (knownOf side))))
+  pub divided : tree ≡ quotient (pairs k) (tableOf (knownPart l r (knownOf side))) question
+      (stop point (halfOf (knownPart a b (knownOf side))))
   pub found : treeByHalf k l r a b f side point ≡ some tree
   -- which is what the cut gives
   pub cut : halfOf (cutOf a b side point) ≡ stop point (halfOf (knownPart a b (knownOf side)))
   -- the verdict on the log is given, and is that of the question on the run stopped at the point
-  pub verdict : jointVerdict k l r s f point ≡ verdictOf (holds (beside (pairs k) (tableOf l) (tableOf r)) question (stop point (jointOf s)))
+  pub verdict : jointVerdict k l r s f point
+      ≡ verdictOf (holds (beside (pairs k) (tableOf l) (tableOf r)) question (stop point (jointOf s)))
   -- "17 comes exactly when the tree by the rules above has over 4,096 nodes, whatever output is lent"
   pub tooLarge : (room : ℕ) → (answer room ≡ Refused QuotientTooLarge) ↔ (quotientLimit < size tree)
   -- "otherwise only an output under two bytes a node is refused"
@@ -59,16 +66,21 @@ pub record Decomposed (k : ℕ) (l r s a b f : List ℕ) (side : Side) (point : 
   -- after a refusal every lent byte keeps its value
   pub untouched : (out : List ℕ) (x : Refusal) → answer (length out) ≡ Refused x → output out ≡ out
   -- every other output is written to, and the verdicts agree
-  pub given : size tree ≤ quotientLimit → (out : List ℕ) → 2 * size tree ≤ length out → Given k l r s a b f side point answer output tree out
+  pub given : size tree ≤ quotientLimit → (out : List ℕ) → 2 * size tree ≤ length out
+      → Given k l r s a b f side point answer output tree out
 
 -- the claim as a whole, for one log, one question, one known side and one point
 pub record Demand (k : ℕ) (l r s f : List ℕ) (side : Side) (point : ℕ) : Type 0 where
-  -- every splitting, given by its halves: two halves that no check refuses and that join to the log. However many splittings the log has
+  -- every splitting, given by its halves: two halves that no check refuses and that join to the log. However many
+  -- splittings the log has
   pub byHalves : (a b : List ℕ) → checkHalves k l r a b ≡ Sound → joinBytes k a b ≡ s
       → Decomposed k l r s a b f side point (byHalf k l r a b f side point) (byHalfOutput k l r a b f side point)
-  -- the same for the halves of each splitting in the list of them, "also where there are over 65,535 and only halves name them"
-  pub bySplittings : (n : ℕ) → n < length (splittingsOf k l r s) → let a = leftHalf k l r s n in let b = rightHalf k l r s n in
+  -- the same for the halves of each splitting in the list of them, "also where there are over 65,535 and only halves
+  -- name them"
+  pub bySplittings : (n : ℕ) → n < length (splittingsOf k l r s) → let a = leftHalf k l r s n in
+      let b = rightHalf k l r s n in
       Decomposed k l r s a b f side point (byHalf k l r a b f side point) (byHalfOutput k l r a b f side point)
   -- every splitting, named by its number, where there are at most 65,535
   pub byNumbers : (n : ℕ) → n < length (splittingsOf k l r s) → length (splittingsOf k l r s) ≤ splittingLimit
-      → Decomposed k l r s (leftHalf k l r s n) (rightHalf k l r s n) f side point (byNumber k l r s f n side point) (byNumberOutput k l r s f n side point)
+      → Decomposed k l r s (leftHalf k l r s n) (rightHalf k l r s n) f side point (byNumber k l r s f n side point)
+      (byNumberOutput k l r s f n side point)

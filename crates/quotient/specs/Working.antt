@@ -27,13 +27,16 @@ restOf s p = drop (3 * p) s
 
 -- what is asked, of two halves: the question, then the point on the known half alone
 unfoldable pub checkAsked : ℕ → List ℕ → List ℕ → List ℕ → Side → ℕ → Check
-checkAsked k a b f side point = firstOf (checkFormula k questionLimit f ∷ refusedIf (beyond (knownPart a b (knownOf side)) point) PointBeyond ∷ [])
+checkAsked k a b f side point =
+    firstOf (checkFormula k questionLimit f ∷ refusedIf (beyond (knownPart a b (knownOf side)) point) PointBeyond ∷ [])
 
 -- what is asked, of a joint run of fit length: the question, then the point
 unfoldable pub checkAskedRun : ℕ → List ℕ → List ℕ → ℕ → Check
-checkAskedRun k s f point = firstOf (checkFormula k questionLimit f ∷ refusedIf (ltb (length s / 3) point) PointBeyond ∷ [])
+checkAskedRun k s f point =
+    firstOf (checkFormula k questionLimit f ∷ refusedIf (ltb (length s / 3) point) PointBeyond ∷ [])
 
--- a log is judged before what is asked of it is refused; where nothing of that is refused the log is left to the splitting
+-- a log is judged before what is asked of it is refused; where nothing of that is refused the log is left to the
+-- splitting
 abbrev pub logFirst : Check → Check → Check
 logFirst log check.Sound = check.Sound
 logFirst log (check.Refused x) = thenOf log (check.Refused x)

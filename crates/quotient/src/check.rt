@@ -24,7 +24,8 @@ pub(crate) fn check_by_half<'a>(
     side: Side,
     point: usize,
 ) -> Check
-    ensures { λ r. ⌜ r ≡ checkByHalf (labels .pairs) (now (left .entry)) (now (right .entry)) (now («left_half» .entry)) (now («right_half» .entry)) (now (question .entry)) side point ⌝ }
+    ensures { λ r. ⌜ r ≡ checkByHalf (labels .pairs) (now (left .entry)) (now (right .entry)) (now («left_half» .entry))
+        (now («right_half» .entry)) (now (question .entry)) side point ⌝ }
 {
     match check_pairs(labels.pairs) {
         Check::Sound => {}
@@ -47,7 +48,8 @@ fn check_asked<'a>(
     side: Side,
     point: usize,
 ) -> Check
-    ensures { λ r. ⌜ r ≡ checkAsked (labels .pairs) (now («left_half» .entry)) (now («right_half» .entry)) (now (question .entry)) side point ⌝ }
+    ensures { λ r. ⌜ r ≡ checkAsked (labels .pairs) (now («left_half» .entry)) (now («right_half» .entry))
+        (now (question .entry)) side point ⌝ }
 {
     match check_formula(labels, 64, question) {
         Check::Sound => {}
@@ -60,8 +62,8 @@ fn check_asked<'a>(
     Check::Sound
 }
 
-// What a call judges that names a splitting by its number, before the splitting does. Where nothing is refused the log is left to the splitting, so
-// that it is judged once.
+// What a call judges that names a splitting by its number, before the splitting does. Where nothing is refused the log
+// is left to the splitting, so that it is judged once.
 pub(crate) fn check_asked_log(
     labels: Labels,
     left: &[u8],
@@ -70,7 +72,8 @@ pub(crate) fn check_asked_log(
     question: &[u8],
     point: usize,
 ) -> Check
-    ensures { λ r. ⌜ r ≡ checkAskedLog (labels .pairs) (now (left .entry)) (now (right .entry)) (now (run .entry)) (now (question .entry)) point ⌝ }
+    ensures { λ r. ⌜ r ≡ checkAskedLog (labels .pairs) (now (left .entry)) (now (right .entry)) (now (run .entry))
+        (now (question .entry)) point ⌝ }
 {
     match check_asked_run(labels, run, question, point) {
         Check::Sound => Check::Sound,

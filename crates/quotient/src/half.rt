@@ -23,8 +23,11 @@ pub fn by_half<'a>(
     point: usize,
     out: &mut [u8],
 ) -> Quotient
-    ensures { λ r. ⌜ r ≡ byHalf k (now (left .entry)) (now (right .entry)) (now («left_half» .entry)) (now («right_half» .entry)) (now (question .entry)) side point (length (now (out .entry))) ⌝ }
-    ensures { λ r. ⌜ now (out .exit) ≡ byHalfOutput k (now (left .entry)) (now (right .entry)) (now («left_half» .entry)) (now («right_half» .entry)) (now (question .entry)) side point (now (out .entry)) ⌝ }
+    ensures { λ r. ⌜ r ≡ byHalf k (now (left .entry)) (now (right .entry)) (now («left_half» .entry))
+        (now («right_half» .entry)) (now (question .entry)) side point (length (now (out .entry))) ⌝ }
+    ensures { λ r. ⌜ now (out .exit)
+        ≡ byHalfOutput k (now (left .entry)) (now (right .entry)) (now («left_half» .entry)) (now («right_half» .entry))
+        (now (question .entry)) side point (now (out .entry)) ⌝ }
 {
     let labels = Labels { pairs: k };
     match check_by_half(

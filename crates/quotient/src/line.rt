@@ -16,8 +16,8 @@ pub enum LineOffice {
     Refused(Refusal),
 }
 
-// One statement put to the whole line and to the machine whose half is not known: as in the quotient by a half, without 18. Whenever both answers are
-// given they are the same.
+// One statement put to the whole line and to the machine whose half is not known: as in the quotient by a half, without
+// 18. Whenever both answers are given they are the same.
 pub fn line_office<'a>(
     k: u8,
     left: &'a [u8],
@@ -28,7 +28,8 @@ pub fn line_office<'a>(
     side: Side,
     point: usize,
 ) -> LineOffice
-    ensures { λ r. ⌜ r ≡ officeOf k (now (left .entry)) (now (right .entry)) (now («left_half» .entry)) (now («right_half» .entry)) (now (question .entry)) side point ⌝ }
+    ensures { λ r. ⌜ r ≡ officeOf k (now (left .entry)) (now (right .entry)) (now («left_half» .entry))
+        (now («right_half» .entry)) (now (question .entry)) side point ⌝ }
     ensures same { λ r. ⌜ Same r ⌝ }
 {
     let mut text = [0u8; 8192];
@@ -52,7 +53,8 @@ pub fn line_office<'a>(
     }
 }
 
-// Both verdicts from that on the machine, under the quotient: by demand 3 the verdict on the line is the same, so it is found once.
+// Both verdicts from that on the machine, under the quotient: by demand 3 the verdict on the line is the same, so it is
+// found once.
 fn both(machine: Verdict) -> LineOffice
     ensures { λ r. ⌜ r ≡ bothOf machine ⌝ }
 {

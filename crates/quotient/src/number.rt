@@ -14,7 +14,8 @@ ghost use mathlib.Core.Path.{_≡_};
 ghost use lib.ListN.{length};
 ghost use Rattle.quotient.specs.Calls.{byNumber, byNumberOutput};
 
-// Writes the quotient by the known half, stopped at the point, of the splitting of a number: the parts' numbers, 12, 13, 14, 17, 18.
+// Writes the quotient by the known half, stopped at the point, of the splitting of a number: the parts' numbers, 12,
+// 13, 14, 17, 18.
 pub fn by_number<'a>(
     k: u8,
     left: &'a [u8],
@@ -26,8 +27,11 @@ pub fn by_number<'a>(
     point: usize,
     out: &mut [u8],
 ) -> Quotient
-    ensures { λ r. ⌜ r ≡ byNumber k (now (left .entry)) (now (right .entry)) (now (run .entry)) (now (question .entry)) number side point (length (now (out .entry))) ⌝ }
-    ensures { λ r. ⌜ now (out .exit) ≡ byNumberOutput k (now (left .entry)) (now (right .entry)) (now (run .entry)) (now (question .entry)) number side point (now (out .entry)) ⌝ }
+    ensures { λ r. ⌜ r ≡ byNumber k (now (left .entry)) (now (right .entry)) (now (run .entry)) (now (question .entry))
+        number side point (length (now (out .entry))) ⌝ }
+    ensures { λ r. ⌜ now (out .exit)
+        ≡ byNumberOutput k (now (left .entry)) (now (right .entry)) (now (run .entry)) (now (question .entry)) number
+        side point (now (out .entry)) ⌝ }
 {
     match check_pairs(k) {
         Check::Sound => {}

@@ -4,7 +4,8 @@ use mathlib.Core.Path.{_≡_, refl, sym, _∙_, ap, ap₂}
 use mathlib.Core.Bool.{Bool, true, false}
 use mathlib.Core.List.{List, [], _∷_}
 use native.Mathlib.Omega.{arith}
-use native.Mathlib.Nat.{mul-le-mul-right, mod-lt, div-lt-iff-lt-mul, div-add-mod', mul-add-div-right, mul-add-mod-self-right, div-eq-of-lt, mod-eq-of-lt}
+use native.Mathlib.Nat.{mul-le-mul-right, mod-lt, div-lt-iff-lt-mul, div-add-mod', mul-add-div-right}
+use native.Mathlib.Nat.{mul-add-mod-self-right, div-eq-of-lt, mod-eq-of-lt}
 use lib.ListN.{length}
 use lib.Dec.{leb}
 use Rattle.hml.specs.System.{steps}
@@ -21,11 +22,13 @@ unfolding fitting
 fitting-few room [] = omega arith
 fitting-few room (x ∷ xs) = go (leb (length x) room) refl (fitting-few (room - length x) xs)
   where
-    go : (b : Bool) → leb (length x) room ≡ b → length (fitting (room - length x) xs) ≤ length xs → length (fitting room (x ∷ xs)) ≤ suc (length xs)
+    go : (b : Bool) → leb (length x) room ≡ b → length (fitting (room - length x) xs) ≤ length xs
+        → length (fitting room (x ∷ xs)) ≤ suc (length xs)
     go true e h = rw e (omega (arith, h))
     go false e h = rw e (omega arith)
 
-module _ (k : ℕ) (l r s f : List ℕ) (c : ℕ) (numbered : Numbered k l r s f c) (first due : ℕ) (bound : first + due ≤ suc (steps (jointOf s)) * c) where
+module _ (k : ℕ) (l r s f : List ℕ) (c : ℕ) (numbered : Numbered k l r s f c) (first due : ℕ)
+    (bound : first + due ≤ suc (steps (jointOf s)) * c) where
   abbrev g : ℕ → List ℕ
   g = numberedLine k l r s f c
 
@@ -33,7 +36,9 @@ module _ (k : ℕ) (l r s f : List ℕ) (c : ℕ) (numbered : Numbered k l r s f
   end = first + due
 
   -- all that fits is written, as the call says it
-  all-filled : (xs ys : List ℕ) (at j : ℕ) → Full (fitting (length xs - 0) (listed g first (end - first))) xs 0 first ys at j → Full (fitting (length xs) (listed g first due)) xs 0 first ys at j
+  all-filled : (xs ys : List ℕ) (at j : ℕ)
+      → Full (fitting (length xs - 0) (listed g first (end - first))) xs 0 first ys at j
+      → Full (fitting (length xs) (listed g first due)) xs 0 first ys at j
   all-filled xs ys at j full =
       let z : length xs - 0 ≡ length xs = omega arith in
       let w : first + due - first ≡ due = omega arith in
@@ -48,7 +53,8 @@ module _ (k : ℕ) (l r s f : List ℕ) (c : ℕ) (numbered : Numbered k l r s f
     number-below = mod-lt i some
 
     pub point-within : i / c ≤ steps (jointOf s)
-    point-within = omega (arith, div-lt-iff-lt-mul {k = c} {x = i} {y = suc (steps (jointOf s))} some .1 (omega (arith, h, bound)))
+    point-within =
+        omega (arith, div-lt-iff-lt-mul {k = c} {x = i} {y = suc (steps (jointOf s))} some .1 (omega (arith, h, bound)))
 
     -- the lines of the point that are due, up to the splitting u
     module _ (u : ℕ) (e : u ≡ min c (i % c + (end - i))) where
@@ -63,30 +69,46 @@ module _ (k : ℕ) (l r s f : List ℕ) (c : ℕ) (numbered : Numbered k l r s f
       same-lines x j =
           let b : i % c + x < c = omega (arith, j, e) in
           let z : i + x ≡ i / c * c + (i % c + x) = omega (arith, div-add-mod' i c) in
-          let q : (i + x) / c ≡ i / c = ap (_/ c) z ∙ mul-add-div-right some (i / c) (i % c + x) ∙ ap (i / c +_) (div-eq-of-lt b) ∙ omega arith in
-          let m : (i + x) % c ≡ i % c + x = ap (_% c) z ∙ mul-add-mod-self-right (i / c) c (i % c + x) ∙ mod-eq-of-lt b in
+          let q : (i + x) / c ≡ i / c = ap (_/ c) z ∙ mul-add-div-right some (i / c) (i % c + x)
+          ∙ ap (i / c +_) (div-eq-of-lt b) ∙ omega arith in
+          let m : (i + x) % c ≡ i % c + x = ap (_% c) z ∙ mul-add-mod-self-right (i / c) c (i % c + x)
+          ∙ mod-eq-of-lt b in
           ap₂ (lineOf k l r s f) (sym q) (sym m)
 
       -- what is written of them
-      module _ (xs ys zs : List ℕ) (at to n : ℕ) (filled : Filled g xs 0 first end ys at i) (full : Full (fitting (length ys - at) (listed (lineOf k l r s f (i / c)) (i % c) (u - i % c))) ys at (i % c) zs to n) where
+      module _ (xs ys zs : List ℕ) (at to n : ℕ) (filled : Filled g xs 0 first end ys at i)
+          (full : Full (fitting (length ys - at) (listed (lineOf k l r s f (i / c)) (i % c) (u - i % c))) ys at (i % c)
+          zs to n) where
         pub reached : (i % c ≤ n) × (n ≤ u)
         reached =
             let d = listed (lineOf k l r s f (i / c)) (i % c) (u - i % c) in
-            omega (arith, full .counted, fitting-few (length ys - at) d, length-listed (lineOf k l r s f (i / c)) (i % c) (u - i % c), until-within)
+            omega (
+              arith,
+              full .counted,
+              fitting-few (length ys - at) d,
+              length-listed (lineOf k l r s f (i / c)) (i % c) (u - i % c),
+              until-within,
+            )
 
         pub next-within : i + (n - i % c) ≤ end
         next-within = omega (arith, reached, lines-within)
 
         pub point-full : n < u → Full (fitting (length xs) (listed g first due)) xs 0 first zs to (i + (n - i % c))
-        point-full b = all-filled xs zs to (i + (n - i % c)) (full-point g xs 0 first end ys at i filled (lineOf k l r s f (i / c)) (i % c) (u - i % c) same-lines (lines-within .0) zs to n full (omega (arith, b, until-within)))
+        point-full b =
+            all-filled xs zs to (i + (n - i % c))
+            (full-point g xs 0 first end ys at i filled (lineOf k l r s f (i / c)) (i % c) (u - i % c) same-lines
+            (lines-within .0) zs to n full (omega (arith, b, until-within)))
 
         pub point-done : u ≤ n → Filled g xs 0 first end zs to (i + (n - i % c))
         point-done b =
             let z : u - i % c ≡ n - i % c = omega (arith, b, reached) in
-            rw z at (filled-point g xs 0 first end ys at i filled (lineOf k l r s f (i / c)) (i % c) (u - i % c) same-lines (lines-within .0) zs to n full (omega (arith, b, reached, until-within)))
+            rw z at (filled-point g xs 0 first end ys at i filled (lineOf k l r s f (i / c)) (i % c) (u - i % c)
+            same-lines (lines-within .0) zs to n full (omega (arith, b, reached, until-within)))
 
-  pub sheet-full : (xs ys : List ℕ) (at j : ℕ) → Filled g xs 0 first end ys at j → end ≤ j → Full (fitting (length xs) (listed g first due)) xs 0 first ys at j
-  sheet-full xs ys at j filled h = all-filled xs ys at j (filled-end g xs 0 first end ys at j filled (omega (arith, h, filled .due)))
+  pub sheet-full : (xs ys : List ℕ) (at j : ℕ) → Filled g xs 0 first end ys at j → end ≤ j
+      → Full (fitting (length xs) (listed g first due)) xs 0 first ys at j
+  sheet-full xs ys at j filled h =
+      all-filled xs ys at j (filled-end g xs 0 first end ys at j filled (omega (arith, h, filled .due)))
 
 -- a sheet has few lines: 201 points at most, and 65,535 splittings
 pub sheet-small : (k : ℕ) (l r s f : List ℕ) (c : ℕ) → Numbered k l r s f c → suc (steps (jointOf s)) * c ≤ 13172535

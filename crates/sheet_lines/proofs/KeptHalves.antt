@@ -1,5 +1,6 @@
--- The right half of a splitting of a window, from those of the window's older and newer part. "The first step varies slowest": with w splittings of the newer
--- part, splitting t of the window is splitting t / w of the older part, then the steps of splitting t % w of the newer one.
+-- The right half of a splitting of a window, from those of the window's older and newer part. "The first step varies
+-- slowest": with w splittings of the newer part, splitting t of the window is splitting t / w of the older part, then
+-- the steps of splitting t % w of the newer one.
 use Prim.Native.Nat.{ℕ, zero, suc, _+_, _-_, _*_, _/_, _%_, _≤_, _<_}
 use mathlib.Core.Path.{_≡_, refl, sym, _∙_, ap, ap₂}
 use mathlib.Core.List.{List, [], _∷_, _++_, append-nil, append-assoc}
@@ -51,16 +52,20 @@ module _ {S : Type 0} where
   written-alike (ends {r = x} {s = y} e) h = rw (none-written y h) (sym (append-nil (written x)))
   written-alike (begins p) h = absurd (omega (arith, h))
   written-alike (alike-steps {n = n} {r = x} {s = y} (move a q) d) h =
-      ap (_++ (a, q) ∷ []) (written-alike d (omega (arith, h))) ∙ append-assoc (written (undo n x)) (written y) ((a, q) ∷ [])
+      ap (_++ (a, q) ∷ []) (written-alike d (omega (arith, h)))
+      ∙ append-assoc (written (undo n x)) (written y) ((a, q) ∷ [])
   written-alike (alike-steps {n = n} {r = x} {s = y} idle d) h =
-      ap₂ (λ es q. es ++ (255, q) ∷ []) (written-alike d (omega (arith, h))) (alike-last d) ∙ append-assoc (written (undo n x)) (written y) ((255, last y) ∷ [])
+      ap₂ (λ es q. es ++ (255, q) ∷ []) (written-alike d (omega (arith, h))) (alike-last d)
+      ∙ append-assoc (written (undo n x)) (written y) ((255, last y) ∷ [])
 
 -- the same in bytes
-bytes-alike : (n : ℕ) (x y : Run ℕ) → Alike n x y → steps y ≡ n → halfBytes x ≡ halfBytes (undo n x) ++ drop 1 (halfBytes y)
+bytes-alike : (n : ℕ) (x y : Run ℕ) → Alike n x y → steps y ≡ n
+    → halfBytes x ≡ halfBytes (undo n x) ++ drop 1 (halfBytes y)
 unfolding halfBytes
 bytes-alike n x y d h =
     let g = stepBytes stateBytes in
-    ap₂ (λ p es. p ∷ each g es) (sym (first-undo n x)) (written-alike d h) ∙ ap (first (undo n x) ∷_) (each-append g (written (undo n x)) (written y))
+    ap₂ (λ p es. p ∷ each g es) (sym (first-undo n x)) (written-alike d h)
+    ∙ ap (first (undo n x) ∷_) (each-append g (written (undo n x)) (written y))
 
 -- what the two parts of a window give
 pub record Cut (k : ℕ) (l r w : List ℕ) (m : ℕ) : Type 0 where
@@ -75,9 +80,11 @@ pub record Cut (k : ℕ) (l r w : List ℕ) (m : ℕ) : Type 0 where
   pub fewNewer : length (splittingsOf k l r (newerPart w m)) ≤ length (splittingsOf k l r w)
   pub someNewer : 0 < length (splittingsOf k l r (newerPart w m))
   -- a splitting of the window is one of each part
-  pub olderNumber : (t : ℕ) → t < length (splittingsOf k l r w) → t / length (splittingsOf k l r (newerPart w m)) < length (splittingsOf k l r (olderPart w m))
+  pub olderNumber : (t : ℕ) → t < length (splittingsOf k l r w)
+      → t / length (splittingsOf k l r (newerPart w m)) < length (splittingsOf k l r (olderPart w m))
   pub half : (t : ℕ) → t < length (splittingsOf k l r w)
-      → rightHalf k l r w t ≡ rightHalf k l r (olderPart w m) (t / length (splittingsOf k l r (newerPart w m))) ++ drop 1 (rightHalf k l r (newerPart w m) (t % length (splittingsOf k l r (newerPart w m))))
+      → rightHalf k l r w t ≡ rightHalf k l r (olderPart w m) (t / length (splittingsOf k l r (newerPart w m)))
+      ++ drop 1 (rightHalf k l r (newerPart w m) (t % length (splittingsOf k l r (newerPart w m))))
 
 -- an accepted window, cut behind its first m steps
 module _ (k : ℕ) (l r w : List ℕ) (m : ℕ) (sound : checkLog k l r w ≡ Sound) (within : m ≤ length w / 3) where
@@ -99,11 +106,23 @@ module _ (k : ℕ) (l r w : List ℕ) (m : ℕ) (sound : checkLog k l r w ≡ So
 
   older-sound : checkLog k l r (olderPart w m) ≡ Sound
   unfolding checkLog firstOf olderPart
-  older-sound = rw (parts .machines .pairs, parts .machines .left, parts .machines .right, joint-until k l r tables w (parts .run) m)
+  older-sound =
+      rw (
+        parts .machines .pairs,
+        parts .machines .left,
+        parts .machines .right,
+        joint-until k l r tables w (parts .run) m,
+      )
 
   newer-sound : checkLog k l r (newerPart w m) ≡ Sound
   unfolding checkLog firstOf newerPart
-  newer-sound = rw (parts .machines .pairs, parts .machines .left, parts .machines .right, joint-from k l r tables w (parts .run) m inside)
+  newer-sound =
+      rw (
+        parts .machines .pairs,
+        parts .machines .left,
+        parts .machines .right,
+        joint-from k l r tables w (parts .run) m inside,
+      )
 
   older-read : jointOf (olderPart w m) ≡ undo c (jointOf w)
   unfolding olderPart
@@ -136,7 +155,8 @@ module _ (k : ℕ) (l r w : List ℕ) (m : ℕ) (sound : checkLog k l r w ≡ So
   some-newer = count-some k l r (newerPart w m) newer-sound
 
   -- the splittings of the window are those of the parts, multiplied
-  pub counts : length (splittingsOf k l r w) ≡ length (splittingsOf k l r (olderPart w m)) * length (splittingsOf k l r (newerPart w m))
+  pub counts : length (splittingsOf k l r w)
+      ≡ length (splittingsOf k l r (olderPart w m)) * length (splittingsOf k l r (newerPart w m))
   unfolding splittingsOf
   counts = rw (older-read, newer-read) (count-parts (pairs k) tested-ℕ tested-ℕ (tableOf l) (tableOf r) c (jointOf w))
 
@@ -150,19 +170,29 @@ module _ (k : ℕ) (l r w : List ℕ) (m : ℕ) (sound : checkLog k l r w ≡ So
     -- without its newer steps it is a splitting of the older part
     undone-half : undo c (nth k l r w t .1) ≡ nth k l r (olderPart w m) (t / ways) .1
     unfolding splittingsOf
-    undone-half = rw (older-read, newer-read) (ap (λ z. z .1) (nth-undone (pairs k) tested-ℕ tested-ℕ (tableOf l) (tableOf r) (start 0, start 0) c (jointOf w) run t below))
+    undone-half =
+        rw (older-read, newer-read)
+        (ap (λ z. z .1) (nth-undone (pairs k) tested-ℕ tested-ℕ (tableOf l) (tableOf r) (start 0, start 0) c (jointOf w)
+        run t below))
 
     -- and its newer steps are those of a splitting of the newer part
     newer-alike : Alike c (nth k l r w t .1) (nth k l r (newerPart w m) (t % ways) .1)
     unfolding splittingsOf
-    newer-alike = rw newer-read (nth-alike (pairs k) tested-ℕ tested-ℕ (tableOf l) (tableOf r) (start 0, start 0) c (jointOf w) run t below .1)
+    newer-alike =
+        rw newer-read (nth-alike (pairs k) tested-ℕ tested-ℕ (tableOf l) (tableOf r) (start 0, start 0) c (jointOf w)
+        run t below .1)
 
     half-steps : steps (nth k l r (newerPart w m) (t % ways) .1) ≡ c
-    half-steps = join-steps (pairs k) paired (nth-joins k l r (newerPart w m) (t % ways) (mod-lt t some-newer) .0) .1 ∙ newer-steps
+    half-steps =
+        join-steps (pairs k) paired (nth-joins k l r (newerPart w m) (t % ways) (mod-lt t some-newer) .0) .1
+        ∙ newer-steps
 
-    whole-half : rightHalf k l r w t ≡ rightHalf k l r (olderPart w m) (t / ways) ++ drop 1 (rightHalf k l r (newerPart w m) (t % ways))
+    whole-half : rightHalf k l r w t
+        ≡ rightHalf k l r (olderPart w m) (t / ways) ++ drop 1 (rightHalf k l r (newerPart w m) (t % ways))
     unfolding rightHalf
-    whole-half = bytes-alike c _ _ newer-alike half-steps ∙ ap (λ x. halfBytes x ++ drop 1 (halfBytes (nth k l r (newerPart w m) (t % ways) .1))) undone-half
+    whole-half =
+        bytes-alike c _ _ newer-alike half-steps
+        ∙ ap (λ x. halfBytes x ++ drop 1 (halfBytes (nth k l r (newerPart w m) (t % ways) .1))) undone-half
 
 -- every accepted window, cut anywhere
 pub cut-window : (k : ℕ) (l r w : List ℕ) (m : ℕ) → checkLog k l r w ≡ Sound → m ≤ length w / 3 → Cut k l r w m
@@ -170,7 +200,13 @@ cut-window k l r w m sound within = record {
   older = older-sound k l r w m sound within;
   newer = newer-sound k l r w m sound within;
   olderSteps = older-steps k l r w m sound within;
-  newerSteps = omega (arith, newer-steps k l r w m sound within, inside k l r w m sound within, sound-log k l r w sound .run .counted);
+  newerSteps =
+      omega (
+        arith,
+        newer-steps k l r w m sound within,
+        inside k l r w m sound within,
+        sound-log k l r w sound .run .counted,
+      );
   fewOlder = few-older k l r w m sound within;
   fewNewer = few-newer k l r w m sound within;
   someNewer = some-newer k l r w m sound within;

@@ -49,24 +49,37 @@ module _ (k : ℕ) (l r s f : List ℕ) (asked : Asked k l r s f) where
 
     pub numbered-log : Numbered k l r s f c
     unfolding splittingLimit
-    numbered-log = record { asked = asked; counted = sym (answered .1); few = omega (arith, few, answered .1); some = omega (arith, count-some k l r s (asked .log), answered .1) }
+    numbered-log =
+        record {
+          asked = asked;
+          counted = sym (answered .1);
+          few = omega (arith, few, answered .1);
+          some = omega (arith, count-some k l r s (asked .log), answered .1);
+        }
 
     -- so these are the lines
     pub lines-are : partsLines k l r s f ≡ listed (numberedLine k l r s f c) 0 (suc (steps (jointOf s)) * c)
     unfolding partsLines countedLines
     lines-are = rw told (lines-numbered k l r s f c (numbered-log .some))
 
-    pub lines-over : (first most total : ℕ) → total ≡ (length s / 3 + 1) * c → total ≤ first → take most (drop first (partsLines k l r s f)) ≡ []
+    pub lines-over : (first most total : ℕ) → total ≡ (length s / 3 + 1) * c → total ≤ first
+        → take most (drop first (partsLines k l r s f)) ≡ []
     lines-over first most total e h =
         let z : suc (steps (jointOf s)) * c ≡ total = ap (_* c) points-are ∙ sym e in
-        ap (λ x. take most (drop first x)) lines-are ∙ none-due (numberedLine k l r s f c) first most (suc (steps (jointOf s)) * c) (omega (arith, z, h))
+        ap (λ x. take most (drop first x)) lines-are
+        ∙ none-due (numberedLine k l r s f c) first most (suc (steps (jointOf s)) * c) (omega (arith, z, h))
 
-    pub lines-due : (first most total due : ℕ) → total ≡ (length s / 3 + 1) * c → first ≤ total → due ≡ min most (total - first) → take most (drop first (partsLines k l r s f)) ≡ listed (numberedLine k l r s f c) first due
+    pub lines-due : (first most total due : ℕ) → total ≡ (length s / 3 + 1) * c → first ≤ total
+        → due ≡ min most (total - first)
+        → take most (drop first (partsLines k l r s f)) ≡ listed (numberedLine k l r s f c) first due
     lines-due first most total due e h d =
         let z : suc (steps (jointOf s)) * c ≡ total = ap (_* c) points-are ∙ sym e in
-        ap (λ x. take most (drop first x)) (lines-are ∙ ap (listed (numberedLine k l r s f c) 0) z) ∙ due-listed (numberedLine k l r s f c) first most total h ∙ ap (listed (numberedLine k l r s f c) first) (sym d)
+        ap (λ x. take most (drop first x)) (lines-are ∙ ap (listed (numberedLine k l r s f c) 0) z)
+        ∙ due-listed (numberedLine k l r s f c) first most total h
+        ∙ ap (listed (numberedLine k l r s f c) first) (sym d)
 
-    pub due-within : (first most total due : ℕ) → total ≡ (length s / 3 + 1) * c → first < total → (most ≡ 0 → ⊥) → due ≡ min most (total - first) → (1 ≤ due) × (first + due ≤ suc (steps (jointOf s)) * c)
+    pub due-within : (first most total due : ℕ) → total ≡ (length s / 3 + 1) * c → first < total → (most ≡ 0 → ⊥)
+        → due ≡ min most (total - first) → (1 ≤ due) × (first + due ≤ suc (steps (jointOf s)) * c)
     due-within first most total due e h n d =
         let z : suc (steps (jointOf s)) * c ≡ total = ap (_* c) points-are ∙ sym e in
         (omega (arith, d, positive most n, h), omega (arith, d, z, h))
@@ -76,23 +89,31 @@ pub none-asked : (xs : List (List ℕ)) (most : ℕ) → most ≡ 0 → take mos
 none-asked xs most e = rw e
 
 -- the count is refused
-pub refused-count : (k : ℕ) (l r s f : List ℕ) (x : Refusal) → countOf k l r s ≡ count.Refused x → partsLines k l r s f ≡ refusedLine x ∷ []
+pub refused-count : (k : ℕ) (l r s f : List ℕ) (x : Refusal) → countOf k l r s ≡ count.Refused x
+    → partsLines k l r s f ≡ refusedLine x ∷ []
 unfolding partsLines countedLines
 refused-count k l r s f x e = rw e
 
 -- any bytes: a casebook that was read, or a refusal
 module _ (s : List ℕ) (first most : ℕ) where
-  module _ (p : Parts) (told : readOf s ≡ reading.Casebook p) (l r j q : List ℕ) (a : l ≡ bodyOf s (p .left)) (b : r ≡ bodyOf s (p .right)) (c : j ≡ bodyOf s (p .run)) (d : q ≡ bodyOf s (p .question)) where
+  module _ (p : Parts) (told : readOf s ≡ reading.Casebook p) (l r j q : List ℕ) (a : l ≡ bodyOf s (p .left))
+      (b : r ≡ bodyOf s (p .right)) (c : j ≡ bodyOf s (p .run)) (d : q ≡ bodyOf s (p .question)) where
     pub read-asked : Asked (p .pairs) l r j q
     unfolding checkLog firstOf
     read-asked =
         let parts = sound-parts _ _ _ _ _ (read-sound s p told) in
-        rw (a, b, c, d) (record { log = rw (parts .pairs, parts .left, parts .right, parts .run); question = parts .question })
+        rw (
+          a,
+          b,
+          c,
+          d,
+        ) (record { log = rw (parts .pairs, parts .left, parts .right, parts .run); question = parts .question })
 
     pub read-due : linesDue s first most ≡ take most (drop first (partsLines (p .pairs) l r j q))
     unfolding linesDue sheetOf readLines
     read-due = rw (told, a, b, c, d)
 
-  pub refused-due : (x : Refusal) → readOf s ≡ reading.Refused x → linesDue s first most ≡ take most (drop first (refusedLine x ∷ []))
+  pub refused-due : (x : Refusal) → readOf s ≡ reading.Refused x
+      → linesDue s first most ≡ take most (drop first (refusedLine x ∷ []))
   unfolding linesDue sheetOf readLines
   refused-due x told = rw told

@@ -27,12 +27,14 @@ use Rattle.sheet_lines.proofs.Filling.{listed-agree}
 use Rattle.sheet_lines.proofs.WindowLines.{line-windowed}
 
 -- the count of a log that can be numbered
-pub counted-log : (k : ℕ) (l r s : List ℕ) → checkLog k l r s ≡ Sound → length (splittingsOf k l r s) ≤ splittingLimit → countedAs (countOf k l r s) ≡ length (splittingsOf k l r s)
+pub counted-log : (k : ℕ) (l r s : List ℕ) → checkLog k l r s ≡ Sound → length (splittingsOf k l r s) ≤ splittingLimit
+    → countedAs (countOf k l r s) ≡ length (splittingsOf k l r s)
 unfolding countedAs countOf checkCount firstOf splittingLimit
 counted-log k l r s e h = rw (e, le-ltb 65535 (length (splittingsOf k l r s)) h)
 
 -- the window as a part of the log, and what follows the point
-pub window-part : (s : List ℕ) (p b first : ℕ) → first ≡ p - b → take (3 * p + 2 - 3 * first) (drop (3 * first) s) ≡ windowOf s p b
+pub window-part : (s : List ℕ) (p b first : ℕ) → first ≡ p - b
+    → take (3 * p + 2 - 3 * first) (drop (3 * first) s) ≡ windowOf s p b
 unfolding windowOf
 window-part s p b first e =
     let z : 3 * p + 2 - 3 * (p - b) ≡ 3 * (p - (p - b)) + 2 = omega arith in
@@ -47,18 +49,23 @@ module _ (k : ℕ) (l r s f : List ℕ) (asked : Asked k l r s f) (p : ℕ) (wit
   pub point-bytes : (3 * p + 2 ≤ length s) × (length s ≤ 602)
   point-bytes = let a = sound-log k l r s (asked .log) .run in omega (arith, within, a .counted, a .whole, a .few)
 
-  module _ (few : length (splittingsOf k l r s) ≤ splittingLimit) (b : ℕ) (back : b ≡ backsOf f) (w v : List ℕ) (window : w ≡ windowOf s p b) (follows : v ≡ restOf s p) where
+  module _ (few : length (splittingsOf k l r s) ≤ splittingLimit) (b : ℕ) (back : b ≡ backsOf f) (w v : List ℕ)
+      (window : w ≡ windowOf s p b) (follows : v ≡ restOf s p) where
     parts : Windowed k l r s p b
     parts = windowed k l r s p b (asked .log) within
 
     -- how many splittings each has
     ways-are : countedAs (countOf k l r w) ≡ length (splittingsOf k l r (windowOf s p b))
     unfolding splittingLimit
-    ways-are = ap (λ x. countedAs (countOf k l r x)) window ∙ counted-log k l r (windowOf s p b) (parts .window) (omega (arith, parts .fewWindow, few))
+    ways-are =
+        ap (λ x. countedAs (countOf k l r x)) window
+        ∙ counted-log k l r (windowOf s p b) (parts .window) (omega (arith, parts .fewWindow, few))
 
     after-are : countedAs (countOf k l r v) ≡ length (splittingsOf k l r (restOf s p))
     unfolding splittingLimit
-    after-are = ap (λ x. countedAs (countOf k l r x)) follows ∙ counted-log k l r (restOf s p) (parts .rest) (omega (arith, parts .fewRest, few))
+    after-are =
+        ap (λ x. countedAs (countOf k l r x)) follows
+        ∙ counted-log k l r (restOf s p) (parts .rest) (omega (arith, parts .fewRest, few))
 
     pub ways-counted : (ways : ℕ) → ways ≡ countedAs (countOf k l r w) → ways ≡ length (splittingsOf k l r w)
     ways-counted ways x = x ∙ ways-are ∙ ap (λ z. length (splittingsOf k l r z)) (sym window)
@@ -70,7 +77,8 @@ module _ (k : ℕ) (l r s f : List ℕ) (asked : Asked k l r s f) (p : ℕ) (wit
     pub window-asked : Asked k l r w f
     window-asked = rw window (record { log = parts .window; question = asked .question })
 
-    module _ (letter ways after : ℕ) (a : letter ≡ letterOf (jointVerdict k l r s f p)) (x : ways ≡ countedAs (countOf k l r w)) (y : after ≡ afterOf ways (countedAs (countOf k l r v))) where
+    module _ (letter ways after : ℕ) (a : letter ≡ letterOf (jointVerdict k l r s f p))
+        (x : ways ≡ countedAs (countOf k l r w)) (y : after ≡ afterOf ways (countedAs (countOf k l r v))) where
       -- numbers are divided by how many splittings follow, unless the window has one splitting
       pub point-numbers : (0 < after) × (0 < ways) × (after ≤ 65536)
       unfolding splittingLimit afterOf
@@ -84,8 +92,11 @@ module _ (k : ℕ) (l r s f : List ℕ) (asked : Asked k l r s f) (p : ℕ) (wit
       unfolding afterOf
       same-turn n = go (eqb ways 1) refl y
         where
-          go : (b : Bool) → eqb ways 1 ≡ b → after ≡ cond b 65536 (countedAs (countOf k l r v)) → n / after % ways ≡ n / length (splittingsOf k l r (restOf s p)) % ways
-          go true q e = let z : ways ≡ 1 = eqb-true ways 1 q in rw z (mod-one (n / after) ∙ sym (mod-one (n / length (splittingsOf k l r (restOf s p)))))
+          go : (b : Bool) → eqb ways 1 ≡ b → after ≡ cond b 65536 (countedAs (countOf k l r v))
+              → n / after % ways ≡ n / length (splittingsOf k l r (restOf s p)) % ways
+          go true q e =
+              let z : ways ≡ 1 = eqb-true ways 1 q in
+              rw z (mod-one (n / after) ∙ sym (mod-one (n / length (splittingsOf k l r (restOf s p)))))
           go false q e = ap (λ m. n / m % ways) (e ∙ after-are)
 
       module _ (kept : Kept) where
@@ -95,11 +106,16 @@ module _ (k : ℕ) (l r s f : List ℕ) (asked : Asked k l r s f) (p : ℕ) (wit
         -- one of the lines
         point-line : (n : ℕ) → n < length (splittingsOf k l r s) → lineBy k l r w f shared n ≡ lineOf k l r s f p n
         unfolding lineBy
-        point-line n below = ap (lineIn k l r w f letter p n) (same-turn n) ∙ rw (a, x ∙ ways-are, window) (sym (line-windowed k l r s f asked p within n below few b back))
+        point-line n below =
+            ap (lineIn k l r w f letter p n) (same-turn n)
+            ∙ rw (a, x ∙ ways-are, window) (sym (line-windowed k l r s f asked p within n below few b back))
 
         -- some of them
-        pub point-lines : (n m : ℕ) → n + m ≤ length (splittingsOf k l r s) → listed (lineBy k l r w f shared) n m ≡ listed (lineOf k l r s f p) n m
-        point-lines n m h = listed-agree (lineBy k l r w f shared) (lineOf k l r s f p) n n m (λ i j. point-line (n + i) (omega (arith, h, j)))
+        pub point-lines : (n m : ℕ) → n + m ≤ length (splittingsOf k l r s)
+            → listed (lineBy k l r w f shared) n m ≡ listed (lineOf k l r s f p) n m
+        point-lines n m h =
+            listed-agree (lineBy k l r w f shared) (lineOf k l r s f p) n n m
+            (λ i j. point-line (n + i) (omega (arith, h, j)))
 
 -- numbers of splittings are few
 pub numbers-few : (u c : ℕ) → u ≤ c → c ≤ splittingLimit → u ≤ 65536

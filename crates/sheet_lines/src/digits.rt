@@ -59,7 +59,9 @@ pub(crate) fn put_decimal(out: &mut [u8], at: usize, n: usize) -> usize
 // Writes a number as four digits at a place, with zeros in front where it has fewer.
 fn put_four(out: &mut [u8], at: usize, n: usize)
     requires { ⌜ (n < 10000) × (at + 4 ≤ length (now out)) ⌝ }
-    ensures { λ r. ⌜ now (out .exit) ≡ putAt (now (out .entry)) at ((48 + n / 1000) ∷ (48 + n / 100 % 10) ∷ (48 + n / 10 % 10) ∷ (48 + n % 10) ∷ []) ⌝ }
+    ensures { λ r. ⌜ now (out .exit)
+        ≡ putAt (now (out .entry))
+        at ((48 + n / 1000) ∷ (48 + n / 100 % 10) ∷ (48 + n / 10 % 10) ∷ (48 + n % 10) ∷ []) ⌝ }
 {
     put_two(out, at, (n / 100) as u8);
     put_two(out, at + 2, (n % 100) as u8);

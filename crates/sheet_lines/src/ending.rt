@@ -15,7 +15,8 @@ ghost use Rattle.sheet_lines.specs.Digits.{decimal, hexadecimal};
 ghost use Rattle.sheet_lines.specs.Sheets.{blank, dash, lineFeed};
 ghost use Rattle.sheet_lines.specs.Working.{putAt, endingIn, Asked, Halved};
 
-// Writes the ending of the lines by splitting t of a window, at its end, to the front of `ending`, and gives its length.
+// Writes the ending of the lines by splitting t of a window, at its end, to the front of `ending`, and gives its
+// length.
 pub(crate) fn find_ending<'a>(
     k: u8,
     left: &'a [u8],
@@ -29,11 +30,15 @@ pub(crate) fn find_ending<'a>(
     text: &mut [u8],
     ending: &mut [u8],
 ) -> usize
-    requires { ⌜ Asked k (now left) (now right) (now window) (now question) × Halved k (now left) (now right) (now window) kept (now halves) ⌝ }
-    requires { ⌜ (t < length (splittingsOf k (now left) (now right) (now window))) × (length (splittingsOf k (now left) (now right) (now window)) ≤ splittingLimit) ⌝ }
+    requires { ⌜ Asked k (now left) (now right) (now window) (now question)
+        × Halved k (now left) (now right) (now window) kept (now halves) ⌝ }
+    requires { ⌜ (t < length (splittingsOf k (now left) (now right) (now window)))
+        × (length (splittingsOf k (now left) (now right) (now window)) ≤ splittingLimit) ⌝ }
     requires { ⌜ (length (now text) ≡ 8192) × (length (now ending) ≡ 16387) ⌝ }
-    ensures { λ r. ⌜ r ≡ length (endingIn k (now (left .entry)) (now (right .entry)) (now (window .entry)) (now (question .entry)) letter t) ⌝ }
-    ensures { λ r. ⌜ take r (now (ending .exit)) ≡ endingIn k (now (left .entry)) (now (right .entry)) (now (window .entry)) (now (question .entry)) letter t ⌝ }
+    ensures { λ r. ⌜ r ≡ length
+        (endingIn k (now (left .entry)) (now (right .entry)) (now (window .entry)) (now (question .entry)) letter t) ⌝ }
+    ensures { λ r. ⌜ take r (now (ending .exit))
+        ≡ endingIn k (now (left .entry)) (now (right .entry)) (now (window .entry)) (now (question .entry)) letter t ⌝ }
     ensures { λ r. ⌜ r ≤ 16387 ⌝ }
 {
     match quotient_text(k, left, right, window, question, t, kept, halves, text) {
@@ -46,7 +51,8 @@ pub(crate) fn find_ending<'a>(
 fn put_fields(text: &[u8], letter: u8, out: &mut [u8]) -> usize
     requires { ⌜ 2 * length (now text) + 3 ≤ length (now out) ⌝ }
     ensures { λ r. ⌜ r ≡ 2 * length (now (text .entry)) + 3 ⌝ }
-    ensures { λ r. ⌜ now (out .exit) ≡ putAt (now (out .entry)) 0 (hexadecimal (now (text .entry)) ++ (blank ∷ letter ∷ lineFeed ∷ [])) ⌝ }
+    ensures { λ r. ⌜ now (out .exit)
+        ≡ putAt (now (out .entry)) 0 (hexadecimal (now (text .entry)) ++ (blank ∷ letter ∷ lineFeed ∷ [])) ⌝ }
 {
     put_hexadecimal(out, 0, text);
     let at = 2 * text.len();
@@ -60,7 +66,8 @@ fn put_fields(text: &[u8], letter: u8, out: &mut [u8]) -> usize
 fn put_refusal(refusal: Refusal, out: &mut [u8]) -> usize
     requires { ⌜ 5 ≤ length (now out) ⌝ }
     ensures { λ r. ⌜ r ≡ length (decimal (numberOf refusal)) + 3 ⌝ }
-    ensures { λ r. ⌜ now (out .exit) ≡ putAt (now (out .entry)) 0 (decimal (numberOf refusal) ++ (blank ∷ dash ∷ lineFeed ∷ [])) ⌝ }
+    ensures { λ r. ⌜ now (out .exit)
+        ≡ putAt (now (out .entry)) 0 (decimal (numberOf refusal) ++ (blank ∷ dash ∷ lineFeed ∷ [])) ⌝ }
 {
     let number = refusal.number() as usize;
     let at = put_decimal(out, 0, number);

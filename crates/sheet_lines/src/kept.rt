@@ -1,4 +1,5 @@
-// The right halves of the splittings of a window's two parts, kept in a table: from them the half of each splitting of the window is put together.
+// The right halves of the splittings of a window's two parts, kept in a table: from them the half of each splitting of
+// the window is put together.
 use crate::point::splittings_of;
 use dividing::divide::Quotient;
 use dividing::divide::divide;
@@ -15,14 +16,16 @@ ghost use Rattle.splitting.specs.Splittings.{splittingsOf, splittingLimit, chec
 ghost use Rattle.quotient.specs.Calls.{byNumber, byNumberOutput};
 ghost use Rattle.sheet_lines.specs.Working.{putAt, Asked, HalvesAt, Halved};
 
-// How the halves of a window are kept: the steps of its older and of its newer part, and how many splittings the newer part has; 0 if none are kept.
+// How the halves of a window are kept: the steps of its older and of its newer part, and how many splittings the newer
+// part has; 0 if none are kept.
 pub(crate) struct Kept {
     pub older: usize,
     pub newer: usize,
     pub ways: usize,
 }
 
-// Keeps the halves of both parts of a window, at most 256 each, if the window has so many splittings that it is worth it.
+// Keeps the halves of both parts of a window, at most 256 each, if the window has so many splittings that it is worth
+// it.
 pub(crate) fn keep_halves(
     k: u8,
     left: &[u8],
@@ -82,7 +85,8 @@ fn middle(k: u8, left: &[u8], right: &[u8], window: &[u8], ways: usize) -> usize
     low
 }
 
-// Writes the right halves of the first n splittings of a log to the table, from the place `first` on. What stands in front of it is kept.
+// Writes the right halves of the first n splittings of a log to the table, from the place `first` on. What stands in
+// front of it is kept.
 fn list_halves(
     k: u8,
     left: &[u8],
@@ -93,9 +97,11 @@ fn list_halves(
     halves: &mut [u8],
 )
     requires { ⌜ checkLog k (now left) (now right) (now log) ≡ Sound ⌝ }
-    requires { ⌜ (n ≤ length (splittingsOf k (now left) (now right) (now log))) × (length (splittingsOf k (now left) (now right) (now log)) ≤ splittingLimit) ⌝ }
+    requires { ⌜ (n ≤ length (splittingsOf k (now left) (now right) (now log)))
+        × (length (splittingsOf k (now left) (now right) (now log)) ≤ splittingLimit) ⌝ }
     requires { ⌜ (n ≤ 256) × (first ≤ 256) × (length (now halves) ≡ 205312) ⌝ }
-    ensures { λ r. ⌜ HalvesAt k (now (left .entry)) (now (right .entry)) (now (log .entry)) (now (halves .exit)) first n ⌝ }
+    ensures { λ r. ⌜ HalvesAt k (now (left .entry)) (now (right .entry)) (now (log .entry)) (now (halves .exit)) first
+        n ⌝ }
     ensures { λ r. ⌜ take (401 * first) (now (halves .exit)) ≡ take (401 * first) (now (halves .entry)) ⌝ }
 {
     let mut i: usize = 0;
@@ -116,9 +122,12 @@ fn list_half(
     halves: &mut [u8],
 )
     requires { ⌜ checkLog k (now left) (now right) (now log) ≡ Sound ⌝ }
-    requires { ⌜ (i < length (splittingsOf k (now left) (now right) (now log))) × (length (splittingsOf k (now left) (now right) (now log)) ≤ splittingLimit) ⌝ }
+    requires { ⌜ (i < length (splittingsOf k (now left) (now right) (now log)))
+        × (length (splittingsOf k (now left) (now right) (now log)) ≤ splittingLimit) ⌝ }
     requires { ⌜ (place < 512) × (length (now halves) ≡ 205312) ⌝ }
-    ensures { λ r. ⌜ now (halves .exit) ≡ putAt (now (halves .entry)) (401 * place) (rightHalf k (now (left .entry)) (now (right .entry)) (now (log .entry)) i) ⌝ }
+    ensures { λ r. ⌜ now (halves .exit)
+        ≡ putAt (now (halves .entry)) (401 * place)
+        (rightHalf k (now (left .entry)) (now (right .entry)) (now (log .entry)) i) ⌝ }
 {
     let mut spare = [0u8; 401];
     split(
@@ -132,7 +141,8 @@ fn list_half(
     );
 }
 
-// Writes the quotient by the right half of splitting t of a window, at the window's end: with the halves that are kept, or as the public call does.
+// Writes the quotient by the right half of splitting t of a window, at the window's end: with the halves that are kept,
+// or as the public call does.
 pub(crate) fn quotient_text<'a>(
     k: u8,
     left: &'a [u8],
@@ -145,11 +155,15 @@ pub(crate) fn quotient_text<'a>(
     text: &mut [u8],
 ) -> Quotient
     requires { ⌜ Asked k (now left) (now right) (now window) (now question) ⌝ }
-    requires { ⌜ (t < length (splittingsOf k (now left) (now right) (now window))) × (length (splittingsOf k (now left) (now right) (now window)) ≤ splittingLimit) ⌝ }
+    requires { ⌜ (t < length (splittingsOf k (now left) (now right) (now window)))
+        × (length (splittingsOf k (now left) (now right) (now window)) ≤ splittingLimit) ⌝ }
     requires { ⌜ Halved k (now left) (now right) (now window) kept (now halves) ⌝ }
     requires { ⌜ length (now text) ≡ 8192 ⌝ }
-    ensures { λ r. ⌜ r ≡ byNumber k (now (left .entry)) (now (right .entry)) (now (window .entry)) (now (question .entry)) t side.Right (length (now (window .entry)) / 3) (length (now (text .entry))) ⌝ }
-    ensures { λ r. ⌜ now (text .exit) ≡ byNumberOutput k (now (left .entry)) (now (right .entry)) (now (window .entry)) (now (question .entry)) t side.Right (length (now (window .entry)) / 3) (now (text .entry)) ⌝ }
+    ensures { λ r. ⌜ r ≡ byNumber k (now (left .entry)) (now (right .entry)) (now (window .entry))
+        (now (question .entry)) t side.Right (length (now (window .entry)) / 3) (length (now (text .entry))) ⌝ }
+    ensures { λ r. ⌜ now (text .exit)
+        ≡ byNumberOutput k (now (left .entry)) (now (right .entry)) (now (window .entry)) (now (question .entry)) t
+        side.Right (length (now (window .entry)) / 3) (now (text .entry)) ⌝ }
 {
     let points = window.len() / 3;
     if kept.ways == 0 {
@@ -170,12 +184,15 @@ pub(crate) fn quotient_text<'a>(
     divide(k, right, &half[..len], question, text)
 }
 
-// Puts the right half of splitting t of a window together, and gives its length: the half of the older part, then the steps of the half of the newer part.
+// Puts the right half of splitting t of a window together, and gives its length: the half of the older part, then the
+// steps of the half of the newer part.
 fn put_half(t: usize, kept: Kept, halves: &[u8], half: &mut [u8]) -> usize
     requires { ⌜ (0 < kept .ways) × (kept .ways ≤ 256) × (t / kept .ways < 256) ⌝ }
     requires { ⌜ (kept .older + kept .newer ≤ 200) × (length (now halves) ≡ 205312) × (length (now half) ≡ 401) ⌝ }
     ensures { λ r. ⌜ r ≡ 2 * kept .older + 1 + 2 * kept .newer ⌝ }
-    ensures { λ r. ⌜ take r (now (half .exit)) ≡ take (2 * kept .older + 1) (drop (401 * (t / kept .ways)) (now (halves .entry))) ++ take (2 * kept .newer) (drop (401 * (256 + t % kept .ways) + 1) (now (halves .entry))) ⌝ }
+    ensures { λ r. ⌜ take r (now (half .exit))
+        ≡ take (2 * kept .older + 1) (drop (401 * (t / kept .ways)) (now (halves .entry)))
+        ++ take (2 * kept .newer) (drop (401 * (256 + t % kept .ways) + 1) (now (halves .entry))) ⌝ }
 {
     let ways = kept.ways;
     let older = t / ways;

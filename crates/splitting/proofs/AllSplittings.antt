@@ -1,5 +1,6 @@
--- All splittings of a log, each once, each joins to the log again; joining is the reverse. Theorems over the definitions of what the calls
--- answer, for all bytes. However many splittings there are: only calls that name one by its number stop at 65,535.
+-- All splittings of a log, each once, each joins to the log again; joining is the reverse. Theorems over the
+-- definitions of what the calls answer, for all bytes. However many splittings there are: only calls that name one by
+-- its number stop at 65,535.
 use Prim.Native.Nat.{ℕ, _≤_, _<_}
 use mathlib.Core.Path.{_≡_, refl, sym, _∙_, ap}
 use mathlib.Core.List.{List}
@@ -19,31 +20,45 @@ use Rattle.labels.specs.declared.refusal.Check.the-variants.{Sound}
 use Rattle.tables.specs.Tables.{tableOf}
 use Rattle.halves.specs.Halves.{halfBytes, halfOf}
 use Rattle.machines.specs.Joints.{jointOf}
-use Rattle.splitting.specs.Splittings.{splittingsOf, checkLog, checkCount, leftHalf, rightHalf, halfLength, countOf}
+use Rattle.splitting.specs.Splittings.{splittingsOf, checkLog, checkCount, leftHalf, rightHalf, halfLength}
+use Rattle.splitting.specs.Splittings.{countOf}
 use Rattle.joining.specs.Joinings.{joinOf, joinBytes, checkHalves}
 use Rattle.splitting.specs.declared.count.Counted.the-variants as count
-use Rattle.splitting.proofs.LogRuns.{sound-log, sound-halves, left-read, right-read, runs-join, runs-accepted, run-accepted, halves-join, bytes-joined, joined-read, nth, nth-joins, nth-length, all-numbered, numbered-once}
-use Rattle.splitting.proofs.Outcomes.{SplitGives, JoinGives, split-checked, split-given, room-gives, join-gives, join-given, count-answered}
+use Rattle.splitting.proofs.LogRuns.{sound-log, sound-halves, left-read, right-read, runs-join, runs-accepted}
+use Rattle.splitting.proofs.LogRuns.{run-accepted, halves-join, bytes-joined, joined-read, nth, nth-joins}
+use Rattle.splitting.proofs.LogRuns.{nth-length, all-numbered, numbered-once}
+use Rattle.splitting.proofs.Outcomes.{SplitGives, JoinGives, split-checked, split-given, room-gives, join-gives}
+use Rattle.splitting.proofs.Outcomes.{join-given, count-answered}
 
--- each splitting of a log joins to the log again: its halves are accepted, join to the log's run and give its bytes, and have a state and two bytes a step
+-- each splitting of a log joins to the log again: its halves are accepted, join to the log's run and give its bytes,
+-- and have a state and two bytes a step
 pub splitting-joins : (k : ℕ) (l r s : List ℕ) (n : ℕ) → checkLog k l r s ≡ Sound → n < length (splittingsOf k l r s)
     → let a = leftHalf k l r s n in let b = rightHalf k l r s n in
-    (checkHalves k l r a b ≡ Sound) × (joinBytes k a b ≡ s) × (joinOf k a b ≡ some (jointOf s)) × (length a ≡ halfLength s) × (length b ≡ halfLength s)
+    (checkHalves k l r a b ≡ Sound) × (joinBytes k a b ≡ s) × (joinOf k a b ≡ some (jointOf s))
+    × (length a ≡ halfLength s) × (length b ≡ halfLength s)
 unfolding leftHalf rightHalf joinBytes
 splitting-joins k l r s n e h =
     let log = sound-log k l r s e in
     let w = nth-joins k l r s n h in
     let f = join-first (pairs k) paired (w .0) in
     let i = runs-join (log .machines) w in
-    let (u, v) = nth-length k l r s n h in
-    (runs-accepted (log .machines) w (rw f at (log .run .beginsLeft)) (rw f at (log .run .beginsRight)) (log .run .few), rw i (log .run .spelled), i, u, v)
+    let (u, v) = nth-length k l r s n h in (
+      runs-accepted (log .machines) w (rw f at (log .run .beginsLeft)) (rw f at (log .run .beginsRight))
+          (log .run .few),
+      rw i (log .run .spelled),
+      i,
+      u,
+      v,
+    )
 
 -- two halves that join give a log: what they join to is accepted
 pub joined-log : (k : ℕ) (l r a b : List ℕ) → checkHalves k l r a b ≡ Sound → checkLog k l r (joinBytes k a b) ≡ Sound
 joined-log k l r a b e =
     let h = sound-halves k l r a b e in
     let w = halves-join h in
-    rw (bytes-joined h) (run-accepted (h .machines) w (h .left .begins) (h .right .begins) (omega (arith, join-steps (pairs k) paired (w .0) .0, h .left .few)))
+    rw (bytes-joined h)
+    (run-accepted (h .machines) w (h .left .begins) (h .right .begins)
+    (omega (arith, join-steps (pairs k) paired (w .0) .0, h .left .few)))
 
 -- all splittings: two halves that join to a log are one of its splittings
 pub joins-splitting : (k : ℕ) (l r s a b : List ℕ) → checkHalves k l r a b ≡ Sound → joinBytes k a b ≡ s
@@ -51,12 +66,14 @@ pub joins-splitting : (k : ℕ) (l r s a b : List ℕ) → checkHalves k l r a b
 unfolding leftHalf rightHalf
 joins-splitting k l r s a b e j =
     let h = sound-halves k l r a b e in
-    let w : JoinOf (pairs k) (tableOf l) (tableOf r) (halfOf a) (halfOf b) (jointOf s) = rw (← j, joined-read h) (halves-join h) in
+    let w : JoinOf (pairs k) (tableOf l) (tableOf r) (halfOf a) (halfOf b) (jointOf s) = rw (← j, joined-read h)
+    (halves-join h) in
     let (n, i, f) = all-numbered k l r s w in
     (n, i, ap (λ z. halfBytes (z .0)) f ∙ h .left .spelled, ap (λ z. halfBytes (z .1)) f ∙ h .right .spelled)
 
 -- each once: splittings with equal halves have one number
-pub splitting-once : (k : ℕ) (l r s : List ℕ) (m n : ℕ) → checkLog k l r s ≡ Sound → m < length (splittingsOf k l r s) → n < length (splittingsOf k l r s)
+pub splitting-once : (k : ℕ) (l r s : List ℕ) (m n : ℕ) → checkLog k l r s ≡ Sound → m < length (splittingsOf k l r s)
+    → n < length (splittingsOf k l r s)
     → leftHalf k l r s m ≡ leftHalf k l r s n → rightHalf k l r s m ≡ rightHalf k l r s n → m ≡ n
 unfolding leftHalf rightHalf
 splitting-once k l r s m n e h i f g =
@@ -91,20 +108,28 @@ count-one k l r s = go (jointOf s)
     go (j ▸ t) e = absurd (omega (arith, e))
 
 -- joining is the reverse: joining what a split gave gives the log again
-pub split-then-join : (k : ℕ) (l r s : List ℕ) (n : ℕ) (x y a b out : List ℕ) → SplitGives k l r s n x y a b → length s ≤ length out → JoinGives k l r a b out s
+pub split-then-join : (k : ℕ) (l r s : List ℕ) (n : ℕ) (x y a b out : List ℕ) → SplitGives k l r s n x y a b
+    → length s ≤ length out → JoinGives k l r a b out s
 split-then-join k l r s n x y a b out g h =
     let (e, u, v) = split-given k l r s n x y a b g in
     let (log, i) = split-checked k l r s n (length x) (length y) e in
     let (halves, j, _, _, _) = splitting-joins k l r s n log i in
     rw (← u, ← v) (join-gives k l r _ _ out s halves j h)
 
--- and splitting what a join gave gives the halves again, by one number and no other, if the log has no more splittings than can be numbered
-pub join-then-split : (k : ℕ) (l r a b out s : List ℕ) (c : ℕ) → JoinGives k l r a b out s → countOf k l r s ≡ count.Splittings c
+-- and splitting what a join gave gives the halves again, by one number and no other, if the log has no more splittings
+-- than can be numbered
+pub join-then-split : (k : ℕ) (l r a b out s : List ℕ) (c : ℕ) → JoinGives k l r a b out s
+    → countOf k l r s ≡ count.Splittings c
     → (n : ℕ) × (n < c) × ((x y : List ℕ) → length a ≤ length x → length b ≤ length y → SplitGives k l r s n x y a b)
     × ((m : ℕ) (x y : List ℕ) → SplitGives k l r s m x y a b → m ≡ n)
 unfolding countOf
 join-then-split k l r a b out s c g e =
     let (halves, j) = join-given k l r a b out s g in
     let (sound, z) = count-answered (checkCount k l r s) (length (splittingsOf k l r s)) c e in
-    let (n, h, u, v, once) = exactly-one k l r s a b halves j in
-    (n, omega (arith, h, z), room-gives k l r s n a b sound h u v, λ m x y f. let (i, p, q) = split-given k l r s m x y a b f in once m (split-checked k l r s m (length x) (length y) i .1) p q)
+    let (n, h, u, v, once) = exactly-one k l r s a b halves j in (
+      n,
+      omega (arith, h, z),
+      room-gives k l r s n a b sound h u v,
+      λ m x y f. let (i, p, q) = split-given k l r s m x y a b f in
+          once m (split-checked k l r s m (length x) (length y) i .1) p q,
+    )

@@ -46,7 +46,8 @@ unfolding checkHalf
 half-passed t a e = accepted-half t a (passed (isHalfRun t a) _ e)
 
 -- a run of a sound table is one
-pub half-passes : (k : ℕ) (t : List ℕ) → SoundTable k t → (x : Run ℕ) → RunOf (tableOf t) x → first x < statesOf t → steps x ≤ 200 → checkHalf t (halfBytes x) ≡ Sound
+pub half-passes : (k : ℕ) (t : List ℕ) → SoundTable k t → (x : Run ℕ) → RunOf (tableOf t) x → first x < statesOf t
+    → steps x ≤ 200 → checkHalf t (halfBytes x) ≡ Sound
 unfolding HalfRun
 half-passes k t sound x run begins few = judges (judged-half k t (halfBytes x) sound) .1 (x, refl, run, begins, few)
 
@@ -88,12 +89,20 @@ module _ {k : ℕ} {l r : List ℕ} (t : SoundMachines k l r) where
   run-read = joint-read k l r (no-idle-label left-table) (no-idle-label right-table)
 
   -- a run of the two tables beside each other is an accepted log
-  pub log-passes : (j : Run (ℕ × ℕ)) → RunOf (tablesOf k l r) j → first j .0 < statesOf l → first j .1 < statesOf r → steps j ≤ 200 → checkLog k l r (jointBytes j) ≡ Sound
+  pub log-passes : (j : Run (ℕ × ℕ)) → RunOf (tablesOf k l r) j → first j .0 < statesOf l → first j .1 < statesOf r
+      → steps j ≤ 200 → checkLog k l r (jointBytes j) ≡ Sound
   unfolding checkLog firstOf JointRun
-  log-passes j run left right few = rw (t .pairs, t .left, t .right, judges (judged-joint k l r (jointBytes j) left-table right-table) .1 (j, refl, run, left, right, few))
+  log-passes j run left right few =
+      rw (
+        t .pairs,
+        t .left,
+        t .right,
+        judges (judged-joint k l r (jointBytes j) left-table right-table) .1 (j, refl, run, left, right, few),
+      )
 
   -- accepted halves that join are accepted together
-  pub halves-pass : (a b : List ℕ) → checkHalf l a ≡ Sound → checkHalf r b ≡ Sound → (j : Run (ℕ × ℕ)) → joinOf k a b ≡ some j → checkHalves k l r a b ≡ Sound
+  pub halves-pass : (a b : List ℕ) → checkHalf l a ≡ Sound → checkHalf r b ≡ Sound → (j : Run (ℕ × ℕ))
+      → joinOf k a b ≡ some j → checkHalves k l r a b ≡ Sound
   unfolding checkHalves firstOf halvesMatch
   halves-pass a b left right j e = rw (t .pairs, t .left, t .right, left, right, e)
 
@@ -111,11 +120,21 @@ module _ (k : ℕ) (l r : List ℕ) where
       let t : SoundMachines k l r = record { pairs = pairs; left = left; right = right } in
       let f = passed (fitJoint s) _ fit in
       let g = passed (isJointRun k l r s) _ real in
-      record { machines = t; run = accepted-joint k l r (no-idle-label (left-table t)) (no-idle-label (right-table t)) s f g; held = accepted-held k l r (no-idle-label (left-table t)) (no-idle-label (right-table t)) s f g }
+      record {
+        machines = t;
+        run = accepted-joint k l r (no-idle-label (left-table t)) (no-idle-label (right-table t)) s f g;
+        held = accepted-held k l r (no-idle-label (left-table t)) (no-idle-label (right-table t)) s f g;
+      }
 
   -- the same, as the functions inside the crate ask for it
   pub sound-ready : (s : List ℕ) → checkLog k l r s ≡ Sound → Log k l r s
-  sound-ready s e = let a = sound-log s e in record { tables = record { left = left-table (a .machines); right = right-table (a .machines) }; run = a .run; held = a .held }
+  sound-ready s e =
+      let a = sound-log s e in
+      record {
+        tables = record { left = left-table (a .machines); right = right-table (a .machines) };
+        run = a .run;
+        held = a .held;
+      }
 
   pub sound-halves : (a b : List ℕ) → checkHalves k l r a b ≡ Sound → SoundHalves k l r a b
   unfolding checkHalves firstOf halvesMatch
@@ -126,11 +145,19 @@ module _ (k : ℕ) (l r : List ℕ) where
       let (x, p) = both-sound (checkHalf l a) _ w in
       let (y, q) = both-sound (checkHalf r b) _ p in
       let (m, _) = both-sound (refusedIf (not (present (λ j. true) (joinOf k a b))) _) _ q in
-      let (j, f, _) = decides (decided-present (λ j. decided-true true) (joinOf k a b)) .0 (passed (present (λ j. true) (joinOf k a b)) _ m) in
-      record { machines = record { pairs = pairs; left = left; right = right }; left = half-passed l a x; right = half-passed r b y; run = j; joined = f }
+      let (j, f, _) = decides (decided-present (λ j. decided-true true) (joinOf k a b)) .0
+      (passed (present (λ j. true) (joinOf k a b)) _ m) in
+      record {
+        machines = record { pairs = pairs; left = left; right = right };
+        left = half-passed l a x;
+        right = half-passed r b y;
+        run = j;
+        joined = f;
+      }
 
 -- what joins as runs joins as bytes
-module _ {k : ℕ} {l r : List ℕ} (t : SoundMachines k l r) {x y : Run ℕ} {j : Run (ℕ × ℕ)} (join : JoinOf (pairs k) (tableOf l) (tableOf r) x y j) where
+module _ {k : ℕ} {l r : List ℕ} (t : SoundMachines k l r) {x y : Run ℕ} {j : Run (ℕ × ℕ)}
+    (join : JoinOf (pairs k) (tableOf l) (tableOf r) x y j) where
   pub runs-join : joinOf k (halfBytes x) (halfBytes y) ≡ some j
   unfolding joinOf
   runs-join = rw (left-read t (join .1), right-read t (join .2)) (join-found (pairs k) paired (join .0))
@@ -140,12 +167,14 @@ module _ {k : ℕ} {l r : List ℕ} (t : SoundMachines k l r) {x y : Run ℕ} {j
     pub runs-accepted : checkHalves k l r (halfBytes x) (halfBytes y) ≡ Sound
     runs-accepted =
         let (m, n) = join-steps (pairs k) paired (join .0) in
-        halves-pass t _ _ (half-passes k l (left-table t) x (join .1) left (omega (arith, m, few))) (half-passes k r (right-table t) y (join .2) right (omega (arith, n, few))) j runs-join
+        halves-pass t _ _ (half-passes k l (left-table t) x (join .1) left (omega (arith, m, few)))
+        (half-passes k r (right-table t) y (join .2) right (omega (arith, n, few))) j runs-join
 
     pub run-accepted : checkLog k l r (jointBytes j) ≡ Sound
     run-accepted =
         let e = join-first (pairs k) paired (join .0) in
-        log-passes t j (join-run (pairs k) (tableOf l) (tableOf r) (join .0) (join .1) (join .2)) (rw e left) (rw e right) few
+        log-passes t j (join-run (pairs k) (tableOf l) (tableOf r) (join .0) (join .1) (join .2)) (rw e left)
+        (rw e right) few
 
 -- halves that no check refuses, as runs
 module _ {k : ℕ} {l r a b : List ℕ} (h : SoundHalves k l r a b) where
@@ -159,7 +188,9 @@ module _ {k : ℕ} {l r a b : List ℕ} (h : SoundHalves k l r a b) where
 
   -- the log that they join to is read as that run
   pub joined-read : jointOf (joinBytes k a b) ≡ h .run
-  joined-read = let (m, x, y) = halves-join in ap jointOf bytes-joined ∙ run-read (h .machines) (join-run (pairs k) (tableOf l) (tableOf r) m x y)
+  joined-read =
+      let (m, x, y) = halves-join in
+      ap jointOf bytes-joined ∙ run-read (h .machines) (join-run (pairs k) (tableOf l) (tableOf r) m x y)
 
 -- the splittings of a log, as runs
 module _ (k : ℕ) (l r s : List ℕ) where
@@ -167,22 +198,31 @@ module _ (k : ℕ) (l r s : List ℕ) where
   nth n = getD (splittingsOf k l r s) n (start 0, start 0)
 
   -- each joins to the log's run
-  pub nth-joins : (n : ℕ) → n < length (splittingsOf k l r s) → JoinOf (pairs k) (tableOf l) (tableOf r) (nth n .0) (nth n .1) (jointOf s)
+  pub nth-joins : (n : ℕ) → n < length (splittingsOf k l r s)
+      → JoinOf (pairs k) (tableOf l) (tableOf r) (nth n .0) (nth n .1) (jointOf s)
   unfolding splittingsOf
-  nth-joins n h = splits-sound (pairs k) tested-ℕ tested-ℕ (tableOf l) (tableOf r) (jointOf s) (nth n) (element (start 0, start 0) (splittingsOf k l r s) n h)
+  nth-joins n h =
+      splits-sound (pairs k) tested-ℕ tested-ℕ (tableOf l) (tableOf r) (jointOf s) (nth n)
+      (element (start 0, start 0) (splittingsOf k l r s) n h)
 
   -- what joins to it is one of them
-  pub all-numbered : {x y : Run ℕ} → JoinOf (pairs k) (tableOf l) (tableOf r) x y (jointOf s) → (n : ℕ) × (n < length (splittingsOf k l r s)) × (nth n ≡ (x, y))
+  pub all-numbered : {x y : Run ℕ} → JoinOf (pairs k) (tableOf l) (tableOf r) x y (jointOf s)
+      → (n : ℕ) × (n < length (splittingsOf k l r s)) × (nth n ≡ (x, y))
   unfolding splittingsOf
-  all-numbered (m, x, y) = number-of (start 0, start 0) (splits-complete (pairs k) tested-ℕ tested-ℕ (tableOf l) (tableOf r) m x y)
+  all-numbered (m, x, y) =
+      number-of (start 0, start 0) (splits-complete (pairs k) tested-ℕ tested-ℕ (tableOf l) (tableOf r) m x y)
 
   -- none is listed twice
-  pub numbered-once : SoundMachines k l r → (m n : ℕ) → m < length (splittingsOf k l r s) → n < length (splittingsOf k l r s) → nth m ≡ nth n → m ≡ n
+  pub numbered-once : SoundMachines k l r → (m n : ℕ) → m < length (splittingsOf k l r s)
+      → n < length (splittingsOf k l r s) → nth m ≡ nth n → m ≡ n
   unfolding splittingsOf
   numbered-once t m n h i e = number-once (start 0, start 0)
-      (splits-distinct (pairs k) tested-ℕ tested-ℕ (tableOf l) (tableOf r) (moves-distinct (left-table t)) (moves-distinct (right-table t)) (jointOf s)) m n h i e
+      (splits-distinct (pairs k) tested-ℕ tested-ℕ (tableOf l) (tableOf r) (moves-distinct (left-table t))
+      (moves-distinct (right-table t)) (jointOf s)) m n h i e
 
   -- their halves have a state, and two bytes for each step of the log
-  pub nth-length : (n : ℕ) → n < length (splittingsOf k l r s) → (length (leftHalf k l r s n) ≡ halfLength s) × (length (rightHalf k l r s n) ≡ halfLength s)
+  pub nth-length : (n : ℕ) → n < length (splittingsOf k l r s)
+      → (length (leftHalf k l r s n) ≡ halfLength s) × (length (rightHalf k l r s n) ≡ halfLength s)
   unfolding leftHalf rightHalf halfLength
-  nth-length n h = let (u, v) = join-steps (pairs k) paired (nth-joins n h .0) in (rw (half-length, u), rw (half-length, v))
+  nth-length n h =
+      let (u, v) = join-steps (pairs k) paired (nth-joins n h .0) in (rw (half-length, u), rw (half-length, v))

@@ -16,7 +16,9 @@ use Rattle.labels.specs.declared.refusal.Check.{Check}
 use Rattle.labels.specs.declared.refusal.Check.the-variants.{Sound, Refused}
 use Rattle.labels.proofs.Refusals.{both-sound, unrefused}
 use Rattle.machines.specs.Joints.{checkTablesAndJoint}
-use Rattle.splitting.specs.Splittings.{splittingsOf, checkLog, splittingLimit, checkCount, checkNumber, checkSplit, leftHalf, rightHalf, halfLength, counted, countOf, splitOf, leftOutput, rightOutput}
+use Rattle.splitting.specs.Splittings.{splittingsOf, checkLog, splittingLimit, checkCount, checkNumber}
+use Rattle.splitting.specs.Splittings.{checkSplit, leftHalf, rightHalf, halfLength, counted, countOf, splitOf}
+use Rattle.splitting.specs.Splittings.{leftOutput, rightOutput}
 use Rattle.splitting.specs.Working.{Log}
 use Rattle.splitting.specs.declared.count.Counted.the-variants as count
 use Rattle.splitting.specs.declared.split.Splitting.the-variants as splitting
@@ -54,7 +56,8 @@ module _ (k : ℕ) (l r s : List ℕ) where
   count-checks Sound m x e = absurd (apart cc)
   count-checks (Refused y) m x e = let z : y ≡ x = cc in ap Refused z
 
-  pub count-told : (n : ℕ) → countOf k l r s ≡ count.Splittings n → (checkCount k l r s ≡ Sound) × (length (splittingsOf k l r s) ≡ n)
+  pub count-told : (n : ℕ) → countOf k l r s ≡ count.Splittings n
+      → (checkCount k l r s ≡ Sound) × (length (splittingsOf k l r s) ≡ n)
   unfolding countOf
   count-told n e = count-answered (checkCount k l r s) (length (splittingsOf k l r s)) n e
 
@@ -75,12 +78,14 @@ module _ (k : ℕ) (l r s : List ℕ) where
     module _ (n : ℕ) (e : countOf k l r s ≡ count.Splittings n) where
       pub number-refused : n ≤ i → Refused NoSuchSplitting ≡ checkSplit k l r s i a b
       unfolding checkSplit checkNumber firstOf
-      number-refused h = let (c, z) = count-told n e in rw (c, le-leb (length (splittingsOf k l r s)) i (omega (arith, z, h)))
+      number-refused h =
+          let (c, z) = count-told n e in rw (c, le-leb (length (splittingsOf k l r s)) i (omega (arith, z, h)))
 
       module _ (h : i < n) where
         number-sound : checkNumber k l r s i ≡ Sound
         unfolding checkNumber firstOf
-        number-sound = let (c, z) = count-told n e in rw (c, lt-leb (length (splittingsOf k l r s)) i (omega (arith, z, h)))
+        number-sound =
+            let (c, z) = count-told n e in rw (c, lt-leb (length (splittingsOf k l r s)) i (omega (arith, z, h)))
 
         size-told : halfLength s ≡ 2 * (length s / 3) + 1
         size-told = half-size (count-told n e .0)
@@ -92,11 +97,21 @@ module _ (k : ℕ) (l r s : List ℕ) where
         module _ (j : 2 * (length s / 3) + 1 ≤ a) where
           pub right-short : b < 2 * (length s / 3) + 1 → Refused OutputTooShort ≡ checkSplit k l r s i a b
           unfolding checkSplit firstOf
-          right-short m = rw (number-sound, le-ltb a (halfLength s) (omega (arith, size-told, j)), lt-ltb b (halfLength s) (omega (arith, size-told, m)))
+          right-short m =
+              rw (
+                number-sound,
+                le-ltb a (halfLength s) (omega (arith, size-told, j)),
+                lt-ltb b (halfLength s) (omega (arith, size-told, m)),
+              )
 
           pub split-sound : 2 * (length s / 3) + 1 ≤ b → Sound ≡ checkSplit k l r s i a b
           unfolding checkSplit firstOf
-          split-sound m = rw (number-sound, le-ltb a (halfLength s) (omega (arith, size-told, j)), le-ltb b (halfLength s) (omega (arith, size-told, m)))
+          split-sound m =
+              rw (
+                number-sound,
+                le-ltb a (halfLength s) (omega (arith, size-told, j)),
+                le-ltb b (halfLength s) (omega (arith, size-told, m)),
+              )
 
 -- what the checks of a split let through
 module _ (k : ℕ) (l r s : List ℕ) (i a b : ℕ) (e : checkSplit k l r s i a b ≡ Sound) where
@@ -121,11 +136,14 @@ module _ (k : ℕ) (l r s : List ℕ) (i a b : ℕ) (e : checkSplit k l r s i a 
 -- the answer and the outputs of a split
 module _ (k : ℕ) (l r s : List ℕ) (i : ℕ) (x y : List ℕ) where
   pub split-refused : (z : Refusal) → checkSplit k l r s i (length x) (length y) ≡ Refused z
-      → (splitting.Refused z ≡ splitOf k l r s i (length x) (length y)) × ((x ≡ leftOutput k l r s i x (length y)) × (y ≡ rightOutput k l r s i (length x) y))
+      → (splitting.Refused z ≡ splitOf k l r s i (length x) (length y))
+      × ((x ≡ leftOutput k l r s i x (length y)) × (y ≡ rightOutput k l r s i (length x) y))
   unfolding splitOf leftOutput rightOutput
   split-refused z e = (rw e, (rw e, rw e))
 
-  pub split-answered : checkSplit k l r s i (length x) (length y) ≡ Sound → (u v : List ℕ) → u ≡ inFront (leftHalf k l r s i) x → v ≡ inFront (rightHalf k l r s i) y
-      → (splitting.Halves (2 * (length s / 3) + 1) ≡ splitOf k l r s i (length x) (length y)) × ((u ≡ leftOutput k l r s i x (length y)) × (v ≡ rightOutput k l r s i (length x) y))
+  pub split-answered : checkSplit k l r s i (length x) (length y) ≡ Sound → (u v : List ℕ)
+      → u ≡ inFront (leftHalf k l r s i) x → v ≡ inFront (rightHalf k l r s i) y
+      → (splitting.Halves (2 * (length s / 3) + 1) ≡ splitOf k l r s i (length x) (length y))
+      × ((u ≡ leftOutput k l r s i x (length y)) × (v ≡ rightOutput k l r s i (length x) y))
   unfolding splitOf leftOutput rightOutput halfLength
   split-answered e u v p q = (rw (e, split-log k l r s i (length x) (length y) e .run .counted), (rw e p, rw e q))

@@ -11,7 +11,8 @@ use Rattle.labels.specs.declared.refusal.Check.{Check}
 use Rattle.labels.specs.declared.refusal.Check.the-variants.{Sound, Refused}
 use Rattle.labels.proofs.Refusals.{both-sound, unrefused}
 use Rattle.labels.proofs.Answers.{Within, none, next}
-use Rattle.splitting.specs.Splittings.{splittingsOf, splittingLimit, checkLog, checkCount, counted, countOf, countAnswer}
+use Rattle.splitting.specs.Splittings.{splittingsOf, splittingLimit, checkLog, checkCount, counted, countOf}
+use Rattle.splitting.specs.Splittings.{countAnswer}
 use Rattle.splitting.specs.Splittings.{halfLength, checkSplit, halved, splitOf, splitAnswer}
 use Rattle.splitting.proofs.LogRuns.{sound-log}
 use Rattle.splitting.proofs.Outcomes.{split-checked}

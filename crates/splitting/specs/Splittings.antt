@@ -1,6 +1,6 @@
 -- Splittings: document 01, "A splitting chooses one way for each step", and the numbers 13, 14 and 18.
--- Which splittings a joint run has, and in what order, is the theory's to say: `splits` in hml's Split lists them, "the first step varies
--- slowest, and ways go left alone, right alone, then handshakes by rising left label".
+-- Which splittings a joint run has, and in what order, is the theory's to say: `splits` in hml's Split lists them, "the
+-- first step varies slowest, and ways go left alone, right alone, then handshakes by rising left label".
 use Prim.Native.Nat.{ℕ, _+_, _*_}
 use mathlib.Core.Bool.{_||_}
 use mathlib.Core.List.{List, [], _∷_}
@@ -36,11 +36,13 @@ unfoldable pub splittingLimit : ℕ
 splittingLimit = 65535
 
 unfoldable pub checkCount : ℕ → List ℕ → List ℕ → List ℕ → Check
-checkCount k l r s = firstOf (checkLog k l r s ∷ refusedIf (ltb splittingLimit (length (splittingsOf k l r s))) TooManySplittings ∷ [])
+checkCount k l r s =
+    firstOf (checkLog k l r s ∷ refusedIf (ltb splittingLimit (length (splittingsOf k l r s))) TooManySplittings ∷ [])
 
 -- 14: "splitting number not below the count"
 unfoldable pub checkNumber : ℕ → List ℕ → List ℕ → List ℕ → ℕ → Check
-checkNumber k l r s n = firstOf (checkCount k l r s ∷ refusedIf (leb (length (splittingsOf k l r s)) n) NoSuchSplitting ∷ [])
+checkNumber k l r s n =
+    firstOf (checkCount k l r s ∷ refusedIf (leb (length (splittingsOf k l r s)) n) NoSuchSplitting ∷ [])
 
 -- the halves of the splitting of a number, from 0, as bytes
 unfoldable pub leftHalf : ℕ → List ℕ → List ℕ → List ℕ → ℕ → List ℕ
@@ -55,7 +57,8 @@ halfLength s = 2 * steps (jointOf s) + 1
 
 -- 18: "lent output shorter than the answer", with so many bytes lent for the left half and so many for the right
 unfoldable pub checkSplit : ℕ → List ℕ → List ℕ → List ℕ → ℕ → ℕ → ℕ → Check
-checkSplit k l r s n a b = firstOf (checkNumber k l r s n ∷ refusedIf (ltb a (halfLength s) || ltb b (halfLength s)) OutputTooShort ∷ [])
+checkSplit k l r s n a b =
+    firstOf (checkNumber k l r s n ∷ refusedIf (ltb a (halfLength s) || ltb b (halfLength s)) OutputTooShort ∷ [])
 
 -- the answer of a count
 abbrev pub counted : Check → ℕ → Counted

@@ -39,7 +39,8 @@ use Rattle.formulas.specs.Working.{sizesOver, treeOf}
 use Rattle.formulas.proofs.Checking.{judged-formula, legal-tree}
 use Rattle.formulas.proofs.TreeSizes.{length-over}
 use Rattle.formulas.proofs.Operands.{legal-part, legal-nesting, legal-labels}
-use Rattle.verdict.specs.Verdicts.{jointHolds, halfHolds, checkJointCall, checkHalfCall, verdictOf, answered, jointVerdict, halfVerdict}
+use Rattle.verdict.specs.Verdicts.{jointHolds, halfHolds, checkJointCall, checkHalfCall, verdictOf, answered}
+use Rattle.verdict.specs.Verdicts.{jointVerdict, halfVerdict}
 use Rattle.verdict.specs.Working.{Ready, gridOf, judged, tablesHold, besideStill}
 use Rattle.verdict.specs.declared.answer.Verdict.{Verdict}
 use Rattle.verdict.specs.declared.answer.Verdict.the-variants as verdict
@@ -47,7 +48,8 @@ use Rattle.verdict.proofs.Still.{still-read, still-length, still-take, 
 
 -- a legal formula is ready for its verdict, with the sizes of its trees
 module _ (k : ℕ) (f : List ℕ) (legal : Legal k quotientLimit f) where
-  pub legal-ready : (sizes xs : List ℕ) (n : ℕ) → length sizes ≡ 4096 → length xs ≡ 614 → Held xs n → n ≤ 602 → Ready k (sizesOver f sizes) xs n 0 f
+  pub legal-ready : (sizes xs : List ℕ) (n : ℕ) → length sizes ≡ 4096 → length xs ≡ 614 → Held xs n → n ≤ 602
+      → Ready k (sizesOver f sizes) xs n 0 f
   legal-ready sizes xs n z w h i =
       let p = legal-part k quotientLimit f legal sizes (omega (arith, z)) in
       record {
@@ -61,11 +63,14 @@ module _ (k : ℕ) (f : List ℕ) (legal : Legal k quotientLimit f) where
       }
 
   -- the verdict on grids that have the tables' rows is the tables' verdict
-  module _ (labels : Labels) (l r gl gr : List ℕ) (el : (p : ℕ) → gridOf gl p ≡ tableOf l p) (er : (p : ℕ) → gridOf gr p ≡ tableOf r p) (j : Run (ℕ × ℕ)) (b : Bool)
+  module _ (labels : Labels) (l r gl gr : List ℕ) (el : (p : ℕ) → gridOf gl p ≡ tableOf l p)
+      (er : (p : ℕ) → gridOf gr p ≡ tableOf r p) (j : Run (ℕ × ℕ)) (b : Bool)
       (p : b ≡ judged labels gl gr (treeOf f) j) where
     tables-judged : b ≡ present (λ φ. tablesHold labels l r φ j) (formulaOf f)
     unfolding judged tablesHold
-    tables-judged = rw (legal-tree k quotientLimit f legal) (p ∙ ap₂ (λ L R. holds (beside (pairing labels) L R) (treeOf f) j) (fun-ext el) (fun-ext er))
+    tables-judged =
+        rw (legal-tree k quotientLimit f legal)
+        (p ∙ ap₂ (λ L R. holds (beside (pairing labels) L R) (treeOf f) j) (fun-ext el) (fun-ext er))
 
     pub legal-holds : b ≡ true → verdict.Holds ≡ verdictOf (present (λ φ. tablesHold labels l r φ j) (formulaOf f))
     unfolding verdictOf
@@ -81,11 +86,16 @@ module _ (k : ℕ) (l r s f : List ℕ) where
   abbrev pub jointParts : Check
   jointParts = thenOf (checkPairs k) (thenOf (checkTablesAndJoint k l r s) (checkFormula k quotientLimit f))
 
-  joint-regroup : (p : ℕ) → checkJointCall k l r s f p ≡ thenOf jointParts (refusedIf (ltb (steps (jointOf s)) p) PointBeyond)
+  joint-regroup : (p : ℕ)
+      → checkJointCall k l r s f p ≡ thenOf jointParts (refusedIf (ltb (steps (jointOf s)) p) PointBeyond)
   unfolding checkJointCall checkTablesAndJoint firstOf
-  joint-regroup p = go (checkPairs k) (checkTable k l) (checkTable k r) (checkJoint k l r s) (checkFormula k quotientLimit f) (refusedIf (ltb (steps (jointOf s)) p) PointBeyond)
+  joint-regroup p =
+      go (checkPairs k) (checkTable k l) (checkTable k r) (checkJoint k l r s) (checkFormula k quotientLimit f)
+      (refusedIf (ltb (steps (jointOf s)) p) PointBeyond)
     where
-      go : (c l r j f b : Check) → thenOf c (thenOf l (thenOf r (thenOf j (thenOf f (thenOf b Sound))))) ≡ thenOf (thenOf c (thenOf (thenOf l (thenOf r (thenOf j Sound))) f)) b
+      go : (c l r j f b : Check)
+          → thenOf c (thenOf l (thenOf r (thenOf j (thenOf f (thenOf b Sound)))))
+          ≡ thenOf (thenOf c (thenOf (thenOf l (thenOf r (thenOf j Sound))) f)) b
       go (Refused x) l r j f b = refl
       go Sound (Refused x) r j f b = refl
       go Sound Sound (Refused x) j f b = refl
@@ -103,7 +113,8 @@ module _ (k : ℕ) (l r s f : List ℕ) where
   pub joint-parts : jointParts ≡ Sound → JointCall
   unfolding checkTablesAndJoint checkJoint firstOf
   joint-parts e =
-      let (pairs, a) = both-sound (checkPairs k) (thenOf (checkTablesAndJoint k l r s) (checkFormula k quotientLimit f)) e in
+      let (pairs, a) = both-sound (checkPairs k) (thenOf (checkTablesAndJoint k l r s) (checkFormula k quotientLimit f))
+      e in
       let (b, formula) = both-sound (checkTablesAndJoint k l r s) (checkFormula k quotientLimit f) a in
       let (left, c) = both-sound (checkTable k l) _ b in
       let (right, d) = both-sound (checkTable k r) _ c in
@@ -119,7 +130,9 @@ module _ (k : ℕ) (l r s f : List ℕ) where
 
   module _ (call : JointCall) where
     joint-accepted : AcceptedJoint k l r s
-    joint-accepted = accepted-joint k l r (no-idle-label (call .tables .left)) (no-idle-label (call .tables .right)) s (call .fit) (call .real)
+    joint-accepted =
+        accepted-joint k l r (no-idle-label (call .tables .left)) (no-idle-label (call .tables .right)) s (call .fit)
+        (call .real)
 
     joint-steps : steps (jointOf s) ≡ length s / 3
     joint-steps = joint-accepted .counted
@@ -140,12 +153,18 @@ module _ (k : ℕ) (l r s f : List ℕ) where
         pub joint-held : 3 * p + 2 ≤ length xs → Held xs (3 * p + 2)
         joint-held h = record { whole = omega arith; within = h; kept = kept }
           where
-            kept : (m : ℕ) → 3 * m + 2 ≤ 3 * p + 2 → last (jointOf (take (3 * m + 2) xs)) ≡ (getD xs (3 * m) 0, getD xs (3 * m + 1) 0)
+            kept : (m : ℕ) → 3 * m + 2 ≤ 3 * p + 2
+                → last (jointOf (take (3 * m + 2) xs)) ≡ (getD xs (3 * m) 0, getD xs (3 * m + 1) 0)
             kept m i =
-                let held = accepted-held k l r (no-idle-label (call .tables .left)) (no-idle-label (call .tables .right)) s (call .fit) (call .real) in
-                rw (front (3 * m + 2) i, front-at (3 * m) (omega arith), front-at (3 * m + 1) (omega arith)) (held .kept m (omega (arith, i, joint-room)))
+                let held = accepted-held k l r (no-idle-label (call .tables .left))
+                (no-idle-label (call .tables .right)) s (call .fit) (call .real) in
+                rw (front (3 * m + 2) i, front-at (3 * m) (omega arith), front-at (3 * m + 1) (omega arith))
+                (held .kept m (omega (arith, i, joint-room)))
 
-        pub joint-answer : checkJointCall k l r s f p ≡ Sound → (v : Verdict) → v ≡ verdictOf (present (λ φ. tablesHold (record { pairs = k }) l r φ (jointOf (take (3 * p + 2) xs))) (formulaOf f)) → v ≡ jointVerdict k l r s f p
+        pub joint-answer : checkJointCall k l r s f p ≡ Sound → (v : Verdict)
+            → v ≡ verdictOf (present (λ φ. tablesHold (record { pairs = k }) l r φ (jointOf (take (3 * p + 2) xs)))
+            (formulaOf f))
+            → v ≡ jointVerdict k l r s f p
         unfolding jointVerdict jointHolds answered tablesHold pairing
         joint-answer c v w = rw (c, ← joint-stop s p, ← e) w
 
@@ -161,12 +180,14 @@ module _ (k : ℕ) (l r s f : List ℕ) where
 
   pub joint-call : (p : ℕ) → checkJointCall k l r s f p ≡ Sound → JointCall × (p ≤ length s / 3)
   joint-call p e =
-      let (a, b) = both-sound jointParts (refusedIf (ltb (steps (jointOf s)) p) PointBeyond) (sym (joint-regroup p) ∙ e) in
+      let (a, b) = both-sound jointParts (refusedIf (ltb (steps (jointOf s)) p) PointBeyond)
+      (sym (joint-regroup p) ∙ e) in
       let c = joint-parts a in
       (c, omega (arith, joint-steps c, ltb-false (steps (jointOf s)) p (unrefused _ _ b)))
 
 -- the copy of the first n bytes
-pub front-copied : (s xs ys : List ℕ) (n : ℕ) → n ≤ length s → xs ≡ take (length (take n s)) (take n s) ++ ys → take n xs ≡ take n s
+pub front-copied : (s xs ys : List ℕ) (n : ℕ) → n ≤ length s → xs ≡ take (length (take n s)) (take n s) ++ ys
+    → take n xs ≡ take n s
 front-copied s xs ys n h e = let c = copied (take n s) xs ys e in rw (length-take-le n s h) at c
 
 -- the pairs judged first, then the other parts
@@ -198,11 +219,15 @@ module _ (k : ℕ) (t s f : List ℕ) where
   abbrev pub halfParts : Check
   halfParts = thenOf (checkPairs k) (thenOf (checkTable k t) (checkFormula k quotientLimit f))
 
-  half-regroup : (p : ℕ) → checkHalfCall k t s f p ≡ thenOf halfParts (thenOf (refusedIf (beyond s p) PointBeyond) (checkHalf t s))
+  half-regroup : (p : ℕ)
+      → checkHalfCall k t s f p ≡ thenOf halfParts (thenOf (refusedIf (beyond s p) PointBeyond) (checkHalf t s))
   unfolding checkHalfCall firstOf
-  half-regroup p = go (checkPairs k) (checkTable k t) (checkFormula k quotientLimit f) (refusedIf (beyond s p) PointBeyond) (checkHalf t s)
+  half-regroup p =
+      go (checkPairs k) (checkTable k t) (checkFormula k quotientLimit f) (refusedIf (beyond s p) PointBeyond)
+      (checkHalf t s)
     where
-      go : (c t f b h : Check) → thenOf c (thenOf t (thenOf f (thenOf b (thenOf h Sound)))) ≡ thenOf (thenOf c (thenOf t f)) (thenOf b h)
+      go : (c t f b h : Check)
+          → thenOf c (thenOf t (thenOf f (thenOf b (thenOf h Sound)))) ≡ thenOf (thenOf c (thenOf t f)) (thenOf b h)
       go (Refused x) t f b h = refl
       go Sound (Refused x) f b h = refl
       go Sound Sound (Refused x) b h = refl
@@ -242,23 +267,38 @@ module _ (k : ℕ) (t s f : List ℕ) where
       half-front : take (3 * p + 2) xs ≡ besideStill (take (2 * p + 1) s)
       half-front =
           let z = length-take-le (2 * p + 1) s (half-room .0) in
-          rw e (take-at (besideStill (take (2 * p + 1) s)) ys (3 * p + 2) (still-length (take (2 * p + 1) s) half-odd ∙ omega (arith, z)))
+          rw e (take-at (besideStill (take (2 * p + 1) s)) ys (3 * p + 2)
+          (still-length (take (2 * p + 1) s) half-odd ∙ omega (arith, z)))
 
       pub half-held : 3 * p + 2 ≤ length xs → Held xs (3 * p + 2)
       half-held h = record { whole = omega arith; within = h; kept = kept }
         where
-          kept : (m : ℕ) → 3 * m + 2 ≤ 3 * p + 2 → last (jointOf (take (3 * m + 2) xs)) ≡ (getD xs (3 * m) 0, getD xs (3 * m + 1) 0)
+          kept : (m : ℕ) → 3 * m + 2 ≤ 3 * p + 2
+              → last (jointOf (take (3 * m + 2) xs)) ≡ (getD xs (3 * m) 0, getD xs (3 * m + 1) 0)
           kept m i =
-              let g : take (3 * p + 2) xs ≡ take (3 * p + 2) (besideStill s) = half-front ∙ sym (still-take s p (half-room .0)) in
-              let n : (j : ℕ) → j < 3 * p + 2 → getD xs j 0 ≡ getD (besideStill s) j 0 = λ j h. sym (getD-take (3 * p + 2) xs j 0 h) ∙ ap (λ zs. getD zs j 0) g ∙ getD-take (3 * p + 2) (besideStill s) j 0 h in
-              let w : take (3 * m + 2) xs ≡ take (3 * m + 2) (besideStill s) = sym (take-take (3 * m + 2) (3 * p + 2) xs i) ∙ ap (take (3 * m + 2)) g ∙ take-take (3 * m + 2) (3 * p + 2) (besideStill s) i in
-              rw (w, n (3 * m) (omega arith), n (3 * m + 1) (omega arith)) (still-ends t s (call .run) m (omega (arith, half-room)))
+              let g : take (3 * p + 2) xs ≡ take (3 * p + 2) (besideStill s) = half-front
+              ∙ sym (still-take s p (half-room .0)) in
+              let n : (j : ℕ) → j < 3 * p + 2
+              → getD xs j 0 ≡ getD (besideStill s) j 0 =
+              λ j h. sym (getD-take (3 * p + 2) xs j 0 h) ∙ ap (λ zs. getD zs j 0) g
+              ∙ getD-take (3 * p + 2) (besideStill s) j 0 h in
+              let w : take (3 * m + 2) xs ≡ take (3 * m + 2) (besideStill s) = sym
+              (take-take (3 * m + 2) (3 * p + 2) xs i)
+              ∙ ap (take (3 * m + 2)) g ∙ take-take (3 * m + 2) (3 * p + 2) (besideStill s) i in
+              rw (w, n (3 * m) (omega arith), n (3 * m + 1) (omega arith))
+              (still-ends t s (call .run) m (omega (arith, half-room)))
 
-      pub half-answer : checkHalfCall k t s f p ≡ Sound → (v : Verdict) → v ≡ verdictOf (present (λ φ. tablesHold (record { pairs = k }) t still φ (jointOf (take (3 * p + 2) xs))) (formulaOf f)) → v ≡ halfVerdict k t s f p
+      pub half-answer : checkHalfCall k t s f p ≡ Sound → (v : Verdict)
+          → v ≡ verdictOf (present (λ φ. tablesHold (record { pairs = k }) t still φ (jointOf (take (3 * p + 2) xs)))
+          (formulaOf f))
+          → v ≡ halfVerdict k t s f p
       unfolding halfVerdict halfHolds answered tablesHold pairing
       half-answer c v w =
-          let same : (φ : Formula) → tablesHold (record { pairs = k }) t still φ (jointOf (take (3 * p + 2) xs)) ≡ holds (tableOf t) φ (stop p (halfOf s)) = λ φ.
-          rw (half-front, still-read (take (2 * p + 1) s) half-odd, ← half-stop s p) (holds-alone (pairs k) (tableOf t) (tableOf still) 0 nothing-leaves φ (halfOf (take (2 * p + 1) s))) in
+          let same : (φ : Formula)
+          → tablesHold (record { pairs = k }) t still φ (jointOf (take (3 * p + 2) xs))
+          ≡ holds (tableOf t) φ (stop p (halfOf s)) = λ φ.
+          rw (half-front, still-read (take (2 * p + 1) s) half-odd, ← half-stop s p)
+          (holds-alone (pairs k) (tableOf t) (tableOf still) 0 nothing-leaves φ (halfOf (take (2 * p + 1) s))) in
           w ∙ ap verdictOf (ap (λ F. present F (formulaOf f)) (fun-ext same)) ∙ rw c
 
   -- the cases of the check
@@ -268,14 +308,22 @@ module _ (k : ℕ) (t s f : List ℕ) where
   pub half-beyond : (p : ℕ) → halfParts ≡ Sound → beyond s p ≡ true → Refused PointBeyond ≡ checkHalfCall k t s f p
   half-beyond p e b = rw (half-regroup p, e, b)
 
-  pub half-judged : (p : ℕ) → halfParts ≡ Sound → beyond s p ≡ false → (c : Check) → c ≡ checkTableAndHalf k t s → c ≡ checkHalfCall k t s f p
+  pub half-judged : (p : ℕ) → halfParts ≡ Sound → beyond s p ≡ false → (c : Check) → c ≡ checkTableAndHalf k t s
+      → c ≡ checkHalfCall k t s f p
   unfolding checkTableAndHalf firstOf
   half-judged p e b c h = rw (half-regroup p, e, b) (h ∙ rw (half-parts e .0) (then-sound (checkHalf t s)))
 
   pub half-call : (p : ℕ) → checkHalfCall k t s f p ≡ Sound → HalfCall × (beyond s p ≡ false)
   unfolding checkHalf
   half-call p e =
-      let (a, b) = both-sound halfParts (thenOf (refusedIf (beyond s p) PointBeyond) (checkHalf t s)) (sym (half-regroup p) ∙ e) in
+      let (a, b) = both-sound halfParts (thenOf (refusedIf (beyond s p) PointBeyond) (checkHalf t s))
+      (sym (half-regroup p) ∙ e) in
       let (x, y) = both-sound (refusedIf (beyond s p) PointBeyond) (checkHalf t s) b in
-      let (table, formula) = half-parts a in
-      (record { table = sound-table k t table; run = passed (isHalfRun t s) _ y; legal = judges (judged-formula k quotientLimit f) .0 formula }, unrefused _ _ x)
+      let (table, formula) = half-parts a in (
+        record {
+          table = sound-table k t table;
+          run = passed (isHalfRun t s) _ y;
+          legal = judges (judged-formula k quotientLimit f) .0 formula;
+        },
+        unrefused _ _ x,
+      )

@@ -15,7 +15,8 @@ unfolding gridOf pairsIn
 grid-beyond g y p h = rw (List·getD-eq-default g 0 {n = 17 * p} (omega (arith, y .whole)))
 
 -- the rows of any other lie within it
-pub grid-within : (g : List ℕ) → Grid g → (p : ℕ) → p < 64 → Within (17 * p + 1) (getD g (17 * p) 0) × (getD g (17 * p) 0 ≤ 8)
+pub grid-within : (g : List ℕ) → Grid g → (p : ℕ) → p < 64
+    → Within (17 * p + 1) (getD g (17 * p) 0) × (getD g (17 * p) 0 ≤ 8)
 grid-within g y p h = let f = y .few p h in omega arith
 
 -- the first i rows from `at` on have another label
@@ -33,10 +34,15 @@ module _ (b : ℕ) (g : List ℕ) (at rows : ℕ) where
   module _ (i : ℕ) (s : Seeking b g at rows i) where
     pub seek-end : rows ≤ i → rows ≡ skippedIn b (pairsIn rows (drop at g))
     unfolding pairsIn skippedIn
-    seek-end h = let z : rows - i ≡ 0 = omega arith in let e = s .same in let w : skippedIn b (pairsIn rows (drop at g)) ≡ i + 0 = rw z at e in omega (arith, w, s .within)
+    seek-end h =
+        let z : rows - i ≡ 0 = omega arith in
+        let e = s .same in
+        let w : skippedIn b (pairsIn rows (drop at g)) ≡ i + 0 = rw z at e in omega (arith, w, s .within)
 
     module _ (h : i < rows) where
-      first-pair : pairsIn (rows - i) (drop (at + 2 * i) g) ≡ (getD g (at + 2 * i) 0, getD (drop (at + 2 * i) g) 1 0) ∷ pairsIn (rows - (i + 1)) (drop (at + 2 * (i + 1)) g)
+      first-pair : pairsIn (rows - i) (drop (at + 2 * i) g)
+          ≡ (getD g (at + 2 * i) 0, getD (drop (at + 2 * i) g) 1 0) ∷ pairsIn (rows - (i + 1))
+          (drop (at + 2 * (i + 1)) g)
       unfolding pairsIn
       first-pair =
           let z : rows - i ≡ suc (rows - (i + 1)) = omega arith in
@@ -45,11 +51,16 @@ module _ (b : ℕ) (g : List ℕ) (at rows : ℕ) where
 
       pub seek-hit : getD g (at + 2 * i) 0 ≡ b → i ≡ skippedIn b (pairsIn rows (drop at g))
       unfolding skippedIn
-      seek-hit e = let q = s .same in let w : skippedIn b (pairsIn rows (drop at g)) ≡ i + 0 = rw (first-pair, eq-eqb _ _ e) at q in omega (arith, w)
+      seek-hit e =
+          let q = s .same in
+          let w : skippedIn b (pairsIn rows (drop at g)) ≡ i + 0 = rw (first-pair, eq-eqb _ _ e) at q in
+          omega (arith, w)
 
       pub seek-on : (getD g (at + 2 * i) 0 ≡ b → ⊥) → Seeking b g at rows (i + 1)
       unfolding skippedIn
       seek-on n =
           let q = s .same in
-          let w : skippedIn b (pairsIn rows (drop at g)) ≡ i + suc (skippedIn b (pairsIn (rows - (i + 1)) (drop (at + 2 * (i + 1)) g))) = rw (first-pair, ne-eqb _ _ n) at q in
+          let w : skippedIn b (pairsIn rows (drop at g))
+          ≡ i + suc (skippedIn b (pairsIn (rows - (i + 1)) (drop (at + 2 * (i + 1)) g))) =
+          rw (first-pair, ne-eqb _ _ n) at q in
           record { within = omega arith; same = omega (arith, w) }

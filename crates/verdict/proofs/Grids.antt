@@ -1,4 +1,5 @@
--- The rows of a table written into a grid, by the state that they leave: after i turns the grid reads as the first i rows.
+-- The rows of a table written into a grid, by the state that they leave: after i turns the grid reads as the first i
+-- rows.
 use Prim.Native.Nat.{ℕ, zero, suc, _+_, _*_, _/_, _≤_, _<_}
 use mathlib.Core.Path.{_≡_, refl, sym, _∙_, ap}
 use mathlib.Core.Bool.{Bool, true, false}
@@ -30,17 +31,22 @@ pairs-same : (n : ℕ) (bs cs : List ℕ) → ((j : ℕ) → j < 2 * n → getD 
 unfolding pairsIn
 pairs-same zero bs cs h = refl
 pairs-same (suc n) bs cs h =
-    let later : pairsIn n (drop 2 bs) ≡ pairsIn n (drop 2 cs) = pairs-same n (drop 2 bs) (drop 2 cs) (λ j k. getD-drop 2 bs j 0 ∙ h (2 + j) (omega arith) ∙ sym (getD-drop 2 cs j 0)) in
+    let later : pairsIn n (drop 2 bs)
+    ≡ pairsIn n (drop 2 cs) =
+    pairs-same n (drop 2 bs) (drop 2 cs)
+    (λ j k. getD-drop 2 bs j 0 ∙ h (2 + j) (omega arith) ∙ sym (getD-drop 2 cs j 0)) in
     rw (h 0 (omega arith), h 1 (omega arith), later)
 
 -- one pair more stands behind the others
-pairs-more : (n : ℕ) (bs : List ℕ) → pairsIn (suc n) bs ≡ pairsIn n bs ++ (getD bs (2 * n) 0, getD bs (2 * n + 1) 0) ∷ []
+pairs-more : (n : ℕ) (bs : List ℕ)
+    → pairsIn (suc n) bs ≡ pairsIn n bs ++ (getD bs (2 * n) 0, getD bs (2 * n + 1) 0) ∷ []
 unfolding pairsIn
 pairs-more zero bs = refl
 pairs-more (suc n) bs =
     let x : 2 * suc n ≡ 2 + 2 * n = omega arith in
     let y : 2 * suc n + 1 ≡ 2 + (2 * n + 1) = omega arith in
-    rw (y, x, ← getD-drop 2 bs (2 * n) 0, ← getD-drop 2 bs (2 * n + 1) 0) (ap ((getD bs 0 0, getD bs 1 0) ∷_) (pairs-more n (drop 2 bs)))
+    rw (y, x, ← getD-drop 2 bs (2 * n) 0, ← getD-drop 2 bs (2 * n + 1) 0)
+    (ap ((getD bs 0 0, getD bs 1 0) ∷_) (pairs-more n (drop 2 bs)))
 
 -- the count that stands in a grid is how many moves are read
 pub grid-count : (g : List ℕ) (p : ℕ) → length (gridOf g p) ≡ getD g (17 * p) 0
@@ -53,7 +59,8 @@ listed g p = getD g (17 * p) 0
 
 -- the grid with a row more: (p, a, q) behind those that leave p
 abbrev pub put : List ℕ → Row → List ℕ
-put g (p, a, q) = set (set (set g (17 * p + 2 * listed g p + 1) a) (17 * p + 2 * listed g p + 2) q) (17 * p) (listed g p + 1)
+put g (p, a, q) =
+    set (set (set g (17 * p + 2 * listed g p + 1) a) (17 * p + 2 * listed g p + 2) q) (17 * p) (listed g p + 1)
 
 -- what a row more changes, where there is room for it
 module _ (g : List ℕ) (p a q : ℕ) (whole : length g ≡ 1088) (low : p < 64) (room : listed g p < 8) where
@@ -65,7 +72,8 @@ module _ (g : List ℕ) (p a q : ℕ) (whole : length g ≡ 1088) (low : p < 64)
   new = put g (p, a, q)
 
   -- the other bytes are kept
-  put-other : (j : ℕ) → (j ≡ 17 * p + 2 * n + 1 → ⊥) → (j ≡ 17 * p + 2 * n + 2 → ⊥) → (j ≡ 17 * p → ⊥) → getD new j 0 ≡ getD g j 0
+  put-other : (j : ℕ) → (j ≡ 17 * p + 2 * n + 1 → ⊥) → (j ≡ 17 * p + 2 * n + 2 → ⊥) → (j ≡ 17 * p → ⊥)
+      → getD new j 0 ≡ getD g j 0
   put-other j x y z =
       getD-set-other (set (set g (17 * p + 2 * n + 1) a) (17 * p + 2 * n + 2) q) (17 * p) j (n + 1) 0 z
       ∙ getD-set-other (set g (17 * p + 2 * n + 1) a) (17 * p + 2 * n + 2) j q 0 y
@@ -73,17 +81,22 @@ module _ (g : List ℕ) (p a q : ℕ) (whole : length g ≡ 1088) (low : p < 64)
 
   -- the three bytes that are written: count, label and target
   put-count : getD new (17 * p) 0 ≡ suc n
-  put-count = getD-set-same (set (set g (17 * p + 2 * n + 1) a) (17 * p + 2 * n + 2) q) (17 * p) (n + 1) 0 (simp length-set (omega arith)) ∙ add-one n
+  put-count =
+      getD-set-same (set (set g (17 * p + 2 * n + 1) a) (17 * p + 2 * n + 2) q) (17 * p) (n + 1) 0
+      (simp length-set (omega arith)) ∙ add-one n
 
   put-label : getD new (17 * p + 2 * n + 1) 0 ≡ a
   put-label =
-      getD-set-other (set (set g (17 * p + 2 * n + 1) a) (17 * p + 2 * n + 2) q) (17 * p) (17 * p + 2 * n + 1) (n + 1) 0 (λ e. omega (arith, e))
-      ∙ getD-set-other (set g (17 * p + 2 * n + 1) a) (17 * p + 2 * n + 2) (17 * p + 2 * n + 1) q 0 (λ e. omega (arith, e))
+      getD-set-other (set (set g (17 * p + 2 * n + 1) a) (17 * p + 2 * n + 2) q) (17 * p) (17 * p + 2 * n + 1) (n + 1) 0
+      (λ e. omega (arith, e))
+      ∙ getD-set-other (set g (17 * p + 2 * n + 1) a) (17 * p + 2 * n + 2) (17 * p + 2 * n + 1) q 0
+      (λ e. omega (arith, e))
       ∙ getD-set-same g (17 * p + 2 * n + 1) a 0 (omega arith)
 
   put-target : getD new (17 * p + 2 * n + 2) 0 ≡ q
   put-target =
-      getD-set-other (set (set g (17 * p + 2 * n + 1) a) (17 * p + 2 * n + 2) q) (17 * p) (17 * p + 2 * n + 2) (n + 1) 0 (λ e. omega (arith, e))
+      getD-set-other (set (set g (17 * p + 2 * n + 1) a) (17 * p + 2 * n + 2) q) (17 * p) (17 * p + 2 * n + 2) (n + 1) 0
+      (λ e. omega (arith, e))
       ∙ getD-set-same (set g (17 * p + 2 * n + 1) a) (17 * p + 2 * n + 2) q 0 (simp length-set (omega arith))
 
   -- its state has it as the last move
@@ -93,36 +106,52 @@ module _ (g : List ℕ) (p a q : ℕ) (whole : length g ≡ 1088) (low : p < 64)
       let x : 17 * p + 1 + 2 * n ≡ 17 * p + 2 * n + 1 = omega arith in
       let y : 17 * p + 1 + (2 * n + 1) ≡ 17 * p + 2 * n + 2 = omega arith in
       let label : getD (drop (17 * p + 1) new) (2 * n) 0 ≡ a = getD-drop (17 * p + 1) new (2 * n) 0 ∙ rw x put-label in
-      let target : getD (drop (17 * p + 1) new) (2 * n + 1) 0 ≡ q = getD-drop (17 * p + 1) new (2 * n + 1) 0 ∙ rw y put-target in
+      let target : getD (drop (17 * p + 1) new) (2 * n + 1) 0 ≡ q = getD-drop (17 * p + 1) new (2 * n + 1) 0
+      ∙ rw y put-target in
       let kept : pairsIn n (drop (17 * p + 1) new) ≡ pairsIn n (drop (17 * p + 1) g)
       = pairs-same n (drop (17 * p + 1) new) (drop (17 * p + 1) g) (λ j h. getD-drop (17 * p + 1) new j 0
-      ∙ put-other (17 * p + 1 + j) (λ e. omega (arith, e)) (λ e. omega (arith, e)) (λ e. omega (arith, e)) ∙ sym (getD-drop (17 * p + 1) g j 0)) in
-      ap (λ m. pairsIn m (drop (17 * p + 1) new)) put-count ∙ pairs-more n (drop (17 * p + 1) new) ∙ rw (label, target, kept)
+      ∙ put-other (17 * p + 1 + j) (λ e. omega (arith, e)) (λ e. omega (arith, e)) (λ e. omega (arith, e))
+      ∙ sym (getD-drop (17 * p + 1) g j 0)) in
+      ap (λ m. pairsIn m (drop (17 * p + 1) new)) put-count ∙ pairs-more n (drop (17 * p + 1) new)
+      ∙ rw (label, target, kept)
 
   -- every other state has the moves that it had
   put-elsewhere : (o : ℕ) → (p ≡ o → ⊥) → getD g (17 * o) 0 ≤ 8 → gridOf new o ≡ gridOf g o
   unfolding gridOf
   put-elsewhere o d h =
-      ap (λ m. pairsIn m (drop (17 * o + 1) new)) (put-other (17 * o) (λ e. d (omega (arith, e))) (λ e. d (omega (arith, e))) (λ e. d (omega (arith, e))))
-      ∙ pairs-same (getD g (17 * o) 0) (drop (17 * o + 1) new) (drop (17 * o + 1) g) (λ j k. getD-drop (17 * o + 1) new j 0
-      ∙ put-other (17 * o + 1 + j) (λ e. d (omega (arith, e))) (λ e. d (omega (arith, e))) (λ e. d (omega (arith, e))) ∙ sym (getD-drop (17 * o + 1) g j 0))
+      ap (λ m. pairsIn m (drop (17 * o + 1) new))
+      (put-other (17 * o) (λ e. d (omega (arith, e))) (λ e. d (omega (arith, e))) (λ e. d (omega (arith, e))))
+      ∙ pairs-same (getD g (17 * o) 0) (drop (17 * o + 1) new) (drop (17 * o + 1) g)
+      (λ j k. getD-drop (17 * o + 1) new j 0
+      ∙ put-other (17 * o + 1 + j) (λ e. d (omega (arith, e))) (λ e. d (omega (arith, e))) (λ e. d (omega (arith, e)))
+      ∙ sym (getD-drop (17 * o + 1) g j 0))
 
 -- moves of rows behind others
 machine-append : (xs ys : List Row) (p : ℕ) → machine (xs ++ ys) p ≡ machine xs p ++ machine ys p
 unfolding machine
 machine-append [] ys p = refl
-machine-append (x ∷ xs) ys p = rw (machine-append xs ys p) (sym (append-assoc (only (eqb (x .0) p) (x .1, x .2)) (machine xs p) (machine ys p)))
+machine-append (x ∷ xs) ys p =
+    rw (machine-append xs ys p) (sym (append-assoc (only (eqb (x .0) p) (x .1, x .2)) (machine xs p) (machine ys p)))
 
 -- one row more
 machine-more : (rows : List Row) (i p : ℕ) → i < length rows
-    → machine (take (suc i) rows) p ≡ machine (take i rows) p ++ only (eqb (getD rows i (0, 0, 0) .0) p) (getD rows i (0, 0, 0) .1, getD rows i (0, 0, 0) .2)
+    → machine (take (suc i) rows) p
+    ≡ machine (take i rows) p ++ only (eqb (getD rows i (0, 0, 0) .0) p)
+    (getD rows i (0, 0, 0) .1, getD rows i (0, 0, 0) .2)
 unfolding machine
-machine-more rows i p h = ap (λ l. machine l p) (take-suc rows i (0, 0, 0) h) ∙ machine-append (take i rows) (getD rows i (0, 0, 0) ∷ []) p
+machine-more rows i p h =
+    ap (λ l. machine l p) (take-suc rows i (0, 0, 0) h) ∙ machine-append (take i rows) (getD rows i (0, 0, 0) ∷ []) p
     ∙ rw append-nil
 
 -- the first rows have no more moves than all of them
 machine-part : (rows : List Row) (i p : ℕ) → length (machine (take i rows) p) ≤ length (machine rows p)
-machine-part rows i p = omega (arith, ap (λ l. length (machine l p)) (take-append-drop i rows), ap length (machine-append (take i rows) (drop i rows) p), length-append (machine (take i rows) p) (machine (drop i rows) p))
+machine-part rows i p =
+    omega (
+      arith,
+      ap (λ l. length (machine l p)) (take-append-drop i rows),
+      ap length (machine-append (take i rows) (drop i rows) p),
+      length-append (machine (take i rows) p) (machine (drop i rows) p),
+    )
 
 -- a row by its number is one of the rows
 row-in : (rows : List Row) (i : ℕ) → i < length rows → getD rows i (0, 0, 0) ∈ rows
@@ -163,7 +192,8 @@ module _ {k : ℕ} {t : List ℕ} (s : SoundTable k t) (g : List ℕ) (i : ℕ) 
   -- all rows stand in the grid
   pub filling-end : length t / 3 ≤ i → (p : ℕ) → gridOf g p ≡ tableOf t p
   unfolding tableOf
-  filling-end h p = f .reads p ∙ ap (λ l. machine l p) (take-all i (rowsOf t) (omega (arith, length-rows t, s .fits .0)))
+  filling-end h p =
+      f .reads p ∙ ap (λ l. machine l p) (take-all i (rowsOf t) (omega (arith, length-rows t, s .fits .0)))
 
   -- row i, which the next turn writes
   module _ (h : i < length t / 3) where
@@ -172,10 +202,17 @@ module _ {k : ℕ} {t : List ℕ} (s : SoundTable k t) (g : List ℕ) (i : ℕ) 
 
     -- its state is one of the 64
     filling-low : rowOf t i .0 < 64
-    filling-low = omega (arith, ap (λ (r : Row). r .0) (rows-at t i inside), s .ranged (getD (rowsOf t) i (0, 0, 0)) (row-in (rowsOf t) i inside) .0, s .few-states)
+    filling-low =
+        omega (
+          arith,
+          ap (λ (r : Row). r .0) (rows-at t i inside),
+          s .ranged (getD (rowsOf t) i (0, 0, 0)) (row-in (rowsOf t) i inside) .0,
+          s .few-states,
+        )
 
     -- the moves of the rows before it, and its own if it leaves p
-    next : (p : ℕ) → machine (take (suc i) (rowsOf t)) p ≡ gridOf g p ++ only (eqb (rowOf t i .0) p) (rowOf t i .1, rowOf t i .2)
+    next : (p : ℕ) → machine (take (suc i) (rowsOf t)) p
+        ≡ gridOf g p ++ only (eqb (rowOf t i .0) p) (rowOf t i .1, rowOf t i .2)
     next p = machine-more (rowsOf t) i p inside ∙ rw (rows-at t i inside, f .reads p)
 
     -- fewer than 8 rows stand at its state, so that there is room for it
@@ -200,6 +237,12 @@ module _ {k : ℕ} {t : List ℕ} (s : SoundTable k t) (g : List ℕ) (i : ℕ) 
       reads = λ p. rw (add-one i) (go p (eqb (rowOf t i .0) p) refl ∙ sym (next p));
     }
       where
-        go : (p : ℕ) (b : Bool) → eqb (rowOf t i .0) p ≡ b → gridOf (put g (rowOf t i)) p ≡ gridOf g p ++ only (eqb (rowOf t i .0) p) (rowOf t i .1, rowOf t i .2)
-        go p true e = rw (← eqb-true (rowOf t i .0) p e, same-refl) (put-here g (rowOf t i .0) (rowOf t i .1) (rowOf t i .2) (f .whole) filling-low filling-room)
-        go p false e = rw (e, append-nil) (put-elsewhere g (rowOf t i .0) (rowOf t i .1) (rowOf t i .2) (f .whole) filling-low filling-room p (eqb-false (rowOf t i .0) p e) (filling-few p))
+        go : (p : ℕ) (b : Bool) → eqb (rowOf t i .0) p ≡ b
+            → gridOf (put g (rowOf t i)) p ≡ gridOf g p ++ only (eqb (rowOf t i .0) p) (rowOf t i .1, rowOf t i .2)
+        go p true e =
+            rw (← eqb-true (rowOf t i .0) p e, same-refl)
+            (put-here g (rowOf t i .0) (rowOf t i .1) (rowOf t i .2) (f .whole) filling-low filling-room)
+        go p false e =
+            rw (e, append-nil)
+            (put-elsewhere g (rowOf t i .0) (rowOf t i .1) (rowOf t i .2) (f .whole) filling-low filling-room p
+            (eqb-false (rowOf t i .0) p e) (filling-few p))

@@ -26,7 +26,8 @@ alone-step q r a p = go (eqb a 255)
     go false = refl
 
 -- the written steps of a half run beside the kept state
-alone-lengthened : (bs : List ℕ) (r : Run ℕ) → lengthened (alone 0 r) (jointSteps (widened bs)) ≡ alone 0 (lengthened r (twos bs))
+alone-lengthened : (bs : List ℕ) (r : Run ℕ)
+    → lengthened (alone 0 r) (jointSteps (widened bs)) ≡ alone 0 (lengthened r (twos bs))
 unfolding widened jointSteps threes twos lengthened
 alone-lengthened [] r = refl
 alone-lengthened (a ∷ []) r = refl
@@ -67,7 +68,8 @@ take-widened (a ∷ q ∷ bs) zero = refl
 take-widened (a ∷ q ∷ bs) (suc n) = rw (three-more n, two-more n, take-widened bs n)
 
 -- a part of the widened bytes is the widened part
-pub still-take : (s : List ℕ) (n : ℕ) → 2 * n + 1 ≤ length s → take (3 * n + 2) (besideStill s) ≡ besideStill (take (2 * n + 1) s)
+pub still-take : (s : List ℕ) (n : ℕ) → 2 * n + 1 ≤ length s
+    → take (3 * n + 2) (besideStill s) ≡ besideStill (take (2 * n + 1) s)
 unfolding besideStill
 still-take [] n h = absurd (omega arith)
 still-take (p ∷ bs) n h =
@@ -76,7 +78,8 @@ still-take (p ∷ bs) n h =
     rw (e, f, take-widened bs n)
 
 -- state m of the widened bytes is that of the half run, and 0 beside it
-state-at : (m : ℕ) (p : ℕ) (bs : List ℕ) → 2 * m ≤ length bs → (getD (p ∷ 0 ∷ widened bs) (3 * m) 0 ≡ getD (p ∷ bs) (2 * m) 0) × (getD (p ∷ 0 ∷ widened bs) (3 * m + 1) 0 ≡ 0)
+state-at : (m : ℕ) (p : ℕ) (bs : List ℕ) → 2 * m ≤ length bs
+    → (getD (p ∷ 0 ∷ widened bs) (3 * m) 0 ≡ getD (p ∷ bs) (2 * m) 0) × (getD (p ∷ 0 ∷ widened bs) (3 * m + 1) 0 ≡ 0)
 unfolding widened
 state-at zero p bs h = (refl, refl)
 state-at (suc m) p [] h = absurd (omega arith)
@@ -85,17 +88,20 @@ state-at (suc m) p (a ∷ q ∷ bs) h =
     let e : 3 * suc m + 1 ≡ suc (suc (suc (3 * m + 1))) = omega arith in
     rw (e, three-more m, two-more m) (state-at m q bs (omega arith))
 
-still-at : (s : List ℕ) (m : ℕ) → 2 * m + 1 ≤ length s → (getD (besideStill s) (3 * m) 0 ≡ getD s (2 * m) 0) × (getD (besideStill s) (3 * m + 1) 0 ≡ 0)
+still-at : (s : List ℕ) (m : ℕ) → 2 * m + 1 ≤ length s
+    → (getD (besideStill s) (3 * m) 0 ≡ getD s (2 * m) 0) × (getD (besideStill s) (3 * m + 1) 0 ≡ 0)
 unfolding besideStill
 still-at [] m h = absurd (omega arith)
 still-at (p ∷ bs) m h = state-at m p bs (omega arith)
 
 -- an accepted half beside the kept state ends, at each of its points, in the two states written last
 pub still-ends : (t s : List ℕ) → isHalfRun t s ≡ true → (m : ℕ) → 2 * m + 1 ≤ length s
-    → last (jointOf (take (3 * m + 2) (besideStill s))) ≡ (getD (besideStill s) (3 * m) 0, getD (besideStill s) (3 * m + 1) 0)
+    → last (jointOf (take (3 * m + 2) (besideStill s)))
+    ≡ (getD (besideStill s) (3 * m) 0, getD (besideStill s) (3 * m + 1) 0)
 still-ends t s e m h =
     let a = accepted-half t (take (2 * m + 1) s) (half-stopped t s m e) in
     let (x, y) = still-at s m h in
     let n : length (take (2 * m + 1) s) ≡ 2 * m + 1 = omega (arith, length-take (2 * m + 1) s) in
-    let z : last (halfOf (take (2 * m + 1) s)) ≡ getD s (2 * m) 0 = a .ends ∙ ap (λ i. getD (take (2 * m + 1) s) i 0) (omega arith) ∙ getD-take (2 * m + 1) s (2 * m) 0 (omega arith) in
+    let z : last (halfOf (take (2 * m + 1) s)) ≡ getD s (2 * m) 0 = a .ends
+    ∙ ap (λ i. getD (take (2 * m + 1) s) i 0) (omega arith) ∙ getD-take (2 * m + 1) s (2 * m) 0 (omega arith) in
     rw (still-take s m h, still-read (take (2 * m + 1) s) (a .odd), last-alone, x, y, z)

@@ -34,11 +34,14 @@ module _ (half : List ℕ) (i : ℕ) where
 
   -- one more step of the half is one more step widened
   still-next : 2 * i + 3 ≤ length half
-      → besideStill (take (2 * (i + 1) + 1) half) ≡ besideStill (take (2 * i + 1) half) ++ getD half (2 * i + 1) 0 ∷ getD half (2 * i + 2) 0 ∷ 0 ∷ []
+      → besideStill (take (2 * (i + 1) + 1) half)
+      ≡ besideStill (take (2 * i + 1) half) ++ getD half (2 * i + 1) 0 ∷ getD half (2 * i + 2) 0 ∷ 0 ∷ []
   still-next h =
       let e : 2 * (i + 1) + 1 ≡ 2 * i + 1 + 2 = omega arith in
       let f : 2 * i + 2 ≡ 2 * i + 1 + 1 = omega arith in
-      rw (e, f, take-two half (2 * i + 1) (omega arith)) (still-more (take (2 * i + 1) half) (getD half (2 * i + 1) 0) (getD half (2 * i + 1 + 1) 0) (omega (arith, length-take (2 * i + 1) half)))
+      rw (e, f, take-two half (2 * i + 1) (omega arith))
+      (still-more (take (2 * i + 1) half) (getD half (2 * i + 1) 0) (getD half (2 * i + 1 + 1) 0)
+      (omega (arith, length-take (2 * i + 1) half)))
 
 -- the loop has written the first i steps over what it began with
 pub record Widening (half : List ℕ) (steps : ℕ) (begun run : List ℕ) (i : ℕ) : Type 0 where
@@ -51,18 +54,24 @@ abbrev pub begunBy : List ℕ → List ℕ → List ℕ
 begunBy half run = set (set run 0 (getD half 0 0)) 1 0
 
 module _ (half : List ℕ) (steps : ℕ) where
-  pub widen-start : (run : List ℕ) → 2 * steps + 1 ≤ length half → 3 * steps + 2 ≤ length run → Widening half steps (begunBy half run) (begunBy half run) 0
+  pub widen-start : (run : List ℕ) → 2 * steps + 1 ≤ length half → 3 * steps + 2 ≤ length run
+      → Widening half steps (begunBy half run) (begunBy half run) 0
   unfolding besideStill widened
   widen-start run h k = record { within = omega arith; kept = refl; same = starts half run (omega arith) (omega arith) }
     where
-      starts : (half run : List ℕ) → 1 ≤ length half → 2 ≤ length run → begunBy half run ≡ stillOver half 0 (begunBy half run)
+      starts : (half run : List ℕ) → 1 ≤ length half → 2 ≤ length run
+          → begunBy half run ≡ stillOver half 0 (begunBy half run)
       starts [] run h k = absurd (omega arith)
       starts (p ∷ half) [] h k = absurd (omega arith)
       starts (p ∷ half) (x ∷ []) h k = absurd (omega arith)
       starts (p ∷ half) (x ∷ y ∷ run) h k = refl
 
-  module _ (begun run : List ℕ) (i : ℕ) (w : Widening half steps begun run i) (h : 2 * steps + 1 ≤ length half) (k : 3 * steps + 2 ≤ length begun) where
-    pub widen-on : i < steps → Widening half steps begun (set (set (set run (3 * i + 2) (getD half (2 * i + 1) 0)) (3 * i + 3) (getD half (2 * i + 2) 0)) (3 * i + 4) 0) (i + 1)
+  module _ (begun run : List ℕ) (i : ℕ) (w : Widening half steps begun run i) (h : 2 * steps + 1 ≤ length half)
+      (k : 3 * steps + 2 ≤ length begun) where
+    pub widen-on : i < steps
+        → Widening half steps begun
+        (set (set (set run (3 * i + 2) (getD half (2 * i + 1) 0)) (3 * i + 3) (getD half (2 * i + 2) 0)) (3 * i + 4) 0)
+        (i + 1)
     widen-on t =
         let second : 3 * i + 3 ≡ suc (3 * i + 2) = omega arith in
         let third : 3 * i + 4 ≡ suc (suc (3 * i + 2)) = omega arith in
@@ -70,15 +79,25 @@ module _ (half : List ℕ) (steps : ℕ) where
         record {
           within = omega arith;
           kept = rw (length-set, length-set, length-set) (w .kept);
-          same = rw (w .same, second, third, behind, still-next half i (omega arith)) (written-behind (besideStill (take (2 * i + 1) half)) (getD half (2 * i + 1) 0 ∷ getD half (2 * i + 2) 0 ∷ 0 ∷ []) begun (3 * i + 2) (still-size half i (omega arith)) (omega arith));
+          same =
+              rw (w .same, second, third, behind, still-next half i (omega arith))
+              (written-behind (besideStill (take (2 * i + 1) half))
+              (getD half (2 * i + 1) 0 ∷ getD half (2 * i + 2) 0 ∷ 0 ∷ []) begun (3 * i + 2)
+              (still-size half i (omega arith)) (omega arith));
         }
 
   -- the output keeps the length that it had first
-  pub widen-kept : (first run : List ℕ) (i : ℕ) → Widening half steps (begunBy half first) run i → length run ≡ length first
+  pub widen-kept : (first run : List ℕ) (i : ℕ) → Widening half steps (begunBy half first) run i
+      → length run ≡ length first
   widen-kept first run i w = w .kept ∙ rw (length-set, length-set)
 
   -- all steps are written, and what stood behind them is kept
-  pub widen-end : (first run : List ℕ) (i : ℕ) → Widening half steps (begunBy half first) run i → steps ≤ i → run ≡ stillOver half steps first
+  pub widen-end : (first run : List ℕ) (i : ℕ) → Widening half steps (begunBy half first) run i → steps ≤ i
+      → run ≡ stillOver half steps first
   widen-end first run i w t =
       let e : i ≡ steps = omega (arith, w .within) in
-      w .same ∙ rw (e, drop-set-lt (3 * steps + 2) (set first 0 (getD half 0 0)) 1 0 (omega arith), drop-set-lt (3 * steps + 2) first 0 (getD half 0 0) (omega arith))
+      w .same ∙ rw (
+        e,
+        drop-set-lt (3 * steps + 2) (set first 0 (getD half 0 0)) 1 0 (omega arith),
+        drop-set-lt (3 * steps + 2) first 0 (getD half 0 0) (omega arith),
+      )

@@ -1,6 +1,6 @@
--- Verdicts: document 01, "Questions and verdicts", and the order of "Who can cause a refusal" in a call that takes parts.
--- When a formula holds on a run is the theory's to say: `Sat` in hml's Formula has definitions 3 and 4 of source document 000
--- clause by clause, and `holds` is the test that decides it (`decided` there).
+-- Verdicts: document 01, "Questions and verdicts", and the order of "Who can cause a refusal" in a call that takes
+-- parts. When a formula holds on a run is the theory's to say: `Sat` in hml's Formula has definitions 3 and 4 of source
+-- document 000 clause by clause, and `holds` is the test that decides it (`decided` there).
 use Prim.Native.Nat.{ℕ}
 use mathlib.Core.Bool.{Bool, true, false}
 use mathlib.Core.List.{List, [], _∷_}
@@ -23,10 +23,11 @@ use Rattle.formulas.specs.Formulas.{formulaOf, quotientLimit, checkFormula}
 use Rattle.verdict.specs.declared.answer.Verdict.{Verdict}
 use Rattle.verdict.specs.declared.answer.Verdict.the-variants as verdict
 
--- the verdict on two tables and a joint run of them, stopped at a point: the tables beside each other, the formula that the bytes
--- spell, the run that the bytes spell
+-- the verdict on two tables and a joint run of them, stopped at a point: the tables beside each other, the formula that
+-- the bytes spell, the run that the bytes spell
 unfoldable pub jointHolds : ℕ → List ℕ → List ℕ → List ℕ → List ℕ → ℕ → Bool
-jointHolds k l r s f point = present (λ φ. holds (beside (pairs k) (tableOf l) (tableOf r)) φ (stop point (jointOf s))) (formulaOf f)
+jointHolds k l r s f point =
+    present (λ φ. holds (beside (pairs k) (tableOf l) (tableOf r)) φ (stop point (jointOf s))) (formulaOf f)
 
 -- the verdict on one table and a half run of it, stopped at a point
 unfoldable pub halfHolds : List ℕ → List ℕ → List ℕ → ℕ → Bool

@@ -23,18 +23,22 @@ place-requires-3 : tie.Need-place-requires-3
 place-requires-3 c κs = search needs
 
 returns-4 : tie.Need-returns-4
-returns-4 c = place-4 (c .before .before .before .before .before .args .parts) _ (c .before .if4 .taken) (c .place3 .ensures)
+returns-4 c =
+    place-4 (c .before .before .before .before .before .args .parts) _ (c .before .if4 .taken) (c .place3 .ensures)
 
 place-requires-4 : tie.Need-place-requires-4
 place-requires-4 c κs = search needs
 
 returns-5 : tie.Need-returns-5
-returns-5 c = place-5 (c .before .before .before .before .before .before .args .parts) _ (c .before .if5 .taken) (c .place4 .ensures)
+returns-5 c =
+    place-5 (c .before .before .before .before .before .before .args .parts) _ (c .before .if5 .taken)
+    (c .place4 .ensures)
 
 returns-6 : tie.Need-returns-6
 returns-6 c =
     let s = c .before .before in
-    no-place _ _ (s .before .before .if1 .left) (s .before .if2 .left) (s .if3 .left) (c .before .if4 .left) (c .if5 .left)
+    no-place _ _ (s .before .before .if1 .left) (s .before .if2 .left) (s .if3 .left) (c .before .if4 .left)
+    (c .if5 .left)
 
 pub place-in-spec : {M : Type 1} → statement M
 place-in-spec =

@@ -15,7 +15,8 @@ enum-known-refusal : tie.Need-enum-known-refusal
 enum-known-refusal c = search needs
 
 returns : tie.Need-returns
-returns c = pairs-refused _ _ _ _ _ (sym (c .before .before .before .check-pairs .ensures) ∙ c .before .refusal .given .1)
+returns c =
+    pairs-refused _ _ _ _ _ (sym (c .before .before .before .check-pairs .ensures) ∙ c .before .refusal .given .1)
 
 check-formula-requires : tie.Need-check-formula-requires
 check-formula-requires c κs = search needs
@@ -36,10 +37,18 @@ then-requires : tie.Need-then-requires
 then-requires c κs = search needs
 
 returns-2 : tie.Need-returns-2
-returns-2 c = question-sound _ _ _ _ (sym (c .before .before .before .before .before .before .check-pairs .ensures) ∙ c .before .before .before .before .enum-told .given .1) _ (sym (c .before .before .before .check-formula .ensures) ∙ c .before .enum-told2 .given .1) (c .check-half .ensures)
+returns-2 c =
+    question-sound _ _ _ _
+    (sym (c .before .before .before .before .before .before .check-pairs .ensures)
+    ∙ c .before .before .before .before .enum-told .given .1) _
+    (sym (c .before .before .before .check-formula .ensures) ∙ c .before .enum-told2 .given .1) (c .check-half .ensures)
 
 returns-3 : tie.Need-returns-3
-returns-3 c = question-refused _ _ _ _ (sym (c .before .before .before .before .before .before .before .before .check-pairs .ensures) ∙ c .before .before .before .before .before .before .enum-told .given .1) _ _ _ (sym (c .before .before .before .before .before .check-formula .ensures) ∙ c .before .before .before .refusal2 .given .1) (c .before .check-table .ensures) (c .then .ensures)
+returns-3 c =
+    let c1 = c .before .before .before .before .before in
+    question-refused _ _ _ _ (sym (c1 .before .before .before .check-pairs .ensures) ∙ c1 .before .enum-told .given .1)
+    _ _ _ (sym (c1 .check-formula .ensures) ∙ c .before .before .before .refusal2 .given .1)
+    (c .before .check-table .ensures) (c .then .ensures)
 
 pub check-division-spec : {M : Type 1} → statement M
 check-division-spec =

@@ -16,18 +16,22 @@ enum-known-refusal : tie.Need-enum-known-refusal
 enum-known-refusal c = search needs
 
 returns : tie.Need-returns
-returns c = part-refused _ _ _ _ (sym (c .before .before .before .check-division .ensures) ∙ c .before .refusal .given .1)
+returns c =
+    part-refused _ _ _ _ (sym (c .before .before .before .check-division .ensures) ∙ c .before .refusal .given .1)
 
 write-quotient-requires : tie.Need-write-quotient-requires
 write-quotient-requires c κs =
-    let (a, b, d) = division-sound _ _ _ _ (sym (c .before .before .before .check-division .ensures) ∙ c .before .enum-told .given .1) in
+    let (a, b, d) = division-sound _ _ _ _
+    (sym (c .before .before .before .check-division .ensures) ∙ c .before .enum-told .given .1) in
     (a, (b, d))
 
 same-length : tie.Need-same-length
 same-length c = search needs
 
 returns-2 : tie.Need-returns-2
-returns-2 c = rw (sym (c .before .before .before .before .before .before .check-division .ensures) ∙ c .before .before .before .before .enum-told .given .1) (c .before .before .write-quotient .ensures)
+returns-2 c =
+    rw (sym (c .before .before .before .before .before .before .check-division .ensures)
+    ∙ c .before .before .before .before .enum-told .given .1) (c .before .before .write-quotient .ensures)
 
 pub divide-spec : {M : Type 1} → statement M
 divide-spec =

@@ -1,4 +1,5 @@
--- The cycle that writes a quotient, each piece into the rest of the output that the one before it left. The answers to its needs stand in rooms beside this file, by function.
+-- The cycle that writes a quotient, each piece into the rest of the output that the one before it left. The answers to
+-- its needs stand in rooms beside this file, by function.
 use Rattle.dividing.proofs.write.write_disjunct.Reads as write-disjunct
 use Rattle.dividing.proofs.write.+write_disjunct+write_disjuncts+write_forward+write_modal+write_tree.Lts-write_disjunct as write-disjunct-lts
 use Rattle.dividing.proofs.write.write_disjuncts.Reads as write-disjuncts

@@ -21,10 +21,14 @@ prefix-requires-2 : tie.Need-prefix-requires-2
 prefix-requires-2 c κs = search needs
 
 returns : tie.Need-returns
-returns c = cut-prefix _ _ _ _ _ _ (sym (c .before .enum-told .given .1) ∙ c .before .before .before .known .ensures) (c .prefix .ensures)
+returns c =
+    cut-prefix _ _ _ _ _ _ (sym (c .before .enum-told .given .1) ∙ c .before .before .before .known .ensures)
+    (c .prefix .ensures)
 
 returns-2 : tie.Need-returns-2
-returns-2 c = cut-prefix _ _ _ _ _ _ (sym (c .before .enum-told2 .given .1) ∙ c .before .before .before .known .ensures) (c .prefix2 .ensures)
+returns-2 c =
+    cut-prefix _ _ _ _ _ _ (sym (c .before .enum-told2 .given .1) ∙ c .before .before .before .known .ensures)
+    (c .prefix2 .ensures)
 
 pub cut-spec : {M : Type 1} → statement M
 cut-spec =

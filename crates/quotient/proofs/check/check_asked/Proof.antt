@@ -15,16 +15,24 @@ enum-known-refusal : tie.Need-enum-known-refusal
 enum-known-refusal c = search needs
 
 returns : tie.Need-returns
-returns c = question-refused _ _ _ _ _ _ _ (sym (c .before .before .before .check-formula .ensures) ∙ c .before .refusal .given .1)
+returns c =
+    question-refused _ _ _ _ _ _ _
+    (sym (c .before .before .before .check-formula .ensures) ∙ c .before .refusal .given .1)
 
 cut-requires : tie.Need-cut-requires
 cut-requires c κs = search needs
 
 returns-2 : tie.Need-returns-2
-returns-2 c = cut-refused _ _ _ _ _ _ (sym (c .before .before .before .before .check-formula .ensures) ∙ c .before .before .enum-told .given .1) _ (c .before .cut .ensures) (c .if1 .taken)
+returns-2 c =
+    cut-refused _ _ _ _ _ _
+    (sym (c .before .before .before .before .check-formula .ensures) ∙ c .before .before .enum-told .given .1) _
+    (c .before .cut .ensures) (c .if1 .taken)
 
 returns-3 : tie.Need-returns-3
-returns-3 c = cut-given _ _ _ _ _ _ (sym (c .before .before .before .before .check-formula .ensures) ∙ c .before .before .enum-told .given .1) _ (c .before .cut .ensures) (c .if1 .left)
+returns-3 c =
+    cut-given _ _ _ _ _ _
+    (sym (c .before .before .before .before .check-formula .ensures) ∙ c .before .before .enum-told .given .1) _
+    (c .before .cut .ensures) (c .if1 .left)
 
 pub check-asked-spec : {M : Type 1} → statement M
 check-asked-spec =

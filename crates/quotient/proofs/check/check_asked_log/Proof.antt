@@ -24,7 +24,10 @@ returns : tie.Need-returns
 returns c = log-left _ _ _ _ _ _ (sym (c .before .before .check-asked-run .ensures) ∙ c .enum-told .given .1)
 
 returns-2 : tie.Need-returns-2
-returns-2 c = log-judged _ _ _ _ _ _ _ (sym (c .before .before .before .before .before .check-asked-run .ensures) ∙ c .before .before .before .refusal .given .1) (c .before .check-log .ensures) (c .then .ensures)
+returns-2 c =
+    log-judged _ _ _ _ _ _ _
+    (sym (c .before .before .before .before .before .check-asked-run .ensures)
+    ∙ c .before .before .before .refusal .given .1) (c .before .check-log .ensures) (c .then .ensures)
 
 pub check-asked-log-spec : {M : Type 1} → statement M
 check-asked-log-spec =

@@ -15,13 +15,19 @@ enum-known-refusal : tie.Need-enum-known-refusal
 enum-known-refusal c = search needs
 
 returns : tie.Need-returns
-returns c = run-question-refused _ _ _ _ _ (sym (c .before .before .before .check-formula .ensures) ∙ c .before .refusal .given .1)
+returns c =
+    run-question-refused _ _ _ _ _
+    (sym (c .before .before .before .check-formula .ensures) ∙ c .before .refusal .given .1)
 
 returns-2 : tie.Need-returns-2
-returns-2 c = run-point-beyond _ _ _ _ (sym (c .before .before .before .check-formula .ensures) ∙ c .before .enum-told .given .1) (c .if1 .taken)
+returns-2 c =
+    run-point-beyond _ _ _ _ (sym (c .before .before .before .check-formula .ensures) ∙ c .before .enum-told .given .1)
+    (c .if1 .taken)
 
 returns-3 : tie.Need-returns-3
-returns-3 c = run-point-within _ _ _ _ (sym (c .before .before .before .check-formula .ensures) ∙ c .before .enum-told .given .1) (c .if1 .left)
+returns-3 c =
+    run-point-within _ _ _ _ (sym (c .before .before .before .check-formula .ensures) ∙ c .before .enum-told .given .1)
+    (c .if1 .left)
 
 pub check-asked-run-spec : {M : Type 1} → statement M
 check-asked-run-spec =

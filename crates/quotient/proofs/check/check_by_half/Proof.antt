@@ -15,7 +15,9 @@ enum-known-refusal : tie.Need-enum-known-refusal
 enum-known-refusal c = search needs
 
 returns : tie.Need-returns
-returns c = pairs-decide _ _ _ _ _ _ _ _ _ (sym (c .before .before .before .check-pairs .ensures) ∙ c .before .refusal .given .1)
+returns c =
+    pairs-decide _ _ _ _ _ _ _ _ _
+    (sym (c .before .before .before .check-pairs .ensures) ∙ c .before .refusal .given .1)
 
 check-asked-requires : tie.Need-check-asked-requires
 check-asked-requires c κs = search needs
@@ -42,10 +44,19 @@ then-requires-2 : tie.Need-then-requires-2
 then-requires-2 c κs = search needs
 
 returns-2 : tie.Need-returns-2
-returns-2 c = halves-decide _ _ _ _ _ _ _ _ (sym (c .before .before .before .check-asked .ensures) ∙ c .before .enum-told2 .given .1) (c .check-halves .ensures)
+returns-2 c =
+    halves-decide _ _ _ _ _ _ _ _
+    (sym (c .before .before .before .check-asked .ensures) ∙ c .before .enum-told2 .given .1) (c .check-halves .ensures)
 
 returns-3 : tie.Need-returns-3
-returns-3 c = asked-decides _ _ _ _ _ _ _ _ (sym (c .before .before .before .before .before .before .before .before .before .before .check-pairs .ensures) ∙ c .before .before .before .before .before .before .before .before .enum-told .given .1) _ (sym (c .before .before .before .before .before .before .before .check-asked .ensures) ∙ c .before .before .before .before .before .refusal2 .given .1) (c .before .before .before .check-table .ensures) (c .before .before .check-table2 .ensures) (c .before .then .ensures) (c .then2 .ensures)
+returns-3 c =
+    let c1 = c .before .before .before .before .before in
+    asked-decides _ _ _ _ _ _ _ _
+    (sym (c1 .before .before .before .before .before .check-pairs .ensures)
+    ∙ c1 .before .before .before .enum-told .given .1) _
+    (sym (c1 .before .before .check-asked .ensures) ∙ c1 .refusal2 .given .1)
+    (c .before .before .before .check-table .ensures) (c .before .before .check-table2 .ensures)
+    (c .before .then .ensures) (c .then2 .ensures)
 
 pub check-by-half-spec : {M : Type 1} → statement M
 check-by-half-spec =

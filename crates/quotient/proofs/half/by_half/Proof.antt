@@ -15,7 +15,9 @@ enum-known-refusal : tie.Need-enum-known-refusal
 enum-known-refusal c = search needs
 
 returns : tie.Need-returns
-returns c = by-half-refused _ _ _ _ _ _ _ _ _ (sym (c .before .before .before .check-by-half .ensures) ∙ c .before .refusal .given .1) _
+returns c =
+    by-half-refused _ _ _ _ _ _ _ _ _
+    (sym (c .before .before .before .check-by-half .ensures) ∙ c .before .refusal .given .1) _
 
 known-part-requires : tie.Need-known-part-requires
 known-part-requires c κs = search needs
@@ -30,7 +32,12 @@ same-length : tie.Need-same-length
 same-length c = search needs
 
 returns-2 : tie.Need-returns-2
-returns-2 c = by-half-divided _ _ _ _ _ _ _ _ (sym (c .before .before .before .before .before .before .before .before .check-by-half .ensures) ∙ c .before .before .before .before .before .before .enum-told .given .1) _ _ _ _ _ (c .before .before .before .before .before .known-part .ensures) (c .before .before .before .before .cut .ensures) (c .before .before .divide .ensures .0) (c .before .before .divide .ensures .1)
+returns-2 c =
+    let c1 = c .before .before .before .before in
+    by-half-divided _ _ _ _ _ _ _ _
+    (sym (c1 .before .before .before .before .check-by-half .ensures) ∙ c1 .before .before .enum-told .given .1) _ _ _ _
+    _ (c1 .before .known-part .ensures) (c1 .cut .ensures) (c .before .before .divide .ensures .0)
+    (c .before .before .divide .ensures .1)
 
 pub by-half-spec : {M : Type 1} → statement M
 by-half-spec =

@@ -23,10 +23,24 @@ other-part-requires-2 : tie.Need-other-part-requires-2
 other-part-requires-2 c κs = search needs
 
 array-share-prefix-text : tie.Need-array-share-prefix-text
-array-share-prefix-text c = omega (arith, line-room _ _ _ _ _ _ _ _ _ _ (sym (c .before .before .before .before .before .before .by-half .ensures .0) ∙ c .before .before .before .n .given .1) (omega arith), c .before .before .before .before .before .before .by-half .kept)
+array-share-prefix-text c =
+    let by-half = c .before .before .before .before .before .before .by-half in
+    omega (
+      arith,
+      line-room _ _ _ _ _ _ _ _ _ _ (sym (by-half .ensures .0) ∙ c .before .before .before .n .given .1) (omega arith),
+      by-half .kept,
+    )
 
 slice-aggregate-half : tie.Need-slice-aggregate-half
-slice-aggregate-half c = sym (length-take-le _ _ (omega (arith, line-room _ _ _ _ _ _ _ _ _ _ (sym (c .before .before .before .before .before .before .before .by-half .ensures .0) ∙ c .before .before .before .before .n .given .1) (omega arith), c .before .before .before .before .before .before .before .by-half .kept)))
+slice-aggregate-half c =
+    let by-half = c .before .before .before .before .before .before .before .by-half in
+    sym (length-take-le _ _
+    (omega (
+      arith,
+      line-room _ _ _ _ _ _ _ _ _ _ (sym (by-half .ensures .0) ∙ c .before .before .before .before .n .given .1)
+          (omega arith),
+      by-half .kept,
+    )))
 
 half-requires : tie.Need-half-requires
 half-requires c κs = search needs
@@ -38,10 +52,17 @@ enum-known-refusal : tie.Need-enum-known-refusal
 enum-known-refusal c = search needs
 
 returns : tie.Need-returns
-returns c = line-answered _ _ _ _ _ _ _ _ _ _ _ (sym (c .before .before .before .before .before .before .before .before .before .by-half .ensures .0) ∙ c .before .before .before .before .before .before .n .given .1) (c .before .before .before .before .before .before .before .before .before .by-half .ensures .1) _ _ (c .before .before .before .before .other-part .ensures) (c .before .before .before .other-part2 .ensures) _ (c .before .half .ensures) _ (c .both .ensures) (omega arith)
+returns c =
+    let by-half = c .before .before .before .before .before .before .before .before .before .by-half in
+    line-answered _ _ _ _ _ _ _ _ _ _ _
+    (sym (by-half .ensures .0) ∙ c .before .before .before .before .before .before .n .given .1) (by-half .ensures .1) _
+    _ (c .before .before .before .before .other-part .ensures) (c .before .before .before .other-part2 .ensures) _
+    (c .before .half .ensures) _ (c .both .ensures) (omega arith)
 
 returns-2 : tie.Need-returns-2
-returns-2 c = line-refused _ _ _ _ _ _ _ _ _ _ (sym (c .before .before .before .before .by-half .ensures .0) ∙ c .before .refusal .given .1) (omega arith)
+returns-2 c =
+    line-refused _ _ _ _ _ _ _ _ _ _
+    (sym (c .before .before .before .before .by-half .ensures .0) ∙ c .before .refusal .given .1) (omega arith)
 
 pub line-office-spec : {M : Type 1} → statement M
 line-office-spec =

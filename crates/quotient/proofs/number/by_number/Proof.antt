@@ -5,7 +5,8 @@ use Rattle.quotient.proofs.number.by_number.Tie as tie
 use native.Mathlib.Omega.{arith}
 use mathlib.Core.Path.{sym, _∙_}
 use lib.Seq.{length-take-le}
-use Rattle.quotient.proofs.QuotientCalls.{pairs-refuse, asked-log-refuses, split-refuses, halves-room, by-number-divided}
+use Rattle.quotient.proofs.QuotientCalls.{pairs-refuse, asked-log-refuses, split-refuses, halves-room}
+use Rattle.quotient.proofs.QuotientCalls.{by-number-divided}
 
 check-pairs-requires : tie.Need-check-pairs-requires
 check-pairs-requires c κs = search needs
@@ -17,7 +18,9 @@ enum-known-refusal : tie.Need-enum-known-refusal
 enum-known-refusal c = search needs
 
 returns : tie.Need-returns
-returns c = pairs-refuse _ _ _ _ _ _ _ _ (sym (c .before .before .before .check-pairs .ensures) ∙ c .before .refusal .given .1) _ _
+returns c =
+    pairs-refuse _ _ _ _ _ _ _ _ (sym (c .before .before .before .check-pairs .ensures) ∙ c .before .refusal .given .1)
+    _ _
 
 check-asked-log-requires : tie.Need-check-asked-log-requires
 check-asked-log-requires c κs = search needs
@@ -29,7 +32,9 @@ enum-known-refusal-2 : tie.Need-enum-known-refusal-2
 enum-known-refusal-2 c = search needs
 
 returns-2 : tie.Need-returns-2
-returns-2 c = asked-log-refuses _ _ _ _ _ _ _ _ (sym (c .before .before .before .check-asked-log .ensures) ∙ c .before .refusal2 .given .1) _ _
+returns-2 c =
+    asked-log-refuses _ _ _ _ _ _ _ _
+    (sym (c .before .before .before .check-asked-log .ensures) ∙ c .before .refusal2 .given .1) _ _
 
 slice-aggregate-split : tie.Need-slice-aggregate-split
 slice-aggregate-split c = search needs
@@ -48,23 +53,43 @@ known-part-requires c κs = search needs
 
 array-share-prefix-left-half : tie.Need-array-share-prefix-left-half
 array-share-prefix-left-half c =
-    let room = halves-room _ _ _ _ _ _ _ (sym (c .before .before .before .before .before .before .before .before .before .before .before .check-asked-log .ensures) ∙ c .before .before .before .before .before .before .before .before .before .enum-told2 .given .1) _ _ _ (sym (c .before .before .before .before .before .before .split .ensures .0) ∙ c .before .before .n .given .1) (omega arith) in
-    omega (arith, room, c .before .before .before .before .before .before .split .kept)
+    let split = c .before .before .before .before .before .before .split in
+    let room = halves-room _ _ _ _ _ _ _
+    (sym (c .before .before .before .before .before .before .before .before .before .before .before .check-asked-log
+    .ensures)
+    ∙ c .before .before .before .before .before .before .before .before .before .enum-told2 .given .1) _ _ _
+    (sym (split .ensures .0) ∙ c .before .before .n .given .1) (omega arith) in
+    omega (arith, room, split .kept)
 
 slice-aggregate-cut : tie.Need-slice-aggregate-cut
 slice-aggregate-cut c =
-    let room = halves-room _ _ _ _ _ _ _ (sym (c .before .before .before .before .before .before .before .before .before .before .before .before .check-asked-log .ensures) ∙ c .before .before .before .before .before .before .before .before .before .before .enum-told2 .given .1) _ _ _ (sym (c .before .before .before .before .before .before .before .split .ensures .0) ∙ c .before .before .before .n .given .1) (omega arith) in
-    sym (length-take-le _ _ (omega (arith, room, c .before .before .before .before .before .before .before .split .kept)))
+    let split = c .before .before .before .before .before .before .before .split in
+    let room = halves-room _ _ _ _ _ _ _
+    (sym (c .before .before .before .before .before .before .before .before .before .before .before .before
+    .check-asked-log .ensures)
+    ∙ c .before .before .before .before .before .before .before .before .before .before .enum-told2 .given .1) _ _ _
+    (sym (split .ensures .0) ∙ c .before .before .before .n .given .1) (omega arith) in
+    sym (length-take-le _ _ (omega (arith, room, split .kept)))
 
 array-share-prefix-right-half : tie.Need-array-share-prefix-right-half
 array-share-prefix-right-half c =
-    let room = halves-room _ _ _ _ _ _ _ (sym (c .before .before .before .before .before .before .before .before .before .before .before .before .check-asked-log .ensures) ∙ c .before .before .before .before .before .before .before .before .before .before .enum-told2 .given .1) _ _ _ (sym (c .before .before .before .before .before .before .before .split .ensures .0) ∙ c .before .before .before .n .given .1) (omega arith) in
-    omega (arith, room, c .before .before .before .before .before .before .before .split .kept)
+    let split = c .before .before .before .before .before .before .before .split in
+    let room = halves-room _ _ _ _ _ _ _
+    (sym (c .before .before .before .before .before .before .before .before .before .before .before .before
+    .check-asked-log .ensures)
+    ∙ c .before .before .before .before .before .before .before .before .before .before .enum-told2 .given .1) _ _ _
+    (sym (split .ensures .0) ∙ c .before .before .before .n .given .1) (omega arith) in
+    omega (arith, room, split .kept)
 
 slice-aggregate-cut-2 : tie.Need-slice-aggregate-cut-2
 slice-aggregate-cut-2 c =
-    let room = halves-room _ _ _ _ _ _ _ (sym (c .before .before .before .before .before .before .before .before .before .before .before .before .before .check-asked-log .ensures) ∙ c .before .before .before .before .before .before .before .before .before .before .before .enum-told2 .given .1) _ _ _ (sym (c .before .before .before .before .before .before .before .before .split .ensures .0) ∙ c .before .before .before .before .n .given .1) (omega arith) in
-    sym (length-take-le _ _ (omega (arith, room, c .before .before .before .before .before .before .before .before .split .kept)))
+    let split = c .before .before .before .before .before .before .before .before .split in
+    let room = halves-room _ _ _ _ _ _ _
+    (sym (c .before .before .before .before .before .before .before .before .before .before .before .before .before
+    .check-asked-log .ensures)
+    ∙ c .before .before .before .before .before .before .before .before .before .before .before .enum-told2 .given .1) _
+    _ _ (sym (split .ensures .0) ∙ c .before .before .before .before .n .given .1) (omega arith) in
+    sym (length-take-le _ _ (omega (arith, room, split .kept)))
 
 cut-requires : tie.Need-cut-requires
 cut-requires c κs = search needs
@@ -79,10 +104,27 @@ same-length : tie.Need-same-length
 same-length c = search needs
 
 returns-3 : tie.Need-returns-3
-returns-3 c = by-number-divided _ _ _ _ _ _ _ (sym (c .before .before .before .before .before .before .before .before .before .before .before .before .before .before .before .before .before .before .check-asked-log .ensures) ∙ c .before .before .before .before .before .before .before .before .before .before .before .before .before .before .before .before .enum-told2 .given .1) _ _ _ _ _ (sym (c .before .before .before .before .before .before .before .before .before .before .before .before .before .split .ensures .0) ∙ c .before .before .before .before .before .before .before .before .before .n .given .1) (c .before .before .before .before .before .before .before .before .before .before .before .before .before .split .ensures .1 .0) (c .before .before .before .before .before .before .before .before .before .before .before .before .before .split .ensures .1 .1) (omega arith) _ _ _ _ _ _ (c .before .before .before .before .before .before .before .known-part .ensures) (c .before .before .before .before .cut .ensures) (c .before .before .divide .ensures .0) (c .before .before .divide .ensures .1)
+returns-3 c =
+    let split =
+    c .before .before .before .before .before .before .before .before .before .before .before .before .before .split in
+    by-number-divided _ _ _ _ _ _ _
+    (sym (c .before .before .before .before .before .before .before .before .before .before .before .before .before
+    .before .before .before .before .before .check-asked-log .ensures)
+    ∙ c .before .before .before .before .before .before .before .before .before .before .before .before .before .before
+    .before .before .enum-told2 .given .1) _ _ _ _ _ (sym (split .ensures .0)
+    ∙ c .before .before .before .before .before .before .before .before .before .n .given .1) (split .ensures .1 .0)
+    (split .ensures .1 .1) (omega arith) _ _ _ _ _ _
+    (c .before .before .before .before .before .before .before .known-part .ensures)
+    (c .before .before .before .before .cut .ensures) (c .before .before .divide .ensures .0)
+    (c .before .before .divide .ensures .1)
 
 returns-4 : tie.Need-returns-4
-returns-4 c = split-refuses _ _ _ _ _ _ _ (sym (c .before .before .before .before .before .before .before .before .before .before .check-asked-log .ensures) ∙ c .before .before .before .before .before .before .before .before .enum-told2 .given .1) _ _ _ (sym (c .before .before .before .before .before .split .ensures .0) ∙ c .before .refusal3 .given .1) (omega arith) _ _
+returns-4 c =
+    split-refuses _ _ _ _ _ _ _
+    (sym (c .before .before .before .before .before .before .before .before .before .before .check-asked-log .ensures)
+    ∙ c .before .before .before .before .before .before .before .before .enum-told2 .given .1) _ _ _
+    (sym (c .before .before .before .before .before .split .ensures .0) ∙ c .before .refusal3 .given .1) (omega arith) _
+    _
 
 pub by-number-spec : {M : Type 1} → statement M
 by-number-spec =

@@ -23,7 +23,10 @@ same-length : tie.Need-same-length
 same-length c = search needs
 
 returns : tie.Need-returns
-returns c = put-pairs _ _ _ _ (c .before .before .before .before .before .before .before .before .before .args .n) (omega (arith, c .before .before .before .before .before .before .before .before .before .pre .0)) (c .before .before .before .before .before .before .put-two .ensures) (c .before .before .put-two2 .ensures)
+returns c =
+    let s = c .before .before .before .before .before .before .before .before .before in
+    put-pairs _ _ _ _ (s .args .n) (omega (arith, s .pre .0))
+    (c .before .before .before .before .before .before .put-two .ensures) (c .before .before .put-two2 .ensures)
 
 pub put-four-spec : {M : Type 1} → statement M
 put-four-spec =

@@ -9,7 +9,8 @@ use Rattle.sheet_lines.specs.Working.{putAt}
 use Rattle.sheet_lines.proofs.Puts.{hex-none, hex-more, hex-all}
 
 abbrev Inv-loop : tie.InvT-loop
-Inv-loop out₀ at bytes i₀ out i = (out ≡ putAt out₀ at (hexadecimal (take i bytes))) × (length out ≡ length out₀) × (i ≤ length bytes)
+Inv-loop out₀ at bytes i₀ out i =
+    (out ≡ putAt out₀ at (hexadecimal (take i bytes))) × (length out ≡ length out₀) × (i ≤ length bytes)
 
 abbrev μ-loop : tie.MeasureT-loop
 μ-loop out₀ at bytes i₀ out i = length bytes - i
@@ -24,37 +25,60 @@ hex-digit-requires : tie.Need-hex-digit-requires Inv-loop μ-loop
 hex-digit-requires c κs = omega (arith, c .shared-slice-known2 .given (c .before .before .loop .i))
 
 mul-out : tie.Need-mul-out Inv-loop μ-loop
-mul-out c = omega (arith, c .before .before .before .before .before .before .pre, c .before .before .before .before .before .before .good)
+mul-out c =
+    let s = c .before .before .before .before .before .before in
+    omega (arith, s .pre, s .good)
 
 add-out : tie.Need-add-out Inv-loop μ-loop
-add-out c = omega (arith, c .before .before .before .before .before .before .pre, c .before .before .before .before .before .before .good)
+add-out c =
+    let s = c .before .before .before .before .before .before in
+    omega (arith, s .pre, s .good)
 
 slice-write-out : tie.Need-slice-write-out Inv-loop μ-loop
-slice-write-out c = omega (arith, c .before .before .before .before .before .before .pre, c .before .before .before .loop .inv .1)
+slice-write-out c =
+    omega (arith, c .before .before .before .before .before .before .pre, c .before .before .before .loop .inv .1)
 
 hex-digit-requires-2 : tie.Need-hex-digit-requires-2 Inv-loop μ-loop
 hex-digit-requires-2 c κs = omega arith
 
 mul-out-2 : tie.Need-mul-out-2 Inv-loop μ-loop
-mul-out-2 c = omega (arith, c .before .before .before .before .before .before .before .pre, c .before .before .before .before .before .before .before .good)
+mul-out-2 c =
+    let s = c .before .before .before .before .before .before .before in
+    omega (arith, s .pre, s .good)
 
 add-out-2 : tie.Need-add-out-2 Inv-loop μ-loop
-add-out-2 c = omega (arith, c .before .before .before .before .before .before .before .pre, c .before .before .before .before .before .before .before .good)
+add-out-2 c =
+    let s = c .before .before .before .before .before .before .before in
+    omega (arith, s .pre, s .good)
 
 add-out-3 : tie.Need-add-out-3 Inv-loop μ-loop
-add-out-3 c = omega (arith, c .before .before .before .before .before .before .before .pre, c .before .before .before .before .before .before .before .good)
+add-out-3 c =
+    let s = c .before .before .before .before .before .before .before in
+    omega (arith, s .pre, s .good)
 
 slice-write-out-2 : tie.Need-slice-write-out-2 Inv-loop μ-loop
-slice-write-out-2 c = simp length-set (omega (arith, c .before .before .before .before .before .before .before .pre, c .before .before .before .before .loop .inv .1))
+slice-write-out-2 c =
+    simp length-set (omega (
+      arith,
+      c .before .before .before .before .before .before .before .pre,
+      c .before .before .before .before .loop .inv .1,
+    ))
 
 add-i : tie.Need-add-i Inv-loop μ-loop
-add-i c = omega (arith, c .before .before .before .before .before .before .before .pre, c .before .before .before .before .before .before .before .good)
+add-i c =
+    let s = c .before .before .before .before .before .before .before in
+    omega (arith, s .pre, s .good)
 
 loop-less : tie.Need-loop-less Inv-loop μ-loop
 loop-less c = omega arith
 
 loop-again : tie.Need-loop-again Inv-loop μ-loop
-loop-again c = (hex-more _ _ _ _ _ _ _ (omega arith) (c .before .hex-digit .ensures) (c .hex-digit2 .ensures) (c .before .before .before .before .loop .inv .0), simp length-set (c .before .before .before .before .loop .inv .1), omega arith)
+loop-again c = (
+  hex-more _ _ _ _ _ _ _ (omega arith) (c .before .hex-digit .ensures) (c .hex-digit2 .ensures)
+      (c .before .before .before .before .loop .inv .0),
+  simp length-set (c .before .before .before .before .loop .inv .1),
+  omega arith,
+)
 
 same-length : tie.Need-same-length Inv-loop μ-loop
 same-length c = c .before .loop .inv .1

@@ -34,7 +34,12 @@ same-length : tie.Need-same-length
 same-length c = search needs
 
 returns : tie.Need-returns
-returns c = (omega arith, behind-three _ _ _ _ _ (omega (arith, length-hexadecimal (c .before .before .before .before .before .before .args .text .now))) (c .before .before .put-hexadecimal .ensures) _ _ _)
+returns c = (
+  omega arith,
+  behind-three _ _ _ _ _
+      (omega (arith, length-hexadecimal (c .before .before .before .before .before .before .args .text .now)))
+      (c .before .before .put-hexadecimal .ensures) _ _ _,
+)
 
 pub put-fields-spec : {M : Type 1} → statement M
 put-fields-spec =

@@ -26,7 +26,10 @@ same-length : tie.Need-same-length
 same-length c = search needs
 
 returns : tie.Need-returns
-returns c = half-listed _ _ _ _ (c .before .before .before .before .before .before .before .before .before .before .pre .0) _ (c .before .before .before .before .before .before .before .before .before .before .pre .1 .0) _ _ _ _ (c .before .before .before .split .ensures .1 .1) (omega arith) (c .before .before .before .before .before .before .before .before .before .before .pre .1 .1)
+returns c =
+    let s = c .before .before .before .before .before .before .before .before .before .before in
+    half-listed _ _ _ _ (s .pre .0) _ (s .pre .1 .0) _ _ _ _ (c .before .before .before .split .ensures .1 .1)
+    (omega arith) (s .pre .1 .1)
 
 pub list-half-spec : {M : Type 1} → statement M
 list-half-spec =

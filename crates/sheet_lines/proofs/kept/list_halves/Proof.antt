@@ -9,19 +9,27 @@ use Rattle.sheet_lines.proofs.Puts.{put-kept}
 use Rattle.sheet_lines.proofs.KeptTable.{listed-none, listed-more, listed-all, front-kept}
 
 abbrev Inv-loop : tie.InvT-loop
-Inv-loop k left right log n first halves₀ i₀ halves i = HalvesAt k left right log halves first i × (take (401 * first) halves ≡ take (401 * first) halves₀) × (length halves ≡ 205312) × (i ≤ n)
+Inv-loop k left right log n first halves₀ i₀ halves i =
+    HalvesAt k left right log halves first i × (take (401 * first) halves ≡ take (401 * first) halves₀)
+    × (length halves ≡ 205312) × (i ≤ n)
 
 abbrev μ-loop : tie.MeasureT-loop
 μ-loop k left right log n first halves₀ i₀ halves i = n - i
 
 loop-holds : tie.Need-loop-holds Inv-loop μ-loop
-loop-holds c = (listed-none _ _ _ _ (c .before .before .before .before .pre .0) _ _, refl, c .before .before .before .before .pre .1 .1 .2, omega arith)
+loop-holds c =
+    let s = c .before .before .before .before in
+    (listed-none _ _ _ _ (s .pre .0) _ _, refl, s .pre .1 .1 .2, omega arith)
 
 add-list-half : tie.Need-add-list-half Inv-loop μ-loop
 add-list-half c = omega (arith, c .before .before .before .before .before .before .pre .1 .1)
 
 list-half-requires : tie.Need-list-half-requires Inv-loop μ-loop
-list-half-requires c κs = (c .before .before .before .before .before .before .before .pre .0, ((omega (arith, c .before .before .before .before .before .before .before .pre .1 .0), c .before .before .before .before .before .before .before .pre .1 .0 .1), (omega (arith, c .before .before .before .before .before .before .before .pre .1 .1), c .before .before .loop .inv .2)))
+list-half-requires c κs =
+    let s = c .before .before .before .before .before .before .before in (
+      s .pre .0,
+      ((omega (arith, s .pre .1 .0), s .pre .1 .0 .1), (omega (arith, s .pre .1 .1), c .before .before .loop .inv .2)),
+    )
 
 add-i : tie.Need-add-i Inv-loop μ-loop
 add-i c = omega (arith, c .before .before .before .before .before .before .before .before .before .before .pre .1 .1)
@@ -30,13 +38,27 @@ loop-less : tie.Need-loop-less Inv-loop μ-loop
 loop-less c = omega arith
 
 loop-again : tie.Need-loop-again Inv-loop μ-loop
-loop-again c = (listed-more _ _ _ _ (c .before .before .before .before .before .before .before .before .before .before .pre .0) _ _ _ _ (omega (arith, c .before .before .before .before .before .before .before .before .before .before .pre .1 .0)) (omega (arith, c .before .before .before .before .before .before .before .before .before .before .pre .1 .1)) (c .before .before .before .before .before .loop .inv .2) (c .before .before .before .before .before .loop .inv .0) (c .before .before .list-half .ensures), front-kept _ _ _ _ (c .before .before .before .before .before .before .before .before .before .before .args .first) _ (c .before .before .list-half .ensures) (c .before .before .before .before .before .loop .inv .1) (omega arith), put-kept _ _ _ _ (c .before .before .list-half .ensures) ∙ c .before .before .before .before .before .loop .inv .2, omega arith)
+loop-again c = (
+  listed-more _ _ _ _ (c .before .before .before .before .before .before .before .before .before .before .pre .0) _ _ _
+      _ (omega (arith, c .before .before .before .before .before .before .before .before .before .before .pre .1 .0))
+      (omega (arith, c .before .before .before .before .before .before .before .before .before .before .pre .1 .1))
+      (c .before .before .before .before .before .loop .inv .2)
+      (c .before .before .before .before .before .loop .inv .0) (c .before .before .list-half .ensures),
+  front-kept _ _ _ _ (c .before .before .before .before .before .before .before .before .before .before .args .first) _
+      (c .before .before .list-half .ensures) (c .before .before .before .before .before .loop .inv .1) (omega arith),
+  put-kept _ _ _ _ (c .before .before .list-half .ensures) ∙ c .before .before .before .before .before .loop .inv .2,
+  omega arith,
+)
 
 same-length : tie.Need-same-length Inv-loop μ-loop
 same-length c = c .before .loop .inv .2 ∙ sym (c .before .before .before .before .before .before .pre .1 .1 .2)
 
 returns : tie.Need-returns Inv-loop μ-loop
-returns c = (listed-all _ _ _ _ (c .before .before .before .before .before .before .pre .0) _ _ (c .before .loop .i) _ (omega arith) (c .before .loop .inv .0), c .before .loop .inv .1)
+returns c = (
+  listed-all _ _ _ _ (c .before .before .before .before .before .before .pre .0) _ _ (c .before .loop .i) _
+      (omega arith) (c .before .loop .inv .0),
+  c .before .loop .inv .1,
+)
 
 pub list-halves-spec : {M : Type 1} → statement M
 list-halves-spec =

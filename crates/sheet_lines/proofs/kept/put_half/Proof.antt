@@ -22,43 +22,67 @@ mul-m : tie.Need-mul-m
 mul-m c = search needs
 
 mul-from : tie.Need-mul-from
-mul-from c = omega (arith, mod-lt (c .before .before .before .before .args .t) (c .before .before .before .before .pre .0 .0), c .before .before .before .before .pre .0, c .before .before .before .before .pre .1)
+mul-from c =
+    let s = c .before .before .before .before in
+    omega (arith, mod-lt (s .args .t) (s .pre .0 .0), s .pre .0, s .pre .1)
 
 add-then : tie.Need-add-then
-add-then c = omega (arith, mod-lt (c .before .before .before .before .args .t) (c .before .before .before .before .pre .0 .0), c .before .before .before .before .pre .0, c .before .before .before .before .pre .1)
+add-then c =
+    let s = c .before .before .before .before in
+    omega (arith, mod-lt (s .args .t) (s .pre .0 .0), s .pre .0, s .pre .1)
 
 mul-then : tie.Need-mul-then
-mul-then c = omega (arith, mod-lt (c .before .before .before .before .args .t) (c .before .before .before .before .pre .0 .0), c .before .before .before .before .pre .0, c .before .before .before .before .pre .1)
+mul-then c =
+    let s = c .before .before .before .before in
+    omega (arith, mod-lt (s .args .t) (s .pre .0 .0), s .pre .0, s .pre .1)
 
 add-then-2 : tie.Need-add-then-2
-add-then-2 c = omega (arith, mod-lt (c .before .before .before .before .args .t) (c .before .before .before .before .pre .0 .0), c .before .before .before .before .pre .0, c .before .before .before .before .pre .1)
+add-then-2 c =
+    let s = c .before .before .before .before in
+    omega (arith, mod-lt (s .args .t) (s .pre .0 .0), s .pre .0, s .pre .1)
 
 add-copy : tie.Need-add-copy
-add-copy c = omega (arith, mod-lt (c .before .before .before .before .args .t) (c .before .before .before .before .pre .0 .0), c .before .before .before .before .pre .0, c .before .before .before .before .pre .1)
+add-copy c =
+    let s = c .before .before .before .before in
+    omega (arith, mod-lt (s .args .t) (s .pre .0 .0), s .pre .0, s .pre .1)
 
 sub-copy : tie.Need-sub-copy
-sub-copy c = omega (arith, mod-lt (c .before .before .before .before .args .t) (c .before .before .before .before .pre .0 .0), c .before .before .before .before .pre .0, c .before .before .before .before .pre .1)
+sub-copy c =
+    let s = c .before .before .before .before in
+    omega (arith, mod-lt (s .args .t) (s .pre .0 .0), s .pre .0, s .pre .1)
 
 part-copy-start : tie.Need-part-copy-start
-part-copy-start c = omega (arith, mod-lt (c .before .before .before .before .args .t) (c .before .before .before .before .pre .0 .0), c .before .before .before .before .pre .0, c .before .before .before .before .pre .1)
+part-copy-start c =
+    let s = c .before .before .before .before in
+    omega (arith, mod-lt (s .args .t) (s .pre .0 .0), s .pre .0, s .pre .1)
 
 part-copy-end : tie.Need-part-copy-end
-part-copy-end c = omega (arith, mod-lt (c .before .before .before .before .args .t) (c .before .before .before .before .pre .0 .0), c .before .before .before .before .pre .0, c .before .before .before .before .pre .1)
+part-copy-end c =
+    let s = c .before .before .before .before in
+    omega (arith, mod-lt (s .args .t) (s .pre .0 .0), s .pre .0, s .pre .1)
 
 copy-requires : tie.Need-copy-requires
 copy-requires c κs = search needs
 
 add-copy-2 : tie.Need-add-copy-2
-add-copy-2 c = omega (arith, mod-lt (c .before .before .before .before .before .before .before .before .before .args .t) (c .before .before .before .before .before .before .before .before .before .pre .0 .0), c .before .before .before .before .before .before .before .before .before .pre .0, c .before .before .before .before .before .before .before .before .before .pre .1)
+add-copy-2 c =
+    let s = c .before .before .before .before .before .before .before .before .before in
+    omega (arith, mod-lt (s .args .t) (s .pre .0 .0), s .pre .0, s .pre .1)
 
 sub-copy-2 : tie.Need-sub-copy-2
-sub-copy-2 c = omega (arith, mod-lt (c .before .before .before .before .before .before .before .before .before .args .t) (c .before .before .before .before .before .before .before .before .before .pre .0 .0), c .before .before .before .before .before .before .before .before .before .pre .0, c .before .before .before .before .before .before .before .before .before .pre .1)
+sub-copy-2 c =
+    let s = c .before .before .before .before .before .before .before .before .before in
+    omega (arith, mod-lt (s .args .t) (s .pre .0 .0), s .pre .0, s .pre .1)
 
 part-copy-start-2 : tie.Need-part-copy-start-2
-part-copy-start-2 c = omega (arith, mod-lt (c .before .before .before .before .before .before .before .before .before .args .t) (c .before .before .before .before .before .before .before .before .before .pre .0 .0), c .before .before .before .before .before .before .before .before .before .pre .0, c .before .before .before .before .before .before .before .before .before .pre .1)
+part-copy-start-2 c =
+    let s = c .before .before .before .before .before .before .before .before .before in
+    omega (arith, mod-lt (s .args .t) (s .pre .0 .0), s .pre .0, s .pre .1)
 
 part-copy-end-2 : tie.Need-part-copy-end-2
-part-copy-end-2 c = omega (arith, mod-lt (c .before .before .before .before .before .before .before .before .before .args .t) (c .before .before .before .before .before .before .before .before .before .pre .0 .0), c .before .before .before .before .before .before .before .before .before .pre .0, c .before .before .before .before .before .before .before .before .before .pre .1)
+part-copy-end-2 c =
+    let s = c .before .before .before .before .before .before .before .before .before in
+    omega (arith, mod-lt (s .args .t) (s .pre .0 .0), s .pre .0, s .pre .1)
 
 sub-copy-3 : tie.Need-sub-copy-3
 sub-copy-3 c = search needs
@@ -79,7 +103,16 @@ same-length : tie.Need-same-length
 same-length c = search needs
 
 returns : tie.Need-returns
-returns c = (omega arith, half-put (c .before .before .before .before .before .before .before .before .before .before .before .before .before .before .args .halves .now) (c .before .before .before .before .before .before .before .before .before .before .before .before .before .before .args .half .now) _ _ (401 * (c .before .before .before .before .before .before .before .before .before .before .before .before .before .before .args .t / c .before .before .before .before .before .before .before .before .before .before .before .before .before .before .args .kept .ways)) (2 * c .before .before .before .before .before .before .before .before .before .before .before .before .before .before .args .kept .older + 1) (401 * (256 + c .before .before .before .before .before .before .before .before .before .before .before .before .before .before .args .t % c .before .before .before .before .before .before .before .before .before .before .before .before .before .before .args .kept .ways) + 1) (2 * c .before .before .before .before .before .before .before .before .before .before .before .before .before .before .args .kept .newer) (c .before .before .before .before .before .before .before .copy .ensures .1) (c .before .before .copy2 .ensures .1) (omega (arith, c .before .before .before .before .before .before .before .before .before .before .before .before .before .before .pre .0, c .before .before .before .before .before .before .before .before .before .before .before .before .before .before .pre .1)) (omega (arith, mod-lt (c .before .before .before .before .before .before .before .before .before .before .before .before .before .before .args .t) (c .before .before .before .before .before .before .before .before .before .before .before .before .before .before .pre .0 .0), c .before .before .before .before .before .before .before .before .before .before .before .before .before .before .pre .0, c .before .before .before .before .before .before .before .before .before .before .before .before .before .before .pre .1)) (omega (arith, c .before .before .before .before .before .before .before .before .before .before .before .before .before .before .pre .1)))
+returns c =
+    let s = c .before .before .before .before .before .before .before .before .before .before .before .before .before
+    .before in (
+      omega arith,
+      half-put (s .args .halves .now) (s .args .half .now) _ _ (401 * (s .args .t / s .args .kept .ways))
+          (2 * s .args .kept .older + 1) (401 * (256 + s .args .t % s .args .kept .ways) + 1) (2 * s .args .kept .newer)
+          (c .before .before .before .before .before .before .before .copy .ensures .1)
+          (c .before .before .copy2 .ensures .1) (omega (arith, s .pre .0, s .pre .1))
+          (omega (arith, mod-lt (s .args .t) (s .pre .0 .0), s .pre .0, s .pre .1)) (omega (arith, s .pre .1)),
+    )
 
 pub put-half-spec : {M : Type 1} → statement M
 put-half-spec =

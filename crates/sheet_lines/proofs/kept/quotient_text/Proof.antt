@@ -19,13 +19,40 @@ slice-aggregate-put-half : tie.Need-slice-aggregate-put-half
 slice-aggregate-put-half c = search needs
 
 put-half-requires : tie.Need-put-half-requires
-put-half-requires c κs = (kept-numbers _ _ _ _ (c .before .before .before .before .before .before .before .before .before .pre .0 .log) _ (c .before .before .before .before .before .before .before .before .before .pre .1 .0 .0) _ _ (kept-parts _ _ _ _ _ _ (c .before .before .before .before .before .before .before .before .before .pre .1 .1 .0) (c .before .if1 .left)), (kept-steps _ _ _ _ (c .before .before .before .before .before .before .before .before .before .pre .0 .log) _ (c .before .before .before .before .before .before .before .before .before .pre .1 .0 .0) _ _ (kept-parts _ _ _ _ _ _ (c .before .before .before .before .before .before .before .before .before .pre .1 .1 .0) (c .before .if1 .left)), c .before .before .before .before .before .before .before .before .before .pre .1 .1 .0 .size, omega arith))
+put-half-requires c κs =
+    let s = c .before .before .before .before .before .before .before .before .before in (
+      kept-numbers _ _ _ _ (s .pre .0 .log) _ (s .pre .1 .0 .0) _ _
+          (kept-parts _ _ _ _ _ _ (s .pre .1 .1 .0) (c .before .if1 .left)),
+      (
+        kept-steps _ _ _ _ (s .pre .0 .log) _ (s .pre .1 .0 .0) _ _
+            (kept-parts _ _ _ _ _ _ (s .pre .1 .1 .0) (c .before .if1 .left)),
+        s .pre .1 .1 .0 .size,
+        omega arith,
+      ),
+    )
 
 array-share-prefix-half : tie.Need-array-share-prefix-half
-array-share-prefix-half c = omega (arith, kept-steps _ _ _ _ (c .before .before .before .before .before .before .before .before .before .before .before .pre .0 .log) _ (c .before .before .before .before .before .before .before .before .before .before .before .pre .1 .0 .0) _ _ (kept-parts _ _ _ _ _ _ (c .before .before .before .before .before .before .before .before .before .before .before .pre .1 .1 .0) (c .before .before .before .if1 .left)), c .before .put-half .ensures .0, c .before .put-half .kept)
+array-share-prefix-half c =
+    let s = c .before .before .before .before .before .before .before .before .before .before .before in
+    omega (
+      arith,
+      kept-steps _ _ _ _ (s .pre .0 .log) _ (s .pre .1 .0 .0) _ _
+          (kept-parts _ _ _ _ _ _ (s .pre .1 .1 .0) (c .before .before .before .if1 .left)),
+      c .before .put-half .ensures .0,
+      c .before .put-half .kept,
+    )
 
 slice-aggregate-divide : tie.Need-slice-aggregate-divide
-slice-aggregate-divide c = sym (length-take-le _ _ (omega (arith, kept-steps _ _ _ _ (c .before .before .before .before .before .before .before .before .before .before .before .before .pre .0 .log) _ (c .before .before .before .before .before .before .before .before .before .before .before .before .pre .1 .0 .0) _ _ (kept-parts _ _ _ _ _ _ (c .before .before .before .before .before .before .before .before .before .before .before .before .pre .1 .1 .0) (c .before .before .before .before .if1 .left)), c .before .before .put-half .ensures .0, c .before .before .put-half .kept)))
+slice-aggregate-divide c =
+    let s = c .before .before .before .before .before .before .before .before .before .before .before .before in
+    sym (length-take-le _ _
+    (omega (
+      arith,
+      kept-steps _ _ _ _ (s .pre .0 .log) _ (s .pre .1 .0 .0) _ _
+          (kept-parts _ _ _ _ _ _ (s .pre .1 .1 .0) (c .before .before .before .before .if1 .left)),
+      c .before .before .put-half .ensures .0,
+      c .before .before .put-half .kept,
+    )))
 
 divide-requires : tie.Need-divide-requires
 divide-requires c κs = search needs
@@ -34,7 +61,14 @@ same-length-2 : tie.Need-same-length-2
 same-length-2 c = search needs
 
 returns-2 : tie.Need-returns-2
-returns-2 c = kept-quotient _ _ _ _ _ (c .before .before .before .before .before .before .before .before .before .before .before .before .before .before .before .before .pre .0) _ (c .before .before .before .before .before .before .before .before .before .before .before .before .before .before .before .before .pre .1 .0 .0) (c .before .before .before .before .before .before .before .before .before .before .before .before .before .before .before .before .pre .1 .0 .1) _ _ _ _ (c .before .before .before .before .before .before .put-half .ensures .1 ∙ half-together _ _ _ _ (c .before .before .before .before .before .before .before .before .before .before .before .before .before .before .before .before .pre .0 .log) _ (c .before .before .before .before .before .before .before .before .before .before .before .before .before .before .before .before .pre .1 .0 .0) _ _ (kept-parts _ _ _ _ _ _ (c .before .before .before .before .before .before .before .before .before .before .before .before .before .before .before .before .pre .1 .1 .0) (c .before .before .before .before .before .before .before .before .if1 .left))) (c .before .before .divide .ensures .0) (c .before .before .divide .ensures .1)
+returns-2 c =
+    let c1 = c .before .before in
+    let c2 = c1 .before .before .before .before in
+    let s = c2 .before .before .before .before .before .before .before .before .before .before in
+    kept-quotient _ _ _ _ _ (s .pre .0) _ (s .pre .1 .0 .0) (s .pre .1 .0 .1) _ _ _ _
+    (c2 .put-half .ensures .1 ∙ half-together _ _ _ _ (s .pre .0 .log) _ (s .pre .1 .0 .0) _ _
+    (kept-parts _ _ _ _ _ _ (s .pre .1 .1 .0) (c2 .before .before .if1 .left))) (c1 .divide .ensures .0)
+    (c1 .divide .ensures .1)
 
 pub quotient-text-spec : {M : Type 1} → statement M
 quotient-text-spec =

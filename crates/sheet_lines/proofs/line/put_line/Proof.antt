@@ -28,7 +28,11 @@ same-length : tie.Need-same-length
 same-length c = search needs
 
 returns : tie.Need-returns
-returns c = let s = c .before .before .before .before .before .before in ap (λ o. set o (s .args .at + s .args .place) (s .args .digit)) (rest-copied (s .args .out .now) (s .args .line .now) _ _ (s .pre .0) (c .before .before .copy .ensures .1)) ∙ put-set (s .args .out .now) _ _ _ (s .args .line .now) (s .pre .1)
+returns c =
+    let s = c .before .before .before .before .before .before in
+    ap (λ o. set o (s .args .at + s .args .place) (s .args .digit))
+    (rest-copied (s .args .out .now) (s .args .line .now) _ _ (s .pre .0) (c .before .before .copy .ensures .1))
+    ∙ put-set (s .args .out .now) _ _ _ (s .args .line .now) (s .pre .1)
 
 pub put-line-spec : {M : Type 1} → statement M
 put-line-spec =

@@ -21,16 +21,36 @@ cast-put-decimal : tie.Need-cast-put-decimal
 cast-put-decimal c = search needs
 
 put-decimal-requires : tie.Need-put-decimal-requires
-put-decimal-requires c κs = simp length-set (omega (arith, c .before .before .before .pre, length-refused (c .before .before .before .args .refusal), ap (λ n. length (decimal n)) (c .number .ensures)))
+put-decimal-requires c κs =
+    let s = c .before .before .before in
+    simp length-set (omega
+    (arith, s .pre, length-refused (s .args .refusal), ap (λ n. length (decimal n)) (c .number .ensures)))
 
 slice-write-out-3 : tie.Need-slice-write-out-3
-slice-write-out-3 c = omega (arith, c .before .before .before .before .before .before .pre, length-refused (c .before .before .before .before .before .before .args .refusal), ap (λ n. length (decimal n)) (c .before .before .before .number .ensures), c .before .before .put-decimal .ensures .0, put-set-kept (set (c .before .before .before .before .before .before .args .out .now) 0 82) (c .before .before .put-decimal .last .0) 1 32 2 _ (c .before .before .put-decimal .ensures .1), length-set (c .before .before .before .before .before .before .args .out .now) 0 82)
+slice-write-out-3 c =
+    let s = c .before .before .before .before .before .before in
+    omega (
+      arith,
+      s .pre,
+      length-refused (s .args .refusal),
+      ap (λ n. length (decimal n)) (c .before .before .before .number .ensures),
+      c .before .before .put-decimal .ensures .0,
+      put-set-kept (set (s .args .out .now) 0 82) (c .before .before .put-decimal .last .0) 1 32 2 _
+          (c .before .before .put-decimal .ensures .1),
+      length-set (s .args .out .now) 0 82,
+    )
 
 same-length : tie.Need-same-length
-same-length c = simp length-set (put-set-kept (set (c .before .before .before .before .before .before .args .out .now) 0 82) (c .before .before .put-decimal .last .0) 1 32 2 _ (c .before .before .put-decimal .ensures .1) ∙ length-set (c .before .before .before .before .before .before .args .out .now) 0 82)
+same-length c =
+    let s = c .before .before .before .before .before .before in
+    simp length-set (put-set-kept (set (s .args .out .now) 0 82) (c .before .before .put-decimal .last .0) 1 32 2 _
+    (c .before .before .put-decimal .ensures .1)
+    ∙ length-set (s .args .out .now) 0 82)
 
 returns : tie.Need-returns
-returns c = refused-put _ _ _ _ _ (c .before .before .before .number .ensures) (c .before .before .put-decimal .ensures .0) (c .before .before .put-decimal .ensures .1)
+returns c =
+    refused-put _ _ _ _ _ (c .before .before .before .number .ensures) (c .before .before .put-decimal .ensures .0)
+    (c .before .before .put-decimal .ensures .1)
 
 pub put-refused-spec : {M : Type 1} → statement M
 put-refused-spec =

@@ -20,7 +20,13 @@ add-result : tie.Need-add-result
 add-result c = search needs
 
 returns : tie.Need-returns
-returns c = omega (arith, length-refused (c .before .before .args .refusal), c .digit-count .ensures .0, ap (λ n. length (decimal n)) (c .before .number .ensures))
+returns c =
+    omega (
+      arith,
+      length-refused (c .before .before .args .refusal),
+      c .digit-count .ensures .0,
+      ap (λ n. length (decimal n)) (c .before .number .ensures),
+    )
 
 pub refused-length-spec : {M : Type 1} → statement M
 refused-length-spec =

@@ -33,10 +33,20 @@ loop-less : tie.Need-loop-less Inv-loop μ-loop
 loop-less c = omega arith
 
 loop-again : tie.Need-loop-again Inv-loop μ-loop
-loop-again c = (forgotten-more _ _ (c .before .loop .inv .0) (omega (arith, c .before .loop .inv .1, c .before .before .smaller .ensures)), length-set (c .before .loop .ends) (c .before .loop .i) 0 ∙ c .before .loop .inv .1, omega arith)
+loop-again c = (
+  forgotten-more _ _ (c .before .loop .inv .0)
+      (omega (arith, c .before .loop .inv .1, c .before .before .smaller .ensures)),
+  length-set (c .before .loop .ends) (c .before .loop .i) 0 ∙ c .before .loop .inv .1,
+  omega arith,
+)
 
 returns : tie.Need-returns Inv-loop μ-loop
-returns c = (forgotten-all (c .before .loop .ends) (c .before .loop .i) _ (c .before .loop .inv .0) (forgotten-enough (c .before .loop .ends) _ _ (c .before .loop .inv .1) (omega (arith, c .before .before .smaller .ensures))), c .before .loop .inv .1)
+returns c = (
+  forgotten-all (c .before .loop .ends) (c .before .loop .i) _ (c .before .loop .inv .0)
+      (forgotten-enough (c .before .loop .ends) _ _ (c .before .loop .inv .1)
+      (omega (arith, c .before .before .smaller .ensures))),
+  c .before .loop .inv .1,
+)
 
 pub forget-spec : {M : Type 1} → statement M
 forget-spec =

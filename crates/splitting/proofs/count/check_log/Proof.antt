@@ -18,10 +18,13 @@ enum-known-refusal : tie.Need-enum-known-refusal
 enum-known-refusal c = search needs
 
 returns : tie.Need-returns
-returns c = pairs-sound _ _ _ _ (sym (c .before .before .before .check-pairs .ensures) ∙ c .before .enum-told .given .1) _ (c .check-joint .ensures)
+returns c =
+    pairs-sound _ _ _ _ (sym (c .before .before .before .check-pairs .ensures) ∙ c .before .enum-told .given .1) _
+    (c .check-joint .ensures)
 
 returns-2 : tie.Need-returns-2
-returns-2 c = pairs-refused _ _ _ _ _ (sym (c .before .before .before .check-pairs .ensures) ∙ c .before .refusal .given .1)
+returns-2 c =
+    pairs-refused _ _ _ _ _ (sym (c .before .before .before .check-pairs .ensures) ∙ c .before .refusal .given .1)
 
 pub check-log-spec : {M : Type 1} → statement M
 check-log-spec =

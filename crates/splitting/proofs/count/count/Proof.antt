@@ -19,13 +19,19 @@ returns : tie.Need-returns
 returns c = log-refused _ _ _ _ _ (sym (c .before .before .before .check-log .ensures) ∙ c .before .refusal .given .1)
 
 count-splittings-requires : tie.Need-count-splittings-requires
-count-splittings-requires c κs = sound-ready _ _ _ _ (sym (c .before .before .check-log .ensures) ∙ c .enum-told .given .1)
+count-splittings-requires c κs =
+    sound-ready _ _ _ _ (sym (c .before .before .check-log .ensures) ∙ c .enum-told .given .1)
 
 returns-2 : tie.Need-returns-2
-returns-2 c = too-many _ _ _ _ (sym (c .before .before .before .before .check-log .ensures) ∙ c .before .before .enum-told .given .1) _ (c .before .count-splittings .ensures) (c .if1 .taken)
+returns-2 c =
+    too-many _ _ _ _ (sym (c .before .before .before .before .check-log .ensures)
+    ∙ c .before .before .enum-told .given .1) _ (c .before .count-splittings .ensures) (c .if1 .taken)
 
 returns-3 : tie.Need-returns-3
-returns-3 c = few-enough _ _ _ _ (sym (c .before .before .before .before .check-log .ensures) ∙ c .before .before .enum-told .given .1) _ (c .before .count-splittings .ensures) (c .if1 .left)
+returns-3 c =
+    few-enough _ _ _ _
+    (sym (c .before .before .before .before .check-log .ensures) ∙ c .before .before .enum-told .given .1) _
+    (c .before .count-splittings .ensures) (c .if1 .left)
 
 pub count-spec : {M : Type 1} → statement M
 count-spec =

@@ -12,13 +12,16 @@ enum-known-splittings : tie.Need-enum-known-splittings
 enum-known-splittings c = search needs
 
 returns : tie.Need-returns
-returns c = number-refused _ _ _ _ _ _ _ _ (sym (c .before .before .before .before .count .ensures) ∙ c .before .before .splittings .given .1) (c .if1 .taken)
+returns c =
+    number-refused _ _ _ _ _ _ _ _
+    (sym (c .before .before .before .before .count .ensures) ∙ c .before .before .splittings .given .1) (c .if1 .taken)
 
 enum-known-refusal : tie.Need-enum-known-refusal
 enum-known-refusal c = search needs
 
 returns-2 : tie.Need-returns-2
-returns-2 c = count-refuses _ _ _ _ _ _ _ _ (sym (c .before .before .before .count .ensures) ∙ c .before .refusal .given .1)
+returns-2 c =
+    count-refuses _ _ _ _ _ _ _ _ (sym (c .before .before .before .count .ensures) ∙ c .before .refusal .given .1)
 
 mul-len : tie.Need-mul-len
 mul-len c = search needs
@@ -27,13 +30,24 @@ add-len : tie.Need-add-len
 add-len c = search needs
 
 returns-3 : tie.Need-returns-3
-returns-3 c = left-short _ _ _ _ _ _ _ _ (sym (c .before .before .before .before .before .count .ensures) ∙ c .before .before .before .splittings .given .1) (c .before .if1 .left) (c .if2 .taken)
+returns-3 c =
+    left-short _ _ _ _ _ _ _ _
+    (sym (c .before .before .before .before .before .count .ensures) ∙ c .before .before .before .splittings .given .1)
+    (c .before .if1 .left) (c .if2 .taken)
 
 returns-4 : tie.Need-returns-4
-returns-4 c = right-short _ _ _ _ _ _ _ _ (sym (c .before .before .before .before .before .before .count .ensures) ∙ c .before .before .before .before .splittings .given .1) (c .before .before .if1 .left) (c .before .if2 .left) (c .if3 .taken)
+returns-4 c =
+    right-short _ _ _ _ _ _ _ _
+    (sym (c .before .before .before .before .before .before .count .ensures)
+    ∙ c .before .before .before .before .splittings .given .1) (c .before .before .if1 .left) (c .before .if2 .left)
+    (c .if3 .taken)
 
 returns-5 : tie.Need-returns-5
-returns-5 c = split-sound _ _ _ _ _ _ _ _ (sym (c .before .before .before .before .before .before .count .ensures) ∙ c .before .before .before .before .splittings .given .1) (c .before .before .if1 .left) (c .before .if2 .left) (c .if3 .left)
+returns-5 c =
+    split-sound _ _ _ _ _ _ _ _
+    (sym (c .before .before .before .before .before .before .count .ensures)
+    ∙ c .before .before .before .before .splittings .given .1) (c .before .before .if1 .left) (c .before .if2 .left)
+    (c .if3 .left)
 
 pub check-split-spec : {M : Type 1} → statement M
 check-split-spec =

@@ -15,7 +15,8 @@ enum-known-refusal : tie.Need-enum-known-refusal
 enum-known-refusal c = search needs
 
 returns : tie.Need-returns
-returns c = split-refused _ _ _ _ _ _ _ _ (sym (c .before .before .before .check-split .ensures) ∙ c .before .refusal .given .1)
+returns c =
+    split-refused _ _ _ _ _ _ _ _ (sym (c .before .before .before .check-split .ensures) ∙ c .before .refusal .given .1)
 
 write-halves-requires : tie.Need-write-halves-requires
 write-halves-requires c κs =
@@ -35,7 +36,11 @@ same-length-2 : tie.Need-same-length-2
 same-length-2 c = search needs
 
 returns-2 : tie.Need-returns-2
-returns-2 c = split-answered _ _ _ _ _ _ _ (sym (c .before .before .before .before .before .before .before .before .before .check-split .ensures) ∙ c .before .before .before .before .before .before .before .enum-told .given .1) _ _ (c .before .before .before .before .write-halves .ensures .0) (c .before .before .before .before .write-halves .ensures .1)
+returns-2 c =
+    let c1 = c .before .before .before .before in
+    split-answered _ _ _ _ _ _ _
+    (sym (c1 .before .before .before .before .before .check-split .ensures)
+    ∙ c1 .before .before .before .enum-told .given .1) _ _ (c1 .write-halves .ensures .0) (c1 .write-halves .ensures .1)
 
 pub split-spec : {M : Type 1} → statement M
 split-spec =

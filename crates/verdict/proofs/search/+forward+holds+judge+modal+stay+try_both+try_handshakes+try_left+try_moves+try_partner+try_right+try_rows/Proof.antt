@@ -24,8 +24,12 @@ use Rattle.verdict.proofs.search.try_right.Reads as try-right
 use Rattle.verdict.proofs.search.+forward+holds+judge+modal+stay+try_both+try_handshakes+try_left+try_moves+try_partner+try_right+try_rows.Lts-try_right as try-right-lts
 use Rattle.verdict.proofs.search.try_rows.Reads as try-rows
 use Rattle.verdict.proofs.search.+forward+holds+judge+modal+stay+try_both+try_handshakes+try_left+try_moves+try_partner+try_right+try_rows.Lts-try_rows as try-rows-lts
-use Rattle.verdict.proofs.search.+forward+holds+judge+modal+stay+try_both+try_handshakes+try_left+try_moves+try_partner+try_right+try_rows.{statement}
-use Rattle.verdict.proofs.search.+forward+holds+judge+modal+stay+try_both+try_handshakes+try_left+try_moves+try_partner+try_right+try_rows.Tie.{close}
+use Rattle.verdict.proofs.search.+forward+holds+judge+modal+stay+try_both+try_handshakes+try_left+try_moves+try_partner+try_right+try_rows.{
+  statement,
+}
+use Rattle.verdict.proofs.search.+forward+holds+judge+modal+stay+try_both+try_handshakes+try_left+try_moves+try_partner+try_right+try_rows.Tie.{
+  close,
+}
 use Rattle.verdict.proofs.search.+forward+holds+judge+modal+stay+try_both+try_handshakes+try_left+try_moves+try_partner+try_right+try_rows.Proof.Measures.{
   μ-forward,
   μ-holds,

@@ -10,10 +10,12 @@ use Rattle.hml.specs.Labels.{positive}
 use Rattle.labels.specs.Working.{pairing}
 use Rattle.labels.proofs.Slices.{rest-fewer}
 use Rattle.tables.specs.Working.{movesIn}
-use Rattle.ways.proofs.RowWays.{Seeking, seeking-start, seeking-miss, seeking-hit, seeking-end, seeking-found, no-handshake-chosen}
+use Rattle.ways.proofs.RowWays.{Seeking, seeking-start, seeking-miss, seeking-hit, seeking-end, seeking-found}
+use Rattle.ways.proofs.RowWays.{no-handshake-chosen}
 
 abbrev Inv-loop : tie.InvT-loop
-Inv-loop labels left right n after still rows₀ passed₀ rows passed = Seeking (pairing labels) (movesIn right) after left n rows passed
+Inv-loop labels left right n after still rows₀ passed₀ rows passed =
+    Seeking (pairing labels) (movesIn right) after left n rows passed
 
 abbrev μ-loop : tie.MeasureT-loop
 μ-loop labels left right n after still rows₀ passed₀ rows passed = length rows
@@ -49,28 +51,46 @@ enum-known-answer : tie.Need-enum-known-answer Inv-loop μ-loop
 enum-known-answer c = search needs
 
 returns-2 : tie.Need-returns-2 Inv-loop μ-loop
-returns-2 c = seeking-found _ _ _ _ (sym (c .before .before .before .before .before .before .before .before .before .before .before .is-silent .ensures) ∙ not-false _ (c .before .before .before .before .before .before .before .before .before .before .if1 .left)) _ _ _ (c .before .before .before .before .before .before .before .before .before .loop .inv) (c .before .before .before .before .before .before .before .before .loop-test .taken) _ (sym (c .before .before .answer .given .1) ∙ c .before .before .before .before .before .before .before .first-answer .ensures) (c .if2 .taken)
+returns-2 c =
+    let c1 = c .before .before .before .before .before .before .before in
+    seeking-found _ _ _ _
+    (sym (c1 .before .before .before .before .is-silent .ensures) ∙ not-false _ (c1 .before .before .before .if1 .left))
+    _ _ _ (c1 .before .before .loop .inv) (c1 .before .loop-test .taken) _
+    (sym (c .before .before .answer .given .1) ∙ c1 .first-answer .ensures) (c .if2 .taken)
 
 sub-passed : tie.Need-sub-passed Inv-loop μ-loop
 sub-passed c = omega (arith, positive _ (c .if2 .left))
 
 loop-less : tie.Need-loop-less Inv-loop μ-loop
-loop-less c = rest-fewer 3 (c .before .before .before .before .before .before .before .before .before .loop .rows .now) (omega arith) (c .before .before .before .before .before .before .before .before .loop-test .taken)
+loop-less c =
+    rest-fewer 3 (c .before .before .before .before .before .before .before .before .before .loop .rows .now)
+    (omega arith) (c .before .before .before .before .before .before .before .before .loop-test .taken)
 
 loop-again : tie.Need-loop-again Inv-loop μ-loop
-loop-again c = seeking-hit _ _ _ _ _ (c .before .before .before .before .before .before .before .before .loop-test .taken) _ _ (c .before .before .before .before .before .before .before .before .before .loop .inv) _ (sym (c .before .before .answer .given .1) ∙ c .before .before .before .before .before .before .before .first-answer .ensures) (c .if2 .left)
+loop-again c =
+    let c1 = c .before .before .before .before .before .before .before in
+    seeking-hit _ _ _ _ _ (c1 .before .loop-test .taken) _ _ (c1 .before .before .loop .inv) _
+    (sym (c .before .before .answer .given .1) ∙ c1 .first-answer .ensures) (c .if2 .left)
 
 enum-told : tie.Need-enum-told Inv-loop μ-loop
 enum-told c = search needs
 
 loop-less-2 : tie.Need-loop-less-2 Inv-loop μ-loop
-loop-less-2 c = rest-fewer 3 (c .before .before .before .before .before .before .before .loop .rows .now) (omega arith) (c .before .before .before .before .before .before .loop-test .taken)
+loop-less-2 c =
+    rest-fewer 3 (c .before .before .before .before .before .before .before .loop .rows .now) (omega arith)
+    (c .before .before .before .before .before .before .loop-test .taken)
 
 loop-again-2 : tie.Need-loop-again-2 Inv-loop μ-loop
-loop-again-2 c = seeking-miss _ _ _ _ _ (c .before .before .before .before .before .before .loop-test .taken) _ _ (c .before .before .before .before .before .before .before .loop .inv) (sym (c .enum-told .given .1) ∙ c .before .before .before .before .before .first-answer .ensures)
+loop-again-2 c =
+    let c1 = c .before .before .before .before .before in
+    seeking-miss _ _ _ _ _ (c1 .before .loop-test .taken) _ _ (c1 .before .before .loop .inv)
+    (sym (c .enum-told .given .1) ∙ c1 .first-answer .ensures)
 
 returns-3 : tie.Need-returns-3 Inv-loop μ-loop
-returns-3 c = seeking-end _ _ _ _ (sym (c .before .before .before .is-silent .ensures) ∙ not-false _ (c .before .before .if1 .left)) _ _ _ (c .before .loop .inv) (c .loop-test .left)
+returns-3 c =
+    seeking-end _ _ _ _
+    (sym (c .before .before .before .is-silent .ensures) ∙ not-false _ (c .before .before .if1 .left)) _ _ _
+    (c .before .loop .inv) (c .loop-test .left)
 
 pub nth-handshake-spec : {M : Type 1} → statement M
 nth-handshake-spec =

@@ -19,10 +19,16 @@ nth-right-way-requires : tie.Need-nth-right-way-requires
 nth-right-way-requires c κs = search needs
 
 returns-2 : tie.Need-returns-2
-returns-2 c = no-left-chosen _ _ _ _ (sym (c .before .before .before .before .is-idle .ensures) ∙ c .before .before .before .if1 .left) _ (sym (c .before .before .moves-alone .ensures) ∙ not-true _ (c .before .if2 .taken)) (c .nth-right-way .ensures)
+returns-2 c =
+    no-left-chosen _ _ _ _
+    (sym (c .before .before .before .before .is-idle .ensures) ∙ c .before .before .before .if1 .left) _
+    (sym (c .before .before .moves-alone .ensures) ∙ not-true _ (c .before .if2 .taken)) (c .nth-right-way .ensures)
 
 returns-3 : tie.Need-returns-3
-returns-3 c = left-chosen _ _ _ _ (sym (c .before .before .before .before .is-idle .ensures) ∙ c .before .before .before .if1 .left) _ (sym (c .before .before .moves-alone .ensures) ∙ not-false _ (c .before .if2 .left)) (c .if3 .taken)
+returns-3 c =
+    left-chosen _ _ _ _
+    (sym (c .before .before .before .before .is-idle .ensures) ∙ c .before .before .before .if1 .left) _
+    (sym (c .before .before .moves-alone .ensures) ∙ not-false _ (c .before .if2 .left)) (c .if3 .taken)
 
 sub-nth-right-way : tie.Need-sub-nth-right-way
 sub-nth-right-way c = search needs
@@ -31,7 +37,11 @@ nth-right-way-requires-2 : tie.Need-nth-right-way-requires-2
 nth-right-way-requires-2 c κs = search needs
 
 returns-4 : tie.Need-returns-4
-returns-4 c = left-passed _ _ _ _ (sym (c .before .before .before .before .before .is-idle .ensures) ∙ c .before .before .before .before .if1 .left) _ (sym (c .before .before .before .moves-alone .ensures) ∙ not-false _ (c .before .before .if2 .left)) (c .before .if3 .left) (c .nth-right-way2 .ensures)
+returns-4 c =
+    left-passed _ _ _ _
+    (sym (c .before .before .before .before .before .is-idle .ensures) ∙ c .before .before .before .before .if1 .left) _
+    (sym (c .before .before .before .moves-alone .ensures) ∙ not-false _ (c .before .before .if2 .left))
+    (c .before .if3 .left) (c .nth-right-way2 .ensures)
 
 pub nth-way-spec : {M : Type 1} → statement M
 nth-way-spec =

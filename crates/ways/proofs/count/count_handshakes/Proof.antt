@@ -9,7 +9,8 @@ use borrow.Author.Tests.{not-true, not-false}
 use Rattle.labels.specs.Working.{pairing}
 use Rattle.labels.proofs.Slices.{rest-fewer}
 use Rattle.tables.specs.Working.{movesIn}
-use Rattle.ways.proofs.RowWays.{Counting, counting-start, counting-miss, counting-hit, counting-end, counting-few, no-handshake-counted}
+use Rattle.ways.proofs.RowWays.{Counting, counting-start, counting-miss, counting-hit, counting-end}
+use Rattle.ways.proofs.RowWays.{counting-few, no-handshake-counted}
 
 abbrev Inv-loop : tie.InvT-loop
 Inv-loop labels left right after rows₀ ways₀ rows ways = Counting (pairing labels) (movesIn right) after left rows ways
@@ -42,25 +43,43 @@ enum-told : tie.Need-enum-told Inv-loop μ-loop
 enum-told c = search needs
 
 add-ways : tie.Need-add-ways Inv-loop μ-loop
-add-ways c = omega (arith, counting-few _ _ _ _ _ _ (c .before .before .before .before .before .loop .inv), c .before .before .before .before .before .before .before .before .before .before .before .before .good)
+add-ways c =
+    omega (
+      arith,
+      counting-few _ _ _ _ _ _ (c .before .before .before .before .before .loop .inv),
+      c .before .before .before .before .before .before .before .before .before .before .before .before .good,
+    )
 
 loop-less : tie.Need-loop-less Inv-loop μ-loop
-loop-less c = rest-fewer 3 (c .before .before .before .before .before .loop .rows .now) (omega arith) (c .before .before .before .before .loop-test .taken)
+loop-less c =
+    rest-fewer 3 (c .before .before .before .before .before .loop .rows .now) (omega arith)
+    (c .before .before .before .before .loop-test .taken)
 
 loop-again : tie.Need-loop-again Inv-loop μ-loop
-loop-again c = counting-hit _ _ _ _ _ (c .before .before .before .before .loop-test .taken) _ (c .before .before .before .before .before .loop .inv) _ (sym (c .enum-told .given .1) ∙ c .before .before .before .first-answer .ensures)
+loop-again c =
+    counting-hit _ _ _ _ _ (c .before .before .before .before .loop-test .taken) _
+    (c .before .before .before .before .before .loop .inv) _
+    (sym (c .enum-told .given .1) ∙ c .before .before .before .first-answer .ensures)
 
 enum-told-2 : tie.Need-enum-told-2 Inv-loop μ-loop
 enum-told-2 c = search needs
 
 loop-less-2 : tie.Need-loop-less-2 Inv-loop μ-loop
-loop-less-2 c = rest-fewer 3 (c .before .before .before .before .before .loop .rows .now) (omega arith) (c .before .before .before .before .loop-test .taken)
+loop-less-2 c =
+    rest-fewer 3 (c .before .before .before .before .before .loop .rows .now) (omega arith)
+    (c .before .before .before .before .loop-test .taken)
 
 loop-again-2 : tie.Need-loop-again-2 Inv-loop μ-loop
-loop-again-2 c = counting-miss _ _ _ _ _ (c .before .before .before .before .loop-test .taken) _ (c .before .before .before .before .before .loop .inv) (sym (c .enum-told2 .given .1) ∙ c .before .before .before .first-answer .ensures)
+loop-again-2 c =
+    counting-miss _ _ _ _ _ (c .before .before .before .before .loop-test .taken) _
+    (c .before .before .before .before .before .loop .inv)
+    (sym (c .enum-told2 .given .1) ∙ c .before .before .before .first-answer .ensures)
 
 returns-2 : tie.Need-returns-2 Inv-loop μ-loop
-returns-2 c = counting-end _ _ _ _ (sym (c .before .before .before .is-silent .ensures) ∙ not-false _ (c .before .before .if1 .left)) _ _ (c .before .loop .inv) (c .loop-test .left)
+returns-2 c =
+    counting-end _ _ _ _
+    (sym (c .before .before .before .is-silent .ensures) ∙ not-false _ (c .before .before .if1 .left)) _ _
+    (c .before .loop .inv) (c .loop-test .left)
 
 pub count-handshakes-spec : {M : Type 1} → statement M
 count-handshakes-spec =

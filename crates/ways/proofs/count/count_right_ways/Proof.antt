@@ -15,16 +15,27 @@ count-handshakes-requires : tie.Need-count-handshakes-requires
 count-handshakes-requires c κs = search needs
 
 add-result : tie.Need-add-result
-add-result c = omega (arith, c .count-handshakes .ensures, handshakes-bytes (pairing (c .before .before .before .before .before .before .before .args .labels)) (c .before .before .before .before .before .before .before .args .left .now) (movesIn (c .before .before .before .before .before .before .before .args .right .now)) (c .before .before .before .before .before .before .before .args .step), c .before .before .before .before .before .before .before .good)
+add-result c =
+    let s = c .before .before .before .before .before .before .before in
+    omega (
+      arith,
+      c .count-handshakes .ensures,
+      handshakes-bytes (pairing (s .args .labels)) (s .args .left .now) (movesIn (s .args .right .now)) (s .args .step),
+      s .good,
+    )
 
 returns : tie.Need-returns
-returns c = right-counted _ _ _ _ (c .count-handshakes .ensures) (sym (c .before .before .moves-alone .ensures) ∙ c .before .if1 .taken)
+returns c =
+    right-counted _ _ _ _ (c .count-handshakes .ensures)
+    (sym (c .before .before .moves-alone .ensures) ∙ c .before .if1 .taken)
 
 count-handshakes-requires-2 : tie.Need-count-handshakes-requires-2
 count-handshakes-requires-2 c κs = search needs
 
 returns-2 : tie.Need-returns-2
-returns-2 c = no-right-counted _ _ _ _ (c .count-handshakes2 .ensures) (sym (c .before .before .moves-alone .ensures) ∙ c .before .if1 .left)
+returns-2 c =
+    no-right-counted _ _ _ _ (c .count-handshakes2 .ensures)
+    (sym (c .before .before .moves-alone .ensures) ∙ c .before .if1 .left)
 
 pub count-right-ways-spec : {M : Type 1} → statement M
 count-right-ways-spec =

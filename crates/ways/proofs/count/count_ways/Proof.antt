@@ -21,16 +21,29 @@ count-right-ways-requires : tie.Need-count-right-ways-requires
 count-right-ways-requires c κs = search needs
 
 add-result : tie.Need-add-result
-add-result c = omega (arith, c .count-right-ways .ensures, right-bytes (pairing (c .before .before .before .before .before .before .before .before .before .before .args .labels)) (c .before .before .before .before .before .before .before .before .before .before .args .left .now) (movesIn (c .before .before .before .before .before .before .before .before .before .before .args .right .now)) (c .before .before .before .before .before .before .before .before .before .before .args .step), c .before .before .before .before .before .before .before .before .before .before .good)
+add-result c =
+    let s = c .before .before .before .before .before .before .before .before .before .before in
+    omega (
+      arith,
+      c .count-right-ways .ensures,
+      right-bytes (pairing (s .args .labels)) (s .args .left .now) (movesIn (s .args .right .now)) (s .args .step),
+      s .good,
+    )
 
 returns-2 : tie.Need-returns-2
-returns-2 c = left-counted _ _ _ _ (sym (c .before .before .before .before .is-idle .ensures) ∙ c .before .before .before .if1 .left) (c .count-right-ways .ensures) (sym (c .before .before .moves-alone .ensures) ∙ c .before .if2 .taken)
+returns-2 c =
+    left-counted _ _ _ _
+    (sym (c .before .before .before .before .is-idle .ensures) ∙ c .before .before .before .if1 .left)
+    (c .count-right-ways .ensures) (sym (c .before .before .moves-alone .ensures) ∙ c .before .if2 .taken)
 
 count-right-ways-requires-2 : tie.Need-count-right-ways-requires-2
 count-right-ways-requires-2 c κs = search needs
 
 returns-3 : tie.Need-returns-3
-returns-3 c = no-left-counted _ _ _ _ (sym (c .before .before .before .before .is-idle .ensures) ∙ c .before .before .before .if1 .left) (c .count-right-ways2 .ensures) (sym (c .before .before .moves-alone .ensures) ∙ c .before .if2 .left)
+returns-3 c =
+    no-left-counted _ _ _ _
+    (sym (c .before .before .before .before .is-idle .ensures) ∙ c .before .before .before .if1 .left)
+    (c .count-right-ways2 .ensures) (sym (c .before .before .moves-alone .ensures) ∙ c .before .if2 .left)
 
 pub count-ways-spec : {M : Type 1} → statement M
 count-ways-spec =

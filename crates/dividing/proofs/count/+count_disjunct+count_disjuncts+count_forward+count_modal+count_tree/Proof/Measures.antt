@@ -1,4 +1,5 @@
--- What falls from call to call: the formula's bytes, then the disjuncts left; and what each function of the cycle may rely on.
+-- What falls from call to call: the formula's bytes, then the disjuncts left; and what each function of the cycle may
+-- rely on.
 use Prim.Native.Nat.{ℕ, _<_, _+_, _-_, _*_}
 use borrow.Fn.Kinds.{In}
 use borrow.Fn.PlainCycle.{Measures, is, falls, and}
@@ -108,10 +109,18 @@ abbrev pub count-disjuncts-claims : ℕ → count-disjuncts-lts.Claims
 count-disjuncts-claims t = (count-disjunct-below t, count-disjunct.Post, count-disjuncts-below t, count-disjuncts.Post)
 
 abbrev pub count-forward-claims : ℕ → count-forward-lts.Claims
-count-forward-claims t = (list-disjuncts-reads.Asked, list-disjuncts-reads.Learnt, count-disjuncts-below t, count-disjuncts.Post)
+count-forward-claims t =
+    (list-disjuncts-reads.Asked, list-disjuncts-reads.Learnt, count-disjuncts-below t, count-disjuncts.Post)
 
 abbrev pub count-modal-claims : ℕ → count-modal-lts.Claims
-count-modal-claims t = (count-forward-below t, count-forward.Post, past-node-reads.Asked, past-node-reads.Learnt, count-tree-below t, count-tree.Post)
+count-modal-claims t = (
+  count-forward-below t,
+  count-forward.Post,
+  past-node-reads.Asked,
+  past-node-reads.Learnt,
+  count-tree-below t,
+  count-tree.Post,
+)
 
 abbrev pub count-tree-claims : ℕ → count-tree-lts.Claims
 count-tree-claims t = (count-modal-below t, count-modal.Post, count-tree-below t, count-tree.Post)

@@ -1,4 +1,5 @@
--- Disjuncts joined by "or", each in the rest of the output behind the one before it, and one of them over the run with one step more.
+-- Disjuncts joined by "or", each in the rest of the output behind the one before it, and one of them over the run with
+-- one step more.
 use Prim.Native.Nat.{ℕ, _-_}
 use Rattle.dividing.proofs.write.write_disjunct.Reads as write-disjunct
 use Rattle.dividing.proofs.write.+write_disjunct+write_disjuncts+write_forward+write_modal+write_tree.Lts-write_disjunct as write-disjunct-lts
@@ -16,9 +17,16 @@ use Rattle.labels.proofs.Outputs.{front-length}
 use Rattle.dividing.proofs.Pieces.{joined, two-pieces, first-fits, second-fits, second-length}
 use Rattle.dividing.proofs.Readiness.{longer-ready}
 use Rattle.dividing.proofs.Forwards.{listed-room, listed-keeps, listed-rest, texts-last, texts-more, first-text}
-use Rattle.dividing.proofs.write.+write_disjunct+write_disjuncts+write_forward+write_modal+write_tree.Proof.Measures.{write-disjunct-at, write-disjuncts-at, write-disjunct-claims, write-disjuncts-claims}
+use Rattle.dividing.proofs.write.+write_disjunct+write_disjuncts+write_forward+write_modal+write_tree.Proof.Measures.{
+  write-disjunct-at,
+  write-disjuncts-at,
+  write-disjunct-claims,
+  write-disjuncts-claims,
+}
 
-pub write-disjuncts-write-disjunct-requires : (t : ℕ) → write-disjuncts-lts.Need-write-disjunct-requires (write-disjuncts-claims t) (write-disjuncts-at t) write-disjuncts.Post
+pub write-disjuncts-write-disjunct-requires : (t : ℕ)
+    → write-disjuncts-lts.Need-write-disjunct-requires (write-disjuncts-claims t) (write-disjuncts-at t)
+    write-disjuncts.Post
 write-disjuncts-write-disjunct-requires t c κs =
     let s = c .before .before .before .before .before .before .before in
     let y = s .pre .1 .1 .0 in
@@ -29,10 +37,19 @@ write-disjuncts-write-disjunct-requires t c κs =
     let room = s .pre .1 .1 .1 .1 in
     let ds = s .args .disjuncts .now in
     let q = getD xs (n - 1) 0 in
-    let l = s .pre .1 .1 .1 .0 in
-    (omega (arith, s .pre .0), (s .pre .1 .0, (y, (l, rw (texts-last q (s .args .labels) (s .args .table .now) f r ds l (c .before .before .if1 .taken)) room))))
+    let l = s .pre .1 .1 .1 .0 in (
+      omega (arith, s .pre .0),
+      (
+        s .pre .1 .0,
+        (
+          y,
+          (l, rw (texts-last q (s .args .labels) (s .args .table .now) f r ds l (c .before .before .if1 .taken)) room),
+        ),
+      ),
+    )
 
-pub write-disjuncts-same-length : (t : ℕ) → write-disjuncts-lts.Need-same-length (write-disjuncts-claims t) (write-disjuncts-at t) write-disjuncts.Post
+pub write-disjuncts-same-length : (t : ℕ)
+    → write-disjuncts-lts.Need-same-length (write-disjuncts-claims t) (write-disjuncts-at t) write-disjuncts.Post
 write-disjuncts-same-length t c =
     let s = c .before .before .before .before .before .before .before .before .before .before in
     let f = s .args .f .now in
@@ -43,9 +60,12 @@ write-disjuncts-same-length t c =
     let ds = s .args .disjuncts .now in
     let q = getD xs (n - 1) 0 in
     let l = s .pre .1 .1 .1 .0 in
-    front-length _ _ _ (c .before .before .write-disjunct .ensures .1 .0) (rw (texts-last q (s .args .labels) (s .args .table .now) f r ds l (c .before .before .before .before .before .if1 .taken)) room)
+    front-length _ _ _ (c .before .before .write-disjunct .ensures .1 .0)
+    (rw (texts-last q (s .args .labels) (s .args .table .now) f r ds l
+    (c .before .before .before .before .before .if1 .taken)) room)
 
-pub write-disjuncts-returns : (t : ℕ) → write-disjuncts-lts.Need-returns (write-disjuncts-claims t) (write-disjuncts-at t) write-disjuncts.Post
+pub write-disjuncts-returns : (t : ℕ)
+    → write-disjuncts-lts.Need-returns (write-disjuncts-claims t) (write-disjuncts-at t) write-disjuncts.Post
 write-disjuncts-returns t c =
     let s = c .before .before .before .before .before .before .before .before .before .before in
     let f = s .args .f .now in
@@ -55,9 +75,11 @@ write-disjuncts-returns t c =
     let ds = s .args .disjuncts .now in
     let q = getD xs (n - 1) 0 in
     let l = s .pre .1 .1 .1 .0 in
-    rw (texts-last q (s .args .labels) (s .args .table .now) f r ds l (c .before .before .before .before .before .if1 .taken)) at (c .before .before .write-disjunct .ensures)
+    rw (texts-last q (s .args .labels) (s .args .table .now) f r ds l
+    (c .before .before .before .before .before .if1 .taken)) at (c .before .before .write-disjunct .ensures)
 
-pub write-disjuncts-put-node-requires : (t : ℕ) → write-disjuncts-lts.Need-put-node-requires (write-disjuncts-claims t) (write-disjuncts-at t) write-disjuncts.Post
+pub write-disjuncts-put-node-requires : (t : ℕ)
+    → write-disjuncts-lts.Need-put-node-requires (write-disjuncts-claims t) (write-disjuncts-at t) write-disjuncts.Post
 write-disjuncts-put-node-requires t c κs =
     let s = c .before .before .before .before .before .before in
     let f = s .args .f .now in
@@ -71,7 +93,8 @@ write-disjuncts-put-node-requires t c κs =
     let more = texts-more q (s .args .labels) (s .args .table .now) f r ds l (c .before .if1 .left) in
     omega (arith, first-fits _ _ _ _ more room)
 
-pub write-disjuncts-sub-write-disjunct : (t : ℕ) → write-disjuncts-lts.Need-sub-write-disjunct (write-disjuncts-claims t) (write-disjuncts-at t) write-disjuncts.Post
+pub write-disjuncts-sub-write-disjunct : (t : ℕ)
+    → write-disjuncts-lts.Need-sub-write-disjunct (write-disjuncts-claims t) (write-disjuncts-at t) write-disjuncts.Post
 write-disjuncts-sub-write-disjunct t c =
     let s = c .before .before .before .before .before .before .before .before .before .before in
     let f = s .args .f .now in
@@ -82,11 +105,14 @@ write-disjuncts-sub-write-disjunct t c =
     let ds = s .args .disjuncts .now in
     let q = getD xs (n - 1) 0 in
     let l = s .pre .1 .1 .1 .0 in
-    let more = texts-more q (s .args .labels) (s .args .table .now) f r ds l (c .before .before .before .before .before .if1 .left) in
+    let more = texts-more q (s .args .labels) (s .args .table .now) f r ds l
+    (c .before .before .before .before .before .if1 .left) in
     let inside = first-fits _ _ _ _ more room in
     omega (arith, inside, front-length _ _ _ (c .before .before .before .put-node .ensures) (omega (arith, inside)))
 
-pub write-disjuncts-part-write-disjunct-start : (t : ℕ) → write-disjuncts-lts.Need-part-write-disjunct-start (write-disjuncts-claims t) (write-disjuncts-at t) write-disjuncts.Post
+pub write-disjuncts-part-write-disjunct-start : (t : ℕ)
+    → write-disjuncts-lts.Need-part-write-disjunct-start (write-disjuncts-claims t) (write-disjuncts-at t)
+    write-disjuncts.Post
 write-disjuncts-part-write-disjunct-start t c =
     let s = c .before .before .before .before .before .before .before .before .before .before in
     let f = s .args .f .now in
@@ -97,14 +123,19 @@ write-disjuncts-part-write-disjunct-start t c =
     let ds = s .args .disjuncts .now in
     let q = getD xs (n - 1) 0 in
     let l = s .pre .1 .1 .1 .0 in
-    let more = texts-more q (s .args .labels) (s .args .table .now) f r ds l (c .before .before .before .before .before .if1 .left) in
+    let more = texts-more q (s .args .labels) (s .args .table .now) f r ds l
+    (c .before .before .before .before .before .if1 .left) in
     let inside = first-fits _ _ _ _ more room in
     omega (arith, inside, front-length _ _ _ (c .before .before .before .put-node .ensures) (omega (arith, inside)))
 
-pub write-disjuncts-part-write-disjunct-end : (t : ℕ) → write-disjuncts-lts.Need-part-write-disjunct-end (write-disjuncts-claims t) (write-disjuncts-at t) write-disjuncts.Post
+pub write-disjuncts-part-write-disjunct-end : (t : ℕ)
+    → write-disjuncts-lts.Need-part-write-disjunct-end (write-disjuncts-claims t) (write-disjuncts-at t)
+    write-disjuncts.Post
 write-disjuncts-part-write-disjunct-end t c = omega arith
 
-pub write-disjuncts-write-disjunct-requires-2 : (t : ℕ) → write-disjuncts-lts.Need-write-disjunct-requires-2 (write-disjuncts-claims t) (write-disjuncts-at t) write-disjuncts.Post
+pub write-disjuncts-write-disjunct-requires-2 : (t : ℕ)
+    → write-disjuncts-lts.Need-write-disjunct-requires-2 (write-disjuncts-claims t) (write-disjuncts-at t)
+    write-disjuncts.Post
 write-disjuncts-write-disjunct-requires-2 t c κs =
     let s = c .before .before .before .before .before .before .before .before .before .before .before in
     let y = s .pre .1 .1 .0 in
@@ -116,14 +147,22 @@ write-disjuncts-write-disjunct-requires-2 t c κs =
     let ds = s .args .disjuncts .now in
     let q = getD xs (n - 1) 0 in
     let l = s .pre .1 .1 .1 .0 in
-    let more = texts-more q (s .args .labels) (s .args .table .now) f r ds l (c .before .before .before .before .before .before .if1 .left) in
+    let more = texts-more q (s .args .labels) (s .args .table .now) f r ds l
+    (c .before .before .before .before .before .before .if1 .left) in
     let inside = first-fits _ _ _ _ more room in
-    let j = joined (4 ∷ 0 ∷ []) (firstText (s .args .labels) (s .args .table .now) f r ds) in
-    (omega (arith, s .pre .0), (s .pre .1 .0, (y, (l, second-fits _ _ _ _ j inside _ _ 2 refl refl (c .before .before .before .before .put-node .ensures)))))
+    let j = joined (4 ∷ 0 ∷ []) (firstText (s .args .labels) (s .args .table .now) f r ds) in (
+      omega (arith, s .pre .0),
+      (
+        s .pre .1 .0,
+        (y, (l, second-fits _ _ _ _ j inside _ _ 2 refl refl (c .before .before .before .before .put-node .ensures))),
+      ),
+    )
 
-pub write-disjuncts-add-at : (t : ℕ) → write-disjuncts-lts.Need-add-at (write-disjuncts-claims t) (write-disjuncts-at t) write-disjuncts.Post
+pub write-disjuncts-add-at : (t : ℕ)
+    → write-disjuncts-lts.Need-add-at (write-disjuncts-claims t) (write-disjuncts-at t) write-disjuncts.Post
 write-disjuncts-add-at t c =
-    let s = c .before .before .before .before .before .before .before .before .before .before .before .before .before .before in
+    let s = c .before .before .before .before .before .before .before .before .before .before .before .before .before
+    .before in
     let f = s .args .f .now in
     let xs = s .args .run .now in
     let n = s .args .len in
@@ -132,23 +171,40 @@ write-disjuncts-add-at t c =
     let ds = s .args .disjuncts .now in
     let q = getD xs (n - 1) 0 in
     let l = s .pre .1 .1 .1 .0 in
-    let more = texts-more q (s .args .labels) (s .args .table .now) f r ds l (c .before .before .before .before .before .before .before .before .before .if1 .left) in
+    let more = texts-more q (s .args .labels) (s .args .table .now) f r ds l
+    (c .before .before .before .before .before .before .before .before .before .if1 .left) in
     let inside = first-fits _ _ _ _ more room in
     let j = joined (4 ∷ 0 ∷ []) (firstText (s .args .labels) (s .args .table .now) f r ds) in
-    omega (arith, c .before .before .write-disjunct2 .ensures .0, second-fits _ _ _ _ j inside _ _ 2 refl refl (c .before .before .before .before .before .before .before .put-node .ensures), s .good)
+    omega (
+      arith,
+      c .before .before .write-disjunct2 .ensures .0,
+      second-fits _ _ _ _ j inside _ _ 2 refl refl
+          (c .before .before .before .before .before .before .before .put-node .ensures),
+      s .good,
+    )
 
-pub write-disjuncts-sub-write-disjuncts : (t : ℕ) → write-disjuncts-lts.Need-sub-write-disjuncts (write-disjuncts-claims t) (write-disjuncts-at t) write-disjuncts.Post
+pub write-disjuncts-sub-write-disjuncts : (t : ℕ)
+    → write-disjuncts-lts.Need-sub-write-disjuncts (write-disjuncts-claims t) (write-disjuncts-at t)
+    write-disjuncts.Post
 write-disjuncts-sub-write-disjuncts t c = omega arith
 
-pub write-disjuncts-part-write-disjuncts-start : (t : ℕ) → write-disjuncts-lts.Need-part-write-disjuncts-start (write-disjuncts-claims t) (write-disjuncts-at t) write-disjuncts.Post
+pub write-disjuncts-part-write-disjuncts-start : (t : ℕ)
+    → write-disjuncts-lts.Need-part-write-disjuncts-start (write-disjuncts-claims t) (write-disjuncts-at t)
+    write-disjuncts.Post
 write-disjuncts-part-write-disjuncts-start t c = omega arith
 
-pub write-disjuncts-part-write-disjuncts-end : (t : ℕ) → write-disjuncts-lts.Need-part-write-disjuncts-end (write-disjuncts-claims t) (write-disjuncts-at t) write-disjuncts.Post
+pub write-disjuncts-part-write-disjuncts-end : (t : ℕ)
+    → write-disjuncts-lts.Need-part-write-disjuncts-end (write-disjuncts-claims t) (write-disjuncts-at t)
+    write-disjuncts.Post
 write-disjuncts-part-write-disjuncts-end t c = omega arith
 
-pub write-disjuncts-sub-write-disjuncts-2 : (t : ℕ) → write-disjuncts-lts.Need-sub-write-disjuncts-2 (write-disjuncts-claims t) (write-disjuncts-at t) write-disjuncts.Post
+pub write-disjuncts-sub-write-disjuncts-2 : (t : ℕ)
+    → write-disjuncts-lts.Need-sub-write-disjuncts-2 (write-disjuncts-claims t) (write-disjuncts-at t)
+    write-disjuncts.Post
 write-disjuncts-sub-write-disjuncts-2 t c =
-    let s = c .before .before .before .before .before .before .before .before .before .before .before .before .before .before .before .before in
+    let write-disjunct2 = c .before .before .before .before .write-disjunct2 in
+    let s = c .before .before .before .before .before .before .before .before .before .before .before .before .before
+    .before .before .before in
     let f = s .args .f .now in
     let xs = s .args .run .now in
     let n = s .args .len in
@@ -157,15 +213,22 @@ write-disjuncts-sub-write-disjuncts-2 t c =
     let ds = s .args .disjuncts .now in
     let q = getD xs (n - 1) 0 in
     let l = s .pre .1 .1 .1 .0 in
-    let more = texts-more q (s .args .labels) (s .args .table .now) f r ds l (c .before .before .before .before .before .before .before .before .before .before .before .if1 .left) in
+    let more = texts-more q (s .args .labels) (s .args .table .now) f r ds l
+    (c .before .before .before .before .before .before .before .before .before .before .before .if1 .left) in
     let inside = first-fits _ _ _ _ more room in
     let j = joined (4 ∷ 0 ∷ []) (firstText (s .args .labels) (s .args .table .now) f r ds) in
-    let w = two-pieces _ _ _ _ _ _ 2 _ j refl (c .before .before .before .before .before .before .before .before .before .put-node .ensures) (c .before .before .before .before .write-disjunct2 .ensures .0) (c .before .before .before .before .write-disjunct2 .ensures .1 .0) in
+    let w = two-pieces _ _ _ _ _ _ 2 _ j refl
+    (c .before .before .before .before .before .before .before .before .before .put-node .ensures)
+    (write-disjunct2 .ensures .0) (write-disjunct2 .ensures .1 .0) in
     omega (arith, w .0, inside, front-length _ _ _ (w .1) inside)
 
-pub write-disjuncts-part-write-disjuncts-start-2 : (t : ℕ) → write-disjuncts-lts.Need-part-write-disjuncts-start-2 (write-disjuncts-claims t) (write-disjuncts-at t) write-disjuncts.Post
+pub write-disjuncts-part-write-disjuncts-start-2 : (t : ℕ)
+    → write-disjuncts-lts.Need-part-write-disjuncts-start-2 (write-disjuncts-claims t) (write-disjuncts-at t)
+    write-disjuncts.Post
 write-disjuncts-part-write-disjuncts-start-2 t c =
-    let s = c .before .before .before .before .before .before .before .before .before .before .before .before .before .before .before .before in
+    let write-disjunct2 = c .before .before .before .before .write-disjunct2 in
+    let s = c .before .before .before .before .before .before .before .before .before .before .before .before .before
+    .before .before .before in
     let f = s .args .f .now in
     let xs = s .args .run .now in
     let n = s .args .len in
@@ -174,18 +237,28 @@ write-disjuncts-part-write-disjuncts-start-2 t c =
     let ds = s .args .disjuncts .now in
     let q = getD xs (n - 1) 0 in
     let l = s .pre .1 .1 .1 .0 in
-    let more = texts-more q (s .args .labels) (s .args .table .now) f r ds l (c .before .before .before .before .before .before .before .before .before .before .before .if1 .left) in
+    let more = texts-more q (s .args .labels) (s .args .table .now) f r ds l
+    (c .before .before .before .before .before .before .before .before .before .before .before .if1 .left) in
     let inside = first-fits _ _ _ _ more room in
     let j = joined (4 ∷ 0 ∷ []) (firstText (s .args .labels) (s .args .table .now) f r ds) in
-    let w = two-pieces _ _ _ _ _ _ 2 _ j refl (c .before .before .before .before .before .before .before .before .before .put-node .ensures) (c .before .before .before .before .write-disjunct2 .ensures .0) (c .before .before .before .before .write-disjunct2 .ensures .1 .0) in
+    let w = two-pieces _ _ _ _ _ _ 2 _ j refl
+    (c .before .before .before .before .before .before .before .before .before .put-node .ensures)
+    (write-disjunct2 .ensures .0) (write-disjunct2 .ensures .1 .0) in
     omega (arith, w .0, inside, front-length _ _ _ (w .1) inside)
 
-pub write-disjuncts-part-write-disjuncts-end-2 : (t : ℕ) → write-disjuncts-lts.Need-part-write-disjuncts-end-2 (write-disjuncts-claims t) (write-disjuncts-at t) write-disjuncts.Post
+pub write-disjuncts-part-write-disjuncts-end-2 : (t : ℕ)
+    → write-disjuncts-lts.Need-part-write-disjuncts-end-2 (write-disjuncts-claims t) (write-disjuncts-at t)
+    write-disjuncts.Post
 write-disjuncts-part-write-disjuncts-end-2 t c = omega arith
 
-pub write-disjuncts-write-disjuncts-requires : (t : ℕ) → write-disjuncts-lts.Need-write-disjuncts-requires (write-disjuncts-claims t) (write-disjuncts-at t) write-disjuncts.Post
+pub write-disjuncts-write-disjuncts-requires : (t : ℕ)
+    → write-disjuncts-lts.Need-write-disjuncts-requires (write-disjuncts-claims t) (write-disjuncts-at t)
+    write-disjuncts.Post
 write-disjuncts-write-disjuncts-requires t c κs =
-    let s = c .before .before .before .before .before .before .before .before .before .before .before .before .before .before .before .before .before in
+    let write-disjunct2 = c .before .before .before .before .before .write-disjunct2 in
+    let if1 = c .before .before .before .before .before .before .before .before .before .before .before .before .if1 in
+    let s = c .before .before .before .before .before .before .before .before .before .before .before .before .before
+    .before .before .before .before in
     let y = s .pre .1 .1 .0 in
     let f = s .args .f .now in
     let xs = s .args .run .now in
@@ -195,14 +268,24 @@ write-disjuncts-write-disjuncts-requires t c κs =
     let ds = s .args .disjuncts .now in
     let q = getD xs (n - 1) 0 in
     let l = s .pre .1 .1 .1 .0 in
-    let more = texts-more q (s .args .labels) (s .args .table .now) f r ds l (c .before .before .before .before .before .before .before .before .before .before .before .before .if1 .left) in
+    let more = texts-more q (s .args .labels) (s .args .table .now) f r ds l (if1 .left) in
     let j = joined (4 ∷ 0 ∷ []) (firstText (s .args .labels) (s .args .table .now) f r ds) in
-    let w = two-pieces _ _ _ _ _ _ 2 _ j refl (c .before .before .before .before .before .before .before .before .before .before .put-node .ensures) (c .before .before .before .before .before .write-disjunct2 .ensures .0) (c .before .before .before .before .before .write-disjunct2 .ensures .1 .0) in
-    (omega (arith, s .pre .0, rest-length 4 ds), (s .pre .1 .0, rw (c .before .before .before .before .before .write-disjunct2 .ensures .1 .1) (y, (listed-rest q ds l (c .before .before .before .before .before .before .before .before .before .before .before .before .if1 .left), second-fits _ _ _ _ more room _ _ _ refl (w .0) (w .1)))))
+    let w = two-pieces _ _ _ _ _ _ 2 _ j refl
+    (c .before .before .before .before .before .before .before .before .before .before .put-node .ensures)
+    (write-disjunct2 .ensures .0) (write-disjunct2 .ensures .1 .0) in (
+      omega (arith, s .pre .0, rest-length 4 ds),
+      (
+        s .pre .1 .0,
+        rw (write-disjunct2 .ensures .1 .1)
+            (y, (listed-rest q ds l (if1 .left), second-fits _ _ _ _ more room _ _ _ refl (w .0) (w .1))),
+      ),
+    )
 
-pub write-disjuncts-add-result : (t : ℕ) → write-disjuncts-lts.Need-add-result (write-disjuncts-claims t) (write-disjuncts-at t) write-disjuncts.Post
+pub write-disjuncts-add-result : (t : ℕ)
+    → write-disjuncts-lts.Need-add-result (write-disjuncts-claims t) (write-disjuncts-at t) write-disjuncts.Post
 write-disjuncts-add-result t c =
-    let s = c .before .before .before .before .before .before .before .before .before .before .before .before .before .before .before .before .before .before .before .before in
+    let s = c .before .before .before .before .before .before .before .before .before .before .before .before .before
+    .before .before .before .before .before .before .before in
     let f = s .args .f .now in
     let xs = s .args .run .now in
     let n = s .args .len in
@@ -211,15 +294,31 @@ write-disjuncts-add-result t c =
     let ds = s .args .disjuncts .now in
     let q = getD xs (n - 1) 0 in
     let l = s .pre .1 .1 .1 .0 in
-    let more = texts-more q (s .args .labels) (s .args .table .now) f r ds l (c .before .before .before .before .before .before .before .before .before .before .before .before .before .before .before .if1 .left) in
+    let more = texts-more q (s .args .labels) (s .args .table .now) f r ds l
+    (c .before .before .before .before .before .before .before .before .before .before .before .before .before .before
+    .before .if1 .left) in
     let inside = first-fits _ _ _ _ more room in
     let j = joined (4 ∷ 0 ∷ []) (firstText (s .args .labels) (s .args .table .now) f r ds) in
-    let w = two-pieces _ _ _ _ _ _ 2 _ j refl (c .before .before .before .before .before .before .before .before .before .before .before .before .before .put-node .ensures) (c .before .before .before .before .before .before .before .before .write-disjunct2 .ensures .0) (c .before .before .before .before .before .before .before .before .write-disjunct2 .ensures .1 .0) in
-    omega (arith, w .0, inside, rw (c .before .before .before .before .before .before .before .before .write-disjunct2 .ensures .1 .1) at (c .before .before .write-disjuncts .ensures .0), second-fits _ _ _ _ more room _ _ _ refl (w .0) (w .1), s .good)
+    let w = two-pieces _ _ _ _ _ _ 2 _ j refl
+    (c .before .before .before .before .before .before .before .before .before .before .before .before .before .put-node
+    .ensures) (c .before .before .before .before .before .before .before .before .write-disjunct2 .ensures .0)
+    (c .before .before .before .before .before .before .before .before .write-disjunct2 .ensures .1 .0) in
+    omega (
+      arith,
+      w .0,
+      inside,
+      rw (c .before .before .before .before .before .before .before .before .write-disjunct2 .ensures .1 .1)
+          at (c .before .before .write-disjuncts .ensures .0),
+      second-fits _ _ _ _ more room _ _ _ refl (w .0) (w .1),
+      s .good,
+    )
 
-pub write-disjuncts-same-length-2 : (t : ℕ) → write-disjuncts-lts.Need-same-length-2 (write-disjuncts-claims t) (write-disjuncts-at t) write-disjuncts.Post
+pub write-disjuncts-same-length-2 : (t : ℕ)
+    → write-disjuncts-lts.Need-same-length-2 (write-disjuncts-claims t) (write-disjuncts-at t) write-disjuncts.Post
 write-disjuncts-same-length-2 t c =
-    let s = c .before .before .before .before .before .before .before .before .before .before .before .before .before .before .before .before .before .before .before .before in
+    let c1 = c .before .before .before .before .before .before .before .before in
+    let c2 = c1 .before .before .before .before .before in
+    let s = c2 .before .before .before .before .before .before .before in
     let f = s .args .f .now in
     let xs = s .args .run .now in
     let n = s .args .len in
@@ -228,14 +327,20 @@ write-disjuncts-same-length-2 t c =
     let ds = s .args .disjuncts .now in
     let q = getD xs (n - 1) 0 in
     let l = s .pre .1 .1 .1 .0 in
-    let more = texts-more q (s .args .labels) (s .args .table .now) f r ds l (c .before .before .before .before .before .before .before .before .before .before .before .before .before .before .before .if1 .left) in
+    let more = texts-more q (s .args .labels) (s .args .table .now) f r ds l (c2 .before .before .if1 .left) in
     let j = joined (4 ∷ 0 ∷ []) (firstText (s .args .labels) (s .args .table .now) f r ds) in
-    let w = two-pieces _ _ _ _ _ _ 2 _ j refl (c .before .before .before .before .before .before .before .before .before .before .before .before .before .put-node .ensures) (c .before .before .before .before .before .before .before .before .write-disjunct2 .ensures .0) (c .before .before .before .before .before .before .before .before .write-disjunct2 .ensures .1 .0) in
-    second-length _ _ _ _ _ _ _ more (w .0) (w .1) (rw (c .before .before .before .before .before .before .before .before .write-disjunct2 .ensures .1 .1) at (c .before .before .write-disjuncts .ensures .1 .0)) room
+    let w = two-pieces _ _ _ _ _ _ 2 _ j refl (c2 .put-node .ensures) (c1 .write-disjunct2 .ensures .0)
+    (c1 .write-disjunct2 .ensures .1 .0) in
+    second-length _ _ _ _ _ _ _ more (w .0) (w .1)
+    (rw (c1 .write-disjunct2 .ensures .1 .1) at (c .before .before .write-disjuncts .ensures .1 .0)) room
 
-pub write-disjuncts-returns-2 : (t : ℕ) → write-disjuncts-lts.Need-returns-2 (write-disjuncts-claims t) (write-disjuncts-at t) write-disjuncts.Post
+pub write-disjuncts-returns-2 : (t : ℕ)
+    → write-disjuncts-lts.Need-returns-2 (write-disjuncts-claims t) (write-disjuncts-at t) write-disjuncts.Post
 write-disjuncts-returns-2 t c =
-    let s = c .before .before .before .before .before .before .before .before .before .before .before .before .before .before .before .before .before .before .before .before in
+    let c1 = c .before .before in
+    let c2 = c1 .before .before .before .before .before .before in
+    let c3 = c2 .before .before .before .before .before in
+    let s = c3 .before .before .before .before .before .before .before in
     let f = s .args .f .now in
     let xs = s .args .run .now in
     let n = s .args .len in
@@ -243,13 +348,18 @@ write-disjuncts-returns-2 t c =
     let ds = s .args .disjuncts .now in
     let q = getD xs (n - 1) 0 in
     let l = s .pre .1 .1 .1 .0 in
-    let more = texts-more q (s .args .labels) (s .args .table .now) f r ds l (c .before .before .before .before .before .before .before .before .before .before .before .before .before .before .before .if1 .left) in
+    let more = texts-more q (s .args .labels) (s .args .table .now) f r ds l (c3 .before .before .if1 .left) in
     let j = joined (4 ∷ 0 ∷ []) (firstText (s .args .labels) (s .args .table .now) f r ds) in
-    let w = two-pieces _ _ _ _ _ _ 2 _ j refl (c .before .before .before .before .before .before .before .before .before .before .before .before .before .put-node .ensures) (c .before .before .before .before .before .before .before .before .write-disjunct2 .ensures .0) (c .before .before .before .before .before .before .before .before .write-disjunct2 .ensures .1 .0) in
-    let p = two-pieces _ _ _ _ _ _ _ _ more (w .0) (w .1) (rw (c .before .before .before .before .before .before .before .before .write-disjunct2 .ensures .1 .1) at (c .before .before .write-disjuncts .ensures .0)) (rw (c .before .before .before .before .before .before .before .before .write-disjunct2 .ensures .1 .1) at (c .before .before .write-disjuncts .ensures .1 .0)) in
-    (p .0, (p .1, c .before .before .write-disjuncts .ensures .1 .1 ∙ c .before .before .before .before .before .before .before .before .write-disjunct2 .ensures .1 .1))
+    let w = two-pieces _ _ _ _ _ _ 2 _ j refl (c3 .put-node .ensures) (c2 .write-disjunct2 .ensures .0)
+    (c2 .write-disjunct2 .ensures .1 .0) in
+    let p = two-pieces _ _ _ _ _ _ _ _ more (w .0) (w .1)
+    (rw (c2 .write-disjunct2 .ensures .1 .1) at (c1 .write-disjuncts .ensures .0))
+    (rw (c2 .write-disjunct2 .ensures .1 .1) at (c1 .write-disjuncts .ensures .1 .0)) in
+    (p .0, (p .1, c1 .write-disjuncts .ensures .1 .1 ∙ c2 .write-disjunct2 .ensures .1 .1))
 
-pub write-disjunct-shared-slice-read-put-node : (t : ℕ) → write-disjunct-lts.Need-shared-slice-read-put-node (write-disjunct-claims t) (write-disjunct-at t) write-disjunct.Post
+pub write-disjunct-shared-slice-read-put-node : (t : ℕ)
+    → write-disjunct-lts.Need-shared-slice-read-put-node (write-disjunct-claims t) (write-disjunct-at t)
+    write-disjunct.Post
 write-disjunct-shared-slice-read-put-node t c =
     let s = c .before .before .before .before .before .before in
     let xs = s .args .run .now in
@@ -259,7 +369,9 @@ write-disjunct-shared-slice-read-put-node t c =
     let l = s .pre .1 .1 .1 .0 in
     omega (arith, listed-room q ds l)
 
-pub write-disjunct-shared-slice-read-put-node-2 : (t : ℕ) → write-disjunct-lts.Need-shared-slice-read-put-node-2 (write-disjunct-claims t) (write-disjunct-at t) write-disjunct.Post
+pub write-disjunct-shared-slice-read-put-node-2 : (t : ℕ)
+    → write-disjunct-lts.Need-shared-slice-read-put-node-2 (write-disjunct-claims t) (write-disjunct-at t)
+    write-disjunct.Post
 write-disjunct-shared-slice-read-put-node-2 t c =
     let s = c .before .before .before .before .before .before .before in
     let xs = s .args .run .now in
@@ -269,7 +381,8 @@ write-disjunct-shared-slice-read-put-node-2 t c =
     let l = s .pre .1 .1 .1 .0 in
     omega (arith, listed-room q ds l)
 
-pub write-disjunct-put-node-requires : (t : ℕ) → write-disjunct-lts.Need-put-node-requires (write-disjunct-claims t) (write-disjunct-at t) write-disjunct.Post
+pub write-disjunct-put-node-requires : (t : ℕ)
+    → write-disjunct-lts.Need-put-node-requires (write-disjunct-claims t) (write-disjunct-at t) write-disjunct.Post
 write-disjunct-put-node-requires t c κs =
     let s = c .before .before .before .before .before .before .before in
     let f = s .args .f .now in
@@ -282,25 +395,29 @@ write-disjunct-put-node-requires t c κs =
     let over = first-text q (s .args .labels) (s .args .table .now) f r ds in
     first-fits _ _ _ _ over room
 
-pub write-disjunct-element-copy-out-a : (t : ℕ) → write-disjunct-lts.Need-element-copy-out-a (write-disjunct-claims t) (write-disjunct-at t) write-disjunct.Post
+pub write-disjunct-element-copy-out-a : (t : ℕ)
+    → write-disjunct-lts.Need-element-copy-out-a (write-disjunct-claims t) (write-disjunct-at t) write-disjunct.Post
 write-disjunct-element-copy-out-a t c =
     let s = c .before .before .before .before .before .before .before .before .before .before in
     let y = s .pre .1 .1 .0 in
     omega (arith, y .room, y .size)
 
-pub write-disjunct-add-b : (t : ℕ) → write-disjunct-lts.Need-add-b (write-disjunct-claims t) (write-disjunct-at t) write-disjunct.Post
+pub write-disjunct-add-b : (t : ℕ)
+    → write-disjunct-lts.Need-add-b (write-disjunct-claims t) (write-disjunct-at t) write-disjunct.Post
 write-disjunct-add-b t c =
     let s = c .before .before .before .before .before .before .before .before .before .before .before in
     let y = s .pre .1 .1 .0 in
     omega (arith, y .room, y .size)
 
-pub write-disjunct-element-copy-out-b : (t : ℕ) → write-disjunct-lts.Need-element-copy-out-b (write-disjunct-claims t) (write-disjunct-at t) write-disjunct.Post
+pub write-disjunct-element-copy-out-b : (t : ℕ)
+    → write-disjunct-lts.Need-element-copy-out-b (write-disjunct-claims t) (write-disjunct-at t) write-disjunct.Post
 write-disjunct-element-copy-out-b t c =
     let s = c .before .before .before .before .before .before .before .before .before .before .before in
     let y = s .pre .1 .1 .0 in
     omega (arith, y .room, y .size)
 
-pub write-disjunct-shared-slice-read-run : (t : ℕ) → write-disjunct-lts.Need-shared-slice-read-run (write-disjunct-claims t) (write-disjunct-at t) write-disjunct.Post
+pub write-disjunct-shared-slice-read-run : (t : ℕ)
+    → write-disjunct-lts.Need-shared-slice-read-run (write-disjunct-claims t) (write-disjunct-at t) write-disjunct.Post
 write-disjunct-shared-slice-read-run t c =
     let s = c .before .before .before .before .before .before .before .before .before .before .before .before .before in
     let xs = s .args .run .now in
@@ -310,15 +427,19 @@ write-disjunct-shared-slice-read-run t c =
     let l = s .pre .1 .1 .1 .0 in
     omega (arith, listed-room q ds l)
 
-pub write-disjunct-element-write-run : (t : ℕ) → write-disjunct-lts.Need-element-write-run (write-disjunct-claims t) (write-disjunct-at t) write-disjunct.Post
+pub write-disjunct-element-write-run : (t : ℕ)
+    → write-disjunct-lts.Need-element-write-run (write-disjunct-claims t) (write-disjunct-at t) write-disjunct.Post
 write-disjunct-element-write-run t c =
     let s = c .before .before .before .before .before .before .before .before .before .before .before .before .before in
     let y = s .pre .1 .1 .0 in
     omega (arith, y .room, y .size)
 
-pub write-disjunct-shared-slice-read-run-2 : (t : ℕ) → write-disjunct-lts.Need-shared-slice-read-run-2 (write-disjunct-claims t) (write-disjunct-at t) write-disjunct.Post
+pub write-disjunct-shared-slice-read-run-2 : (t : ℕ)
+    → write-disjunct-lts.Need-shared-slice-read-run-2 (write-disjunct-claims t) (write-disjunct-at t)
+    write-disjunct.Post
 write-disjunct-shared-slice-read-run-2 t c =
-    let s = c .before .before .before .before .before .before .before .before .before .before .before .before .before .before in
+    let s = c .before .before .before .before .before .before .before .before .before .before .before .before .before
+    .before in
     let xs = s .args .run .now in
     let n = s .args .len in
     let ds = s .args .disjuncts .now in
@@ -326,27 +447,35 @@ write-disjunct-shared-slice-read-run-2 t c =
     let l = s .pre .1 .1 .1 .0 in
     omega (arith, listed-room q ds l)
 
-pub write-disjunct-add-run : (t : ℕ) → write-disjunct-lts.Need-add-run (write-disjunct-claims t) (write-disjunct-at t) write-disjunct.Post
+pub write-disjunct-add-run : (t : ℕ)
+    → write-disjunct-lts.Need-add-run (write-disjunct-claims t) (write-disjunct-at t) write-disjunct.Post
 write-disjunct-add-run t c =
-    let s = c .before .before .before .before .before .before .before .before .before .before .before .before .before .before in
+    let s = c .before .before .before .before .before .before .before .before .before .before .before .before .before
+    .before in
     let y = s .pre .1 .1 .0 in
     omega (arith, y .room, y .size)
 
-pub write-disjunct-element-write-run-2 : (t : ℕ) → write-disjunct-lts.Need-element-write-run-2 (write-disjunct-claims t) (write-disjunct-at t) write-disjunct.Post
+pub write-disjunct-element-write-run-2 : (t : ℕ)
+    → write-disjunct-lts.Need-element-write-run-2 (write-disjunct-claims t) (write-disjunct-at t) write-disjunct.Post
 write-disjunct-element-write-run-2 t c =
-    let s = c .before .before .before .before .before .before .before .before .before .before .before .before .before .before in
+    let s = c .before .before .before .before .before .before .before .before .before .before .before .before .before
+    .before in
     let y = s .pre .1 .1 .0 in
     omega (arith, y .room, y .size)
 
-pub write-disjunct-add-write-tree : (t : ℕ) → write-disjunct-lts.Need-add-write-tree (write-disjunct-claims t) (write-disjunct-at t) write-disjunct.Post
+pub write-disjunct-add-write-tree : (t : ℕ)
+    → write-disjunct-lts.Need-add-write-tree (write-disjunct-claims t) (write-disjunct-at t) write-disjunct.Post
 write-disjunct-add-write-tree t c =
-    let s = c .before .before .before .before .before .before .before .before .before .before .before .before .before .before .before in
+    let s = c .before .before .before .before .before .before .before .before .before .before .before .before .before
+    .before .before in
     let y = s .pre .1 .1 .0 in
     omega (arith, y .room, y .size)
 
-pub write-disjunct-sub-write-tree : (t : ℕ) → write-disjunct-lts.Need-sub-write-tree (write-disjunct-claims t) (write-disjunct-at t) write-disjunct.Post
+pub write-disjunct-sub-write-tree : (t : ℕ)
+    → write-disjunct-lts.Need-sub-write-tree (write-disjunct-claims t) (write-disjunct-at t) write-disjunct.Post
 write-disjunct-sub-write-tree t c =
-    let s = c .before .before .before .before .before .before .before .before .before .before .before .before .before .before .before in
+    let s = c .before .before .before .before .before .before .before .before .before .before .before .before .before
+    .before .before in
     let f = s .args .f .now in
     let xs = s .args .run .now in
     let n = s .args .len in
@@ -355,11 +484,18 @@ write-disjunct-sub-write-tree t c =
     let ds = s .args .disjuncts .now in
     let q = getD xs (n - 1) 0 in
     let over = first-text q (s .args .labels) (s .args .table .now) f r ds in
-    omega (arith, first-fits _ _ _ _ over room, front-length _ _ _ (c .before .before .before .before .before .before .before .put-node .ensures) (first-fits _ _ _ _ over room))
+    omega (
+      arith,
+      first-fits _ _ _ _ over room,
+      front-length _ _ _ (c .before .before .before .before .before .before .before .put-node .ensures)
+          (first-fits _ _ _ _ over room),
+    )
 
-pub write-disjunct-part-write-tree-start : (t : ℕ) → write-disjunct-lts.Need-part-write-tree-start (write-disjunct-claims t) (write-disjunct-at t) write-disjunct.Post
+pub write-disjunct-part-write-tree-start : (t : ℕ)
+    → write-disjunct-lts.Need-part-write-tree-start (write-disjunct-claims t) (write-disjunct-at t) write-disjunct.Post
 write-disjunct-part-write-tree-start t c =
-    let s = c .before .before .before .before .before .before .before .before .before .before .before .before .before .before .before in
+    let s = c .before .before .before .before .before .before .before .before .before .before .before .before .before
+    .before .before in
     let f = s .args .f .now in
     let xs = s .args .run .now in
     let n = s .args .len in
@@ -368,14 +504,22 @@ write-disjunct-part-write-tree-start t c =
     let ds = s .args .disjuncts .now in
     let q = getD xs (n - 1) 0 in
     let over = first-text q (s .args .labels) (s .args .table .now) f r ds in
-    omega (arith, first-fits _ _ _ _ over room, front-length _ _ _ (c .before .before .before .before .before .before .before .put-node .ensures) (first-fits _ _ _ _ over room))
+    omega (
+      arith,
+      first-fits _ _ _ _ over room,
+      front-length _ _ _ (c .before .before .before .before .before .before .before .put-node .ensures)
+          (first-fits _ _ _ _ over room),
+    )
 
-pub write-disjunct-part-write-tree-end : (t : ℕ) → write-disjunct-lts.Need-part-write-tree-end (write-disjunct-claims t) (write-disjunct-at t) write-disjunct.Post
+pub write-disjunct-part-write-tree-end : (t : ℕ)
+    → write-disjunct-lts.Need-part-write-tree-end (write-disjunct-claims t) (write-disjunct-at t) write-disjunct.Post
 write-disjunct-part-write-tree-end t c = omega arith
 
-pub write-disjunct-write-tree-requires : (t : ℕ) → write-disjunct-lts.Need-write-tree-requires (write-disjunct-claims t) (write-disjunct-at t) write-disjunct.Post
+pub write-disjunct-write-tree-requires : (t : ℕ)
+    → write-disjunct-lts.Need-write-tree-requires (write-disjunct-claims t) (write-disjunct-at t) write-disjunct.Post
 write-disjunct-write-tree-requires t c κs =
-    let s = c .before .before .before .before .before .before .before .before .before .before .before .before .before .before .before .before in
+    let s = c .before .before .before .before .before .before .before .before .before .before .before .before .before
+    .before .before .before in
     let y = s .pre .1 .1 .0 in
     let f = s .args .f .now in
     let xs = s .args .run .now in
@@ -385,30 +529,48 @@ write-disjunct-write-tree-requires t c κs =
     let ds = s .args .disjuncts .now in
     let q = getD xs (n - 1) 0 in
     let l = s .pre .1 .1 .1 .0 in
-    let over = first-text q (s .args .labels) (s .args .table .now) f r ds in
-    (omega (arith, s .pre .0), (s .pre .1 .0, (longer-ready _ _ _ _ y _ _ (listed-keeps q ds l), rw (half-longer xs n (y .held) (getD ds 2 0) (getD ds 3 0) (omega (arith, y .room))) (second-fits _ _ _ _ over room _ _ 2 refl refl (c .before .before .before .before .before .before .before .before .put-node .ensures)))))
+    let over = first-text q (s .args .labels) (s .args .table .now) f r ds in (
+      omega (arith, s .pre .0),
+      (
+        s .pre .1 .0,
+        (
+          longer-ready _ _ _ _ y _ _ (listed-keeps q ds l),
+          rw (half-longer xs n (y .held) (getD ds 2 0) (getD ds 3 0) (omega (arith, y .room)))
+              (second-fits _ _ _ _ over room _ _ 2 refl refl
+              (c .before .before .before .before .before .before .before .before .put-node .ensures)),
+        ),
+      ),
+    )
 
-pub write-disjunct-element-write-run-3 : (t : ℕ) → write-disjunct-lts.Need-element-write-run-3 (write-disjunct-claims t) (write-disjunct-at t) write-disjunct.Post
+pub write-disjunct-element-write-run-3 : (t : ℕ)
+    → write-disjunct-lts.Need-element-write-run-3 (write-disjunct-claims t) (write-disjunct-at t) write-disjunct.Post
 write-disjunct-element-write-run-3 t c =
-    let s = c .before .before .before .before .before .before .before .before .before .before .before .before .before .before .before .before .before .before .before in
+    let s = c .before .before .before .before .before .before .before .before .before .before .before .before .before
+    .before .before .before .before .before .before in
     let y = s .pre .1 .1 .0 in
     omega (arith, y .room, y .size)
 
-pub write-disjunct-add-run-2 : (t : ℕ) → write-disjunct-lts.Need-add-run-2 (write-disjunct-claims t) (write-disjunct-at t) write-disjunct.Post
+pub write-disjunct-add-run-2 : (t : ℕ)
+    → write-disjunct-lts.Need-add-run-2 (write-disjunct-claims t) (write-disjunct-at t) write-disjunct.Post
 write-disjunct-add-run-2 t c =
-    let s = c .before .before .before .before .before .before .before .before .before .before .before .before .before .before .before .before .before .before .before in
+    let s = c .before .before .before .before .before .before .before .before .before .before .before .before .before
+    .before .before .before .before .before .before in
     let y = s .pre .1 .1 .0 in
     omega (arith, y .room, y .size)
 
-pub write-disjunct-element-write-run-4 : (t : ℕ) → write-disjunct-lts.Need-element-write-run-4 (write-disjunct-claims t) (write-disjunct-at t) write-disjunct.Post
+pub write-disjunct-element-write-run-4 : (t : ℕ)
+    → write-disjunct-lts.Need-element-write-run-4 (write-disjunct-claims t) (write-disjunct-at t) write-disjunct.Post
 write-disjunct-element-write-run-4 t c =
-    let s = c .before .before .before .before .before .before .before .before .before .before .before .before .before .before .before .before .before .before .before in
+    let s = c .before .before .before .before .before .before .before .before .before .before .before .before .before
+    .before .before .before .before .before .before in
     let y = s .pre .1 .1 .0 in
     omega (arith, y .room, y .size)
 
-pub write-disjunct-add-result : (t : ℕ) → write-disjunct-lts.Need-add-result (write-disjunct-claims t) (write-disjunct-at t) write-disjunct.Post
+pub write-disjunct-add-result : (t : ℕ)
+    → write-disjunct-lts.Need-add-result (write-disjunct-claims t) (write-disjunct-at t) write-disjunct.Post
 write-disjunct-add-result t c =
-    let s = c .before .before .before .before .before .before .before .before .before .before .before .before .before .before .before .before .before .before .before in
+    let s = c .before .before .before .before .before .before .before .before .before .before .before .before .before
+    .before .before .before .before .before .before in
     let y = s .pre .1 .1 .0 in
     let f = s .args .f .now in
     let xs = s .args .run .now in
@@ -418,11 +580,21 @@ write-disjunct-add-result t c =
     let ds = s .args .disjuncts .now in
     let q = getD xs (n - 1) 0 in
     let over = first-text q (s .args .labels) (s .args .table .now) f r ds in
-    omega (arith, rw (half-longer xs n (y .held) (getD ds 2 0) (getD ds 3 0) (omega (arith, y .room))) at (c .before .before .write-tree .ensures .0), second-fits _ _ _ _ over room _ _ 2 refl refl (c .before .before .before .before .before .before .before .before .before .before .before .put-node .ensures), s .good)
+    omega (
+      arith,
+      rw (half-longer xs n (y .held) (getD ds 2 0) (getD ds 3 0) (omega (arith, y .room)))
+          at (c .before .before .write-tree .ensures .0),
+      second-fits _ _ _ _ over room _ _ 2 refl refl
+          (c .before .before .before .before .before .before .before .before .before .before .before .put-node
+          .ensures),
+      s .good,
+    )
 
-pub write-disjunct-same-length : (t : ℕ) → write-disjunct-lts.Need-same-length (write-disjunct-claims t) (write-disjunct-at t) write-disjunct.Post
+pub write-disjunct-same-length : (t : ℕ)
+    → write-disjunct-lts.Need-same-length (write-disjunct-claims t) (write-disjunct-at t) write-disjunct.Post
 write-disjunct-same-length t c =
-    let s = c .before .before .before .before .before .before .before .before .before .before .before .before .before .before .before .before .before .before .before in
+    let s = c .before .before .before .before .before .before .before .before .before .before .before .before .before
+    .before .before .before .before .before .before in
     let y = s .pre .1 .1 .0 in
     let f = s .args .f .now in
     let xs = s .args .run .now in
@@ -432,11 +604,16 @@ write-disjunct-same-length t c =
     let ds = s .args .disjuncts .now in
     let q = getD xs (n - 1) 0 in
     let over = first-text q (s .args .labels) (s .args .table .now) f r ds in
-    second-length _ _ _ _ _ _ 2 over refl (c .before .before .before .before .before .before .before .before .before .before .before .put-node .ensures) (rw (half-longer xs n (y .held) (getD ds 2 0) (getD ds 3 0) (omega (arith, y .room))) at (c .before .before .write-tree .ensures .1 .0)) room
+    second-length _ _ _ _ _ _ 2 over refl
+    (c .before .before .before .before .before .before .before .before .before .before .before .put-node .ensures)
+    (rw (half-longer xs n (y .held) (getD ds 2 0) (getD ds 3 0) (omega (arith, y .room)))
+    at (c .before .before .write-tree .ensures .1 .0)) room
 
-pub write-disjunct-returns : (t : ℕ) → write-disjunct-lts.Need-returns (write-disjunct-claims t) (write-disjunct-at t) write-disjunct.Post
+pub write-disjunct-returns : (t : ℕ)
+    → write-disjunct-lts.Need-returns (write-disjunct-claims t) (write-disjunct-at t) write-disjunct.Post
 write-disjunct-returns t c =
-    let s = c .before .before .before .before .before .before .before .before .before .before .before .before .before .before .before .before .before .before .before in
+    let s = c .before .before .before .before .before .before .before .before .before .before .before .before .before
+    .before .before .before .before .before .before in
     let y = s .pre .1 .1 .0 in
     let f = s .args .f .now in
     let xs = s .args .run .now in
@@ -445,5 +622,10 @@ write-disjunct-returns t c =
     let ds = s .args .disjuncts .now in
     let q = getD xs (n - 1) 0 in
     let over = first-text q (s .args .labels) (s .args .table .now) f r ds in
-    let p = two-pieces _ _ _ _ _ _ 2 _ over refl (c .before .before .before .before .before .before .before .before .before .before .before .put-node .ensures) (rw (half-longer xs n (y .held) (getD ds 2 0) (getD ds 3 0) (omega (arith, y .room))) at (c .before .before .write-tree .ensures .0)) (rw (half-longer xs n (y .held) (getD ds 2 0) (getD ds 3 0) (omega (arith, y .room))) at (c .before .before .write-tree .ensures .1 .0)) in
+    let p = two-pieces _ _ _ _ _ _ 2 _ over refl
+    (c .before .before .before .before .before .before .before .before .before .before .before .put-node .ensures)
+    (rw (half-longer xs n (y .held) (getD ds 2 0) (getD ds 3 0) (omega (arith, y .room)))
+    at (c .before .before .write-tree .ensures .0))
+    (rw (half-longer xs n (y .held) (getD ds 2 0) (getD ds 3 0) (omega (arith, y .room)))
+    at (c .before .before .write-tree .ensures .1 .0)) in
     (p .0, (p .1, put-two-back xs _ n _ _ (c .before .before .write-tree .ensures .1 .1)))

@@ -10,7 +10,12 @@ use lib.ListN.{length, getD}
 use Rattle.labels.proofs.Slices.{rest-length}
 use Rattle.formulas.proofs.Operators.{node-room}
 use Rattle.verdict.proofs.Operands as operands
-use Rattle.verdict.proofs.search.+forward+holds+judge+modal+stay+try_both+try_handshakes+try_left+try_moves+try_partner+try_right+try_rows.Proof.Measures.{holds-at, judge-at, holds-claims, judge-claims}
+use Rattle.verdict.proofs.search.+forward+holds+judge+modal+stay+try_both+try_handshakes+try_left+try_moves+try_partner+try_right+try_rows.Proof.Measures.{
+  holds-at,
+  judge-at,
+  holds-claims,
+  judge-claims,
+}
 
 abbrev pub holds-Inv-loop : holds-lts.InvT-loop
 holds-Inv-loop labels left right sizes run₀ len f rest₀ even₀ run rest even =

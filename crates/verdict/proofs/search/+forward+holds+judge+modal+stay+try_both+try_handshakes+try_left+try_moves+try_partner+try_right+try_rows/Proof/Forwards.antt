@@ -16,7 +16,16 @@ use Rattle.machines.proofs.Buffers.{held-last}
 use Rattle.verdict.specs.Working.{targetsOf, gridBy}
 use Rattle.verdict.proofs.Operands as operands
 use Rattle.verdict.proofs.Ahead as ahead
-use Rattle.verdict.proofs.search.+forward+holds+judge+modal+stay+try_both+try_handshakes+try_left+try_moves+try_partner+try_right+try_rows.Proof.Measures.{forward-at, try-both-at, try-left-at, try-right-at, forward-claims, try-both-claims, try-left-claims, try-right-claims}
+use Rattle.verdict.proofs.search.+forward+holds+judge+modal+stay+try_both+try_handshakes+try_left+try_moves+try_partner+try_right+try_rows.Proof.Measures.{
+  forward-at,
+  try-both-at,
+  try-left-at,
+  try-right-at,
+  forward-claims,
+  try-both-claims,
+  try-left-claims,
+  try-right-claims,
+}
 
 pub forward-shared-slice-read-operator : (t : ℕ)
     → forward-lts.Need-shared-slice-read-operator (forward-claims t) (forward-at t) forward.Post

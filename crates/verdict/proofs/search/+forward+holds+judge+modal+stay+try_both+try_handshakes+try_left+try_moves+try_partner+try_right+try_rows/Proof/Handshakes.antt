@@ -10,7 +10,12 @@ use mathlib.Core.Path.{refl, sym, _∙_}
 use Rattle.hml.specs.Labels.{positive}
 use Rattle.verdict.specs.Working.{targetsOf, gridBy}
 use Rattle.verdict.proofs.Ahead as ahead
-use Rattle.verdict.proofs.search.+forward+holds+judge+modal+stay+try_both+try_handshakes+try_left+try_moves+try_partner+try_right+try_rows.Proof.Measures.{try-handshakes-at, try-partner-at, try-handshakes-claims, try-partner-claims}
+use Rattle.verdict.proofs.search.+forward+holds+judge+modal+stay+try_both+try_handshakes+try_left+try_moves+try_partner+try_right+try_rows.Proof.Measures.{
+  try-handshakes-at,
+  try-partner-at,
+  try-handshakes-claims,
+  try-partner-claims,
+}
 
 pub try-handshakes-returns : (t : ℕ)
     → try-handshakes-lts.Need-returns (try-handshakes-claims t) (try-handshakes-at t) try-handshakes.Post

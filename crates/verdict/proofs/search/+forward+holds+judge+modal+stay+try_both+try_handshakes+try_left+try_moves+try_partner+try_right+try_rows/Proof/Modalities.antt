@@ -9,7 +9,10 @@ use Rattle.labels.proofs.Slices.{rest-length}
 use Rattle.formulas.proofs.Operators.{node-room}
 use Rattle.formulas.proofs.Operands.{back-operator}
 use Rattle.verdict.proofs.Operands as operands
-use Rattle.verdict.proofs.search.+forward+holds+judge+modal+stay+try_both+try_handshakes+try_left+try_moves+try_partner+try_right+try_rows.Proof.Measures.{modal-at, modal-claims}
+use Rattle.verdict.proofs.search.+forward+holds+judge+modal+stay+try_both+try_handshakes+try_left+try_moves+try_partner+try_right+try_rows.Proof.Measures.{
+  modal-at,
+  modal-claims,
+}
 
 pub modal-shared-slice-read-operator : (t : ℕ)
     → modal-lts.Need-shared-slice-read-operator (modal-claims t) (modal-at t) modal.Post

@@ -14,7 +14,14 @@ use Rattle.machines.proofs.Buffers.{put-back, length-put, longer-run, held-long
 use Rattle.verdict.specs.Working.{judged, gridBy}
 use Rattle.verdict.proofs.Ahead as ahead
 use Rattle.verdict.proofs.Written as written
-use Rattle.verdict.proofs.search.+forward+holds+judge+modal+stay+try_both+try_handshakes+try_left+try_moves+try_partner+try_right+try_rows.Proof.Measures.{stay-at, try-moves-at, try-rows-at, stay-claims, try-moves-claims, try-rows-claims}
+use Rattle.verdict.proofs.search.+forward+holds+judge+modal+stay+try_both+try_handshakes+try_left+try_moves+try_partner+try_right+try_rows.Proof.Measures.{
+  stay-at,
+  try-moves-at,
+  try-rows-at,
+  stay-claims,
+  try-moves-claims,
+  try-rows-claims,
+}
 
 pub try-moves-element-copy-out-a : (t : ℕ)
     → try-moves-lts.Need-element-copy-out-a (try-moves-claims t) (try-moves-at t) try-moves.Post
