@@ -64,7 +64,7 @@ enum yenuslap_refusal_number {
     YENUSLAP_REFUSED_NESTED_TOO_DEEP = 10,     /* forward modalities nested over 4 deep */
     YENUSLAP_REFUSED_BYTES_AFTER = 11,         /* bytes after the question record */
 
-    /* 12 to 18: a fault of the caller; 13 and 17: a sound case that is too large. */
+    /* 12, 14 to 16, 18: a fault of the caller; 13 and 17: a sound case that is too large. */
     YENUSLAP_REFUSED_POINT_BEYOND = 12,        /* a point beyond the run */
     YENUSLAP_REFUSED_TOO_MANY_SPLITTINGS = 13, /* over 65,535 splittings */
     YENUSLAP_REFUSED_NO_SUCH_SPLITTING = 14,   /* a splitting number not below the count */

@@ -1,5 +1,5 @@
--- Quotients: document 01, "The quotient", and the numbers 17 and 18.
--- What a quotient is, is the theory's to say: `quotient` in hml's Quotient has table 1 of source document 000 as
+-- Quotients: document 01, "The quotient", and the numbers that a division gives: 4, the table's, 9, 10, 15, then 17 and
+-- 18. What a quotient is, is the theory's to say: `quotient` in hml's Quotient has table 1 of source document 000 as
 -- document 01 writes it out, and `spell` in Spell the bytes of a formula.
 use Prim.Native.Nat.{ℕ, _*_}
 use mathlib.Core.List.{List, [], _∷_}

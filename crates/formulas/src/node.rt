@@ -1,5 +1,5 @@
 // The table of operators that checks go by: how many operands a node has, and whether its label byte fits. What each
-// operator means is in verdict (src/search.rt, src/step.rt) and dividing (src/node.rt, src/disjuncts.rt, src/count.rt,
+// operator means is in verdict (src/search.rt, src/back.rt) and dividing (src/node.rt, src/disjuncts.rt, src/count.rt,
 // src/write.rt).
 ghost use mathlib.Core.Path.{_≡_};
 ghost use mathlib.Core.Bool.{_||_};

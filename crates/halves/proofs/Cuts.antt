@@ -1,4 +1,5 @@
--- The cases of a cut, each from what the code knows at its return.
+-- The cases of a cut, each from what the code knows at its return; what a cut is of an accepted half, which others
+-- cite.
 use Prim.Native.Nat.{ℕ, _+_, _*_, _/_, _%_, _≤_, _<_}
 use mathlib.Core.Path.{_≡_, refl, sym, _∙_, ap}
 use mathlib.Core.Logic.{_↔_}

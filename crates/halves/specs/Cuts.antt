@@ -15,7 +15,8 @@ knownOf side.Unnamed = known.Right
 knownOf side.Left = known.Left
 knownOf side.Right = known.Right
 
--- 12: is the point beyond the run of a half? A half of even length has no points, any other as many as steps, and 0
+-- 12: is the point beyond the run of a half? A half of even length has no points, any other those from 0 to its number
+-- of steps
 unfoldable pub beyond : List ℕ → ℕ → Bool
 beyond s point = eqb (length s % 2) 0 || ltb (length s / 2) point
 

@@ -1,3 +1,4 @@
+-- In reading order; Working is how the code works.
 pub mod Runs
 pub mod Steps
 pub mod Halves

@@ -1,4 +1,4 @@
--- What functions inside the crate promise each other. No public promise cites this file.
+-- How the code works: what functions ask for and promise that serve others. No call's promise cites this file.
 use Prim.Native.Nat.{ℕ, _+_, _*_, _%_, _≤_}
 use mathlib.Core.Bool.{Bool}
 use Rattle.hml.specs.Lists.{same}

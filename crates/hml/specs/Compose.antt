@@ -1,6 +1,6 @@
--- Two systems side by side: the ways of a joint step (document 01, "A joint step .. is real exactly if one of these
--- ways exists"), the joint system, and what a way makes each half do. Document 01 counts all ways; source document 000
--- picks one by which side changed.
+-- Two systems side by side: the ways of a joint move (document 01, "A joint step .. is real exactly if one of these
+-- ways exists"), the joint system, and what a way makes each half do. The fourth way, the joint idle, is an idle of the
+-- joint system (`Allowed`, System). Document 01 counts all ways; source document 000 picks one by which side changed.
 use mathlib.Core.Bool.{Bool}
 use mathlib.Core.List.{List, _++_, map}
 use Prim.Native.Nat.{ℕ}
@@ -44,7 +44,8 @@ module _ (P : Pairing) {S T : Type 0} (L : System S) (R : System T) where
   abbrev pub handshakes : S → T → List (Way S T)
   handshakes p q = each (λ m. each (λ n. only (shakes P (m .0) (n .0)) (both (m .0) (m .1) (n .0) (n .1))) (R q)) (L p)
 
-  -- all ways from (p, q), in the order left alone, right alone, handshakes by the left row
+  -- all ways from (p, q), in the order left alone, right alone, handshakes by the left's move: rows rise, so among
+  -- those of one joint step these are handshakes by rising left label
   unfoldable pub ways : S → T → List (Way S T)
   ways p q = lefts p ++ (rights q ++ handshakes p q)
 

@@ -1,5 +1,6 @@
--- Stuttering Hennessy-Milner logic with past: formulas, their meaning (definitions 3 and 4 of source document 000), and
--- the same as a test. That the test decides the meaning is `decided`, proofs/Agreement.
+-- Stuttering Hennessy-Milner logic with past: formulas, their size and nesting and labels (document 01's limits), their
+-- meaning (definitions 3 and 4 of source document 000), and the same as a test. That the test decides the meaning is
+-- `decided`, proofs/Agreement.
 use mathlib.Core.Path.{_≡_}
 use mathlib.Core.Logic.{_⊎_}
 use mathlib.Core.Bool.{Bool, true, false, _&&_, _||_, not as negate}
@@ -52,7 +53,8 @@ labelled n (fwdIdle φ) = labelled n φ
 labelled n (backIdle φ) = labelled n φ
 
 module _ {S : Type 0} (M : System S) where
-  -- the meaning, clause by clause as definitions 3 and 4 have it: what a reader has to believe. A forward modality
+  -- the meaning, clause by clause as definitions 3 and 4 have it; false and "or", shorthands there, are said directly.
+  -- Promises cite the test below, and `decided` says that it decides this. A forward modality
   -- speaks of the runs one step longer, a back modality of the run without its last step
   unfoldable pub Sat : Formula → Run S → Type 0
   Sat top r = Unit {0}

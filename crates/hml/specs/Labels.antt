@@ -27,7 +27,7 @@ pub silent-alone : (k : ℕ) → partnerAmong k 0 ≡ none
 unfolding partnerAmong partnerOf
 silent-alone k = rw (le-leb 0 (count k) (omega arith))
 
--- facts on numbers, for the tests that failed
+-- what it means for a number that a test of it failed
 pub positive : (a : ℕ) → (a ≡ 0 → ⊥) → 1 ≤ a
 positive zero n = absurd (n refl)
 positive (suc a) n = omega arith

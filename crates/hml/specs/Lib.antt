@@ -1,5 +1,6 @@
--- The theory of source document 000 as document 01 reads it, in reading order: definitions only; theorems about them
--- stand in proofs/. It knows nothing of tables' and runs' bytes, nor of refusals.
+-- The theory of source document 000 as document 01 reads it, in reading order: definitions; the theorems about them
+-- stand in proofs/, but for the proofs that a `Pairing` holds (Labels). It knows nothing of tables' and runs' bytes,
+-- nor of refusals.
 
 -- the small functions that the definitions use
 pub mod Lists
@@ -7,7 +8,7 @@ pub mod Lists
 pub mod System
 -- definitions 3 and 4: formulas, their meaning, and the same as a test
 pub mod Formula
--- two systems side by side, all splittings of a joint run (the decompositions D), and joining
+-- two systems side by side, all splittings of a joint run, and joining
 pub mod Compose
 pub mod Split
 pub mod Joining

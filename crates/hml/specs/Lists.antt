@@ -1,11 +1,11 @@
--- The equality test on labels, and searching and making lists: the small functions that the definitions use.
+-- The equality test on labels and states, and searching and making lists: the small functions that the definitions use.
 use mathlib.Core.Bool.{Bool, true, false, _||_}
 use mathlib.Core.List.{List, [], _∷_, _++_, List·Memᴰ}
 use mathlib.Core.Option.{Option, none, some}
 use Prim.Native.Nat.{ℕ}
 use lib.Dec.{eqb}
 
--- the equality test on labels
+-- the equality test on labels and states
 abbrev pub same : ℕ → ℕ → Bool
 same a b = eqb a b
 

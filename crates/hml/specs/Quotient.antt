@@ -26,6 +26,9 @@ backBy false true none φ = bottom
 backBy false true (some c) φ = back c φ
 
 module _ (P : Pairing) {T : Type 0} (K : System T) where
+  -- "True, false, not, and, or pass through." Forward by a: by a over the quotient by r with an idle; for each row of
+  -- label a, by idle over that by r with that move; and if a is 0, for each row whose label has a partner (document
+  -- 01's labels from 1 on all have one), by the partner. Back by a label: by what r ends with
   unfoldable pub quotient : Formula → Run T → Formula
   quotient top r = top
   quotient bottom r = bottom

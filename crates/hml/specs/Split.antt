@@ -1,6 +1,6 @@
--- All splittings of a joint run. A splitting (a term of document 01) chooses one way for each step; source document 000
--- has them as the decompositions D. That they are the pairs of runs that join to the run, and no others, is proved in
--- proofs/Splits.
+-- All splittings of a joint run. A splitting (a term of document 01) chooses one way for each step. Source document 000
+-- has them as the decompositions D, picked by which side changed; here all ways count. That they are the pairs of runs
+-- that join to the run, and no others, is proved in proofs/Splits.
 use mathlib.Core.List.{List, [], _∷_, map}
 use Prim.Native.Nat.{ℕ}
 use mathlib.Core.Bool.{Bool, _&&_}

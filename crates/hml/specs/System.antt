@@ -1,5 +1,5 @@
--- Labelled transition systems (definition 1) and their runs (the computations of definition 2, with idles). A machine
--- of document 01 is such a system; so are two of them side by side.
+-- Labelled transition systems (definition 1) and their runs (the computations of definition 2, with idles); which
+-- labels shake hands (`Pairing`). A machine of document 01 is such a system; so are two of them side by side.
 use mathlib.Core.List.{List}
 use mathlib.Core.Option.{Option, none, some}
 use mathlib.Core.Path.{_≡_}

@@ -35,7 +35,7 @@ pub enum Joining {
     Refused(Refusal),
 }
 
-// Writes the joint run that two halves give: the tables' numbers, then 15, 16 and 18.
+// Writes the joint run that two halves give: 4, the tables' numbers, then 15, 16 and 18.
 pub fn join(
     k: u8,
     left: &[u8],
@@ -63,7 +63,7 @@ pub fn join(
     Joining::Joined(len)
 }
 
-// What a call judges that takes halves: the tables' numbers, then 15 for either half, then 16.
+// What a call judges that takes halves: 4, the tables' numbers, then 15 for either half, then 16.
 pub fn check_halves(
     labels: Labels,
     left: &[u8],

@@ -1,4 +1,4 @@
--- How the code works: what functions that serve others promise. No call's promise cites this file.
+-- How the code works: what functions ask for and promise that serve others. No call's promise cites this file.
 use Rattle.hml.specs.System.{Pairing}
 use Rattle.hml.specs.Labels.{pairs}
 use Rattle.labels.specs.declared.label.Labels.{Labels}

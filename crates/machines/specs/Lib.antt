@@ -1,3 +1,4 @@
+-- In reading order; Working is how the code works.
 pub mod Steps
 pub mod Joints
 pub mod Working

@@ -32,7 +32,7 @@ use Rattle.quotient.proofs.Quotients.{tree-found, question-read, questi
 use Rattle.quotient.proofs.SplitRuns.{LogParts, log-parts, SplitRun, split-run, joint-call-sound}
 use Rattle.quotient.proofs.SplitRuns.{by-number-sound, known-within, by-half-sound, half-call-sound}
 use Rattle.quotient.proofs.GivenVerdicts.{joint-given, half-given}
-use Rattle.quotient.specs.Demand.{Given, Decomposed, Demand}
+use Rattle.quotient.specs.Demand.{DemandThree, Given, Decomposed, Demand}
 
 -- one splitting of a sound log and a legal question φ: a call whose checks pass does what the demand says
 module _ (k : ℕ) (l r s a b f : List ℕ) (side : Side) (point : ℕ) (log : LogParts k l r s)
@@ -105,14 +105,7 @@ module _ (k : ℕ) (l r s a b f : List ℕ) (side : Side) (point : ℕ) (log : L
         }
 
 -- demand 3
-pub demand-three : (k : ℕ) (l r s f : List ℕ) (side : Side) (point : ℕ)
-    -- the log is accepted: k (4), its tables (3, 5 to 7) and the joint run (3, 8)
-    → checkLog k l r s ≡ Sound
-    -- and so is the question (9, 10)
-    → checkFormula k questionLimit f ≡ Sound
-    -- the point is one of the log's: "from 0 to its number of steps"
-    → point ≤ steps (jointOf s)
-    → Demand k l r s f side point
+pub demand-three : DemandThree
 unfolding byHalf byHalfOutput byNumber byNumberOutput treeByNumber splittingLimit
 demand-three k l r s f side point log question within = record {
   byHalves = byHalves;

@@ -1,4 +1,4 @@
--- Demand 3, as one claim: what `demand-three` in proofs/DemandThree proves of every accepted log.
+-- Demand 3 as one claim, `DemandThree`; that it holds is `demand-three`, proofs/DemandThree.
 use Prim.Native.Nat.{ℕ, _*_, _≤_, _<_}
 use mathlib.Core.Path.{_≡_}
 use mathlib.Core.List.{List, []}
@@ -12,7 +12,7 @@ use Rattle.dividing.specs.declared.divide.Quotient.{Quotient}
 use Rattle.dividing.specs.declared.divide.Quotient.the-variants.{Written, Refused}
 use mathlib.Core.Logic.{_↔_}
 use mathlib.Core.Option.{some}
-use Rattle.hml.specs.System.{stop}
+use Rattle.hml.specs.System.{steps, stop}
 use Rattle.hml.specs.Compose.{beside}
 use Rattle.hml.specs.Labels.{pairs}
 use Rattle.hml.specs.Quotient.{quotient}
@@ -21,14 +21,14 @@ use Rattle.labels.specs.declared.refusal.Refusal.the-variants.{QuotientTooLarge
 use Rattle.tables.specs.Tables.{tableOf}
 use Rattle.halves.specs.Halves.{halfOf}
 use Rattle.machines.specs.Joints.{jointOf}
-use Rattle.formulas.specs.Formulas.{quotientLimit}
+use Rattle.formulas.specs.Formulas.{questionLimit, quotientLimit, checkFormula}
 use Rattle.quotient.specs.Calls.{treeByHalf, byHalf, byHalfOutput, byNumber, byNumberOutput}
 use Rattle.labels.specs.declared.refusal.Check.the-variants.{Sound}
 use Rattle.joining.specs.Joinings.{joinBytes, checkHalves}
-use Rattle.splitting.specs.Splittings.{splittingsOf, splittingLimit, leftHalf, rightHalf}
+use Rattle.splitting.specs.Splittings.{checkLog, splittingsOf, splittingLimit, leftHalf, rightHalf}
 
--- what a call that answers `answer` with so many bytes lent, and leaves a lent output as `output`, gives for a tree ψ
--- where there is room: the tree's bytes, and under them the other half's verdict is that on the log
+-- A call is given by what it answers if so many bytes are lent (`answer`) and by what it leaves in a lent output
+-- (`output`). Where there is room for a tree ψ: its bytes, and under them the other half's verdict is that on the log
 pub record Given (k : ℕ) (l r s a b f : List ℕ) (side : Side) (point : ℕ) (answer : ℕ → Quotient)
     (output : List ℕ → List ℕ) (ψ : Formula) (out : List ℕ) : Type 0 where
   -- the answer is the number of the bytes written: two a node
@@ -54,7 +54,7 @@ pub record Decomposed (k : ℕ) (l r s a b f : List ℕ) (side : Side) (point : 
   pub divided : tree ≡ quotient (pairs k) (tableOf (knownPart l r (knownOf side))) question
       (stop point (halfOf (knownPart a b (knownOf side))))
   pub found : treeByHalf k l r a b f side point ≡ some tree
-  -- which is what the cut gives
+  -- the known half stopped at the point is what the cut gives
   pub cut : halfOf (cutOf a b side point) ≡ stop point (halfOf (knownPart a b (knownOf side)))
   -- the verdict on the log is given, and is that of the question on the run stopped at the point
   pub verdict : jointVerdict k l r s f point
@@ -84,3 +84,15 @@ pub record Demand (k : ℕ) (l r s f : List ℕ) (side : Side) (point : ℕ) : T
   pub byNumbers : (n : ℕ) → n < length (splittingsOf k l r s) → length (splittingsOf k l r s) ≤ splittingLimit
       → Decomposed k l r s (leftHalf k l r s n) (rightHalf k l r s n) f side point (byNumber k l r s f n side point)
       (byNumberOutput k l r s f n side point)
+
+-- the whole: every accepted log and question, every known side, every point of the log
+abbrev pub DemandThree : Type 0
+DemandThree =
+    (k : ℕ) (l r s f : List ℕ) (side : Side) (point : ℕ)
+    -- the log is accepted: k (4), its tables (3, 5 to 7) and the joint run (3, 8)
+    → checkLog k l r s ≡ Sound
+    -- and so is the question (9, 10)
+    → checkFormula k questionLimit f ≡ Sound
+    -- the point is one of the log's: "from 0 to its number of steps"
+    → point ≤ steps (jointOf s)
+    → Demand k l r s f side point

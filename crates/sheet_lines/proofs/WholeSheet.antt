@@ -70,7 +70,7 @@ reached s first (c ∷ calls) = reached s (first + linesBy (answerTo s first c))
 -- what is claimed of such calls: none is refused; what they printed and what is left are together the sheet from the
 -- line where they begin; a call that writes no line comes when nothing is left; as many calls as there are lines are
 -- enough
-pub record Together (s : List ℕ) (first : ℕ) (calls : List Call) : Type 0 where
+pub record Whole (s : List ℕ) (first : ℕ) (calls : List Call) : Type 0 where
   pub granted : (x : Refusal) → answer.Refused x ∈ answersTo s first calls → ⊥
   pub front : printed s first calls ++ bytesOf (drop (reached s first calls) (sheetOf s))
       ≡ bytesOf (drop first (sheetOf s))
@@ -226,7 +226,7 @@ module _ (s : List ℕ) where
 
 -- blocks of calls that ask for a line and have room for the longest are never refused, and are together the sheet
 pub sheet-printed : (s : List ℕ) (first : ℕ) (calls : List Call) → ((c : Call) → c ∈ calls → Roomy c)
-    → Together s first calls
+    → Whole s first calls
 sheet-printed s first calls roomy =
     record {
       granted = all-granted s first calls roomy;

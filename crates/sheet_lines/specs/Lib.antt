@@ -1,3 +1,4 @@
+-- In reading order; Working is how the code works.
 pub mod Digits
 pub mod Sheets
 pub mod Blocks

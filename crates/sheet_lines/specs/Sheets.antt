@@ -112,7 +112,7 @@ unfoldable pub bytesOf : List (List ℕ) → List ℕ
 bytesOf [] = []
 bytesOf (line ∷ due) = line ++ bytesOf due
 
--- those of the first lines that fit whole into so many bytes
+-- the first lines, as many as fit whole into so many bytes
 unfoldable pub fitting : ℕ → List (List ℕ) → List (List ℕ)
 fitting room [] = []
 fitting room (line ∷ due) = cond (leb (length line) room) (line ∷ fitting (room - length line) due) []

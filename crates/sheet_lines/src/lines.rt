@@ -39,8 +39,8 @@ pub(crate) struct Fitted {
     pub short: bool,
 }
 
-// Writes lines of the sheet of any bytes: from line `first` on, at most so many, and no more than fit. Where a line is
-// due and does not fit, 18.
+// Writes lines of the sheet of any bytes: from line `first` on, at most so many, and no more than fit. Where the first
+// line due does not fit, 18.
 pub fn write_lines(casebook: &[u8], first: usize, most: usize, out: &mut [u8]) -> Lines
     ensures { λ r. ⌜ r ≡ blockAnswer (linesDue (now (casebook .entry)) first most) (length (now (out .entry))) ⌝ }
     ensures { λ r. ⌜ now (out .exit) ≡ blockOutput (linesDue (now (casebook .entry)) first most) (now (out .entry)) ⌝ }
@@ -55,7 +55,7 @@ pub fn write_lines(casebook: &[u8], first: usize, most: usize, out: &mut [u8]) -
     })
 }
 
-// The same without a refusal: where a line is due and does not fit, nothing is written.
+// The same without a refusal: where the first line due does not fit, nothing is written.
 pub(crate) fn fit_lines(casebook: &[u8], first: usize, most: usize, out: &mut [u8]) -> Fitted
     ensures { λ r. ⌜ r ≡ fittedOf (linesDue (now (casebook .entry)) first most) (length (now (out .entry))) ⌝ }
     ensures { λ r. ⌜ now (out .exit) ≡ fittedOutput (linesDue (now (casebook .entry)) first most) (now (out .entry)) ⌝ }

@@ -1,2 +1,3 @@
+-- In reading order; Working is how the code works.
 pub mod Splittings
 pub mod Working

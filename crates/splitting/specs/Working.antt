@@ -1,4 +1,4 @@
--- How the code works: what functions that serve others promise. No call's promise cites this file.
+-- How the code works: what functions ask for and promise that serve others. No call's promise cites this file.
 use Prim.Native.Nat.{ℕ, _+_, _*_, _%_}
 use mathlib.Core.List.{List}
 use lib.ListN.{length, set}

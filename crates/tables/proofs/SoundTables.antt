@@ -256,6 +256,6 @@ module _ {k : ℕ} {t : List ℕ} (s : SoundTable k t) where
   unfolding tableOf
   moves-few p = omega (arith, moves-length p (rowsOf t), s .eight p)
 
--- a sound table is all that the functions inside the crate ask for
+-- a sound table is all that functions that search it ask for
 pub ready : (k : ℕ) (t : List ℕ) → checkTable k t ≡ Sound → Ready t
 ready k t e = let s = sound-table k t e in record { some = omega (arith, s .fits .0); rising = s .rising }

@@ -50,14 +50,15 @@ among moves a q = any (λ m. same (m .0) a && same (m .1) q) moves
 unfoldable pub hasMove : System ℕ → ℕ → ℕ → ℕ → Bool
 hasMove M p a q = among (M p) a q
 
--- a row by its number, from 0
+-- a row as the program holds it
 abbrev pub rowStruct : Row → declared-row.Row
 rowStruct r = record { from = r .0; label = record { 0 = r .1 }; to = r .2 }
 
+-- a row by its number, from 0
 unfoldable pub rowRead : List ℕ → ℕ → RowRead
 rowRead t i = cond (ltb i (length (rowsOf t))) (read.Row (rowStruct (getD (rowsOf t) i (0, 0, 0)))) read.NoRow
 
--- 3: "a multiple of 3, 3 to 1,539" counts a record's kind of two bytes, so a table has 1 to 1,537 bytes, one more than
+-- 3: "3 to 1,539, a multiple of 3" counts a record's kind of two bytes, so a table has 1 to 1,537 bytes, one more than
 -- a multiple of 3
 unfoldable pub fitTable : List ℕ → Bool
 fitTable t = eqb (length t % 3) 1 && leb (length t) 1537

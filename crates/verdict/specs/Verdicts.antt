@@ -1,6 +1,6 @@
 -- Verdicts: document 01, "Questions and verdicts", and the order of "Who can cause a refusal" in a call that takes
 -- parts. When a formula holds on a run is the theory's to say: `Sat` in hml's Formula has definitions 3 and 4 of source
--- document 000 clause by clause, and `holds` is the test that decides it (`decided` there).
+-- document 000 clause by clause, and `holds` is the test that decides it (`decided`, hml/proofs/Agreement).
 use Prim.Native.Nat.{ℕ}
 use mathlib.Core.Bool.{Bool, true, false}
 use mathlib.Core.List.{List, [], _∷_}

@@ -1,7 +1,6 @@
--- The ways of one step of a joint run: document 01, "A joint step from (p,q) to (p',q') is real exactly if one of these
--- ways exists", in the order in which splittings are numbered: "left alone, right alone, then handshakes by rising left
--- label". A joint idle is the one way of its step. The moves that leave the two states are given; that these are the
--- theory's options is `options-listed` in proofs/Options.
+-- How the code works: the ways of one step of a joint run from the moves that leave its two states, in the order in
+-- which splittings are numbered: left alone, right alone, then handshakes by rising left label; a joint idle is the one
+-- way of its step. These are the theory's options: `options-listed`, proofs/Options. No call's promise cites this file.
 use Prim.Native.Nat.{ℕ}
 use mathlib.Core.Bool.{cond, _&&_}
 use mathlib.Core.List.{List, [], _∷_, _++_}
