@@ -16,8 +16,7 @@ use Rattle.hml.proofs.Spelling.{length-spell}
 use Rattle.hml.specs.Quotient.{quotient}
 use Rattle.hml.specs.Labels.{pairs}
 use Rattle.labels.specs.Refusals.{thenOf, firstOf, inFront}
-use Rattle.labels.specs.Labels.{checkPairs}
-use Rattle.labels.specs.Working.{pairing}
+use Rattle.labels.specs.Labels.{checkPairs, pairing}
 use Rattle.labels.specs.declared.label.Labels.{Labels}
 use Rattle.labels.specs.declared.refusal.Refusal.{Refusal}
 use Rattle.labels.specs.declared.refusal.Refusal.the-variants.{QuotientTooLarge, OutputTooShort}

@@ -15,7 +15,7 @@ use Rattle.hml.specs.Formula.{Formula, or, fwd, fwdIdle}
 use Rattle.hml.specs.Spell.{spell}
 use Rattle.hml.proofs.Spelling.{spell-append}
 use Rattle.hml.specs.Quotient.{ors, ofPartner, quotient}
-use Rattle.labels.specs.Working.{pairing}
+use Rattle.labels.specs.Labels.{pairing}
 use Rattle.labels.specs.declared.label.Labels.{Labels}
 use Rattle.labels.proofs.Slices.{rest, rest-of}
 use Rattle.tables.specs.Tables.{tableOf, SoundTable}

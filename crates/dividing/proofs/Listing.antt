@@ -10,8 +10,7 @@ use lib.Dec.{eqb}
 use borrow.Author.Tests.{eq-eqb, ne-eqb}
 use Rattle.hml.specs.Lists.{same, each, given}
 use Rattle.hml.specs.System.{Pairing}
-use Rattle.labels.specs.Labels.{partnerFound}
-use Rattle.labels.specs.Working.{pairing}
+use Rattle.labels.specs.Labels.{partnerFound, pairing}
 use Rattle.labels.specs.declared.label.Label.{Label}
 use Rattle.labels.specs.declared.label.Labels.{Labels}
 use Rattle.labels.specs.declared.label.Partner.the-variants as partner

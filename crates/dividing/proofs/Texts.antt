@@ -17,7 +17,7 @@ use Rattle.hml.specs.Formula.{Formula, not, and, or, back, backIdle, size}
 use Rattle.hml.specs.Spell.{spell}
 use Rattle.hml.proofs.Spelling.{length-spell, spell-append}
 use Rattle.hml.specs.Quotient.{backBy, quotient}
-use Rattle.labels.specs.Working.{pairing}
+use Rattle.labels.specs.Labels.{pairing}
 use Rattle.labels.specs.declared.label.Labels.{Labels}
 use Rattle.labels.proofs.Slices.{rest}
 use Rattle.tables.specs.Tables.{tableOf}

@@ -12,7 +12,7 @@ use Rattle.hml.specs.System.{Run, _▸_, Pairing}
 use Rattle.hml.specs.Formula.{nesting}
 use Rattle.hml.specs.Spell.{spell}
 use Rattle.hml.specs.Quotient.{quotient}
-use Rattle.labels.specs.Working.{pairing}
+use Rattle.labels.specs.Labels.{pairing}
 use Rattle.labels.specs.declared.label.Labels.{Labels}
 use Rattle.tables.specs.Tables.{tableOf}
 use Rattle.halves.specs.Runs.{stepOf}

@@ -11,7 +11,7 @@ ghost use lib.ListN.{length};
 ghost use Rattle.labels.specs.Refusals.{inFront};
 ghost use Rattle.tables.specs.Tables.{SoundTable};
 ghost use Rattle.tables.specs.Working.{movesIn};
-ghost use Rattle.labels.specs.Working.{pairing};
+ghost use Rattle.labels.specs.Labels.{pairing};
 ghost use Rattle.dividing.specs.Working.{disjunctsOf, aloneIn, shakenIn};
 
 // Lists the disjuncts of forward by a label (operator 5) or by idle (7), where the known half ends in this state: an

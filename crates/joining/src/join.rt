@@ -15,7 +15,7 @@ ghost use mathlib.Core.Bool.{true};
 ghost use Prim.Native.Nat.{_+_, _*_, _≤_, _<_};
 ghost use lib.ListN.{length};
 ghost use Rattle.hml.specs.Labels.{pairs};
-ghost use Rattle.labels.specs.Working.{pairing};
+ghost use Rattle.labels.specs.Labels.{pairing};
 ghost use Rattle.labels.specs.Refusals.{inFront};
 ghost use Rattle.halves.specs.Steps.{stepRead};
 ghost use Rattle.machines.specs.Working.{put};

@@ -8,8 +8,7 @@ use mathlib.Core.Bool.{true, false}
 use borrow.Author.Tests.{eq-eqb, ne-eqb, le-leb, leb-true}
 use Rattle.hml.specs.Labels.{count, partnerOf, partnerAmong, pairs, silent-alone}
 use Rattle.hml.proofs.Tests.{apart, decided-lt}
-use Rattle.labels.specs.Labels.{checkPairs, anyPartner, partnerFound}
-use Rattle.labels.specs.Working.{pairing}
+use Rattle.labels.specs.Labels.{checkPairs, anyPartner, partnerFound, pairing}
 use Rattle.labels.specs.declared.refusal.Refusal.the-variants.{TooManyPairs}
 use Rattle.labels.proofs.Refusals.{Judges, judged-iff, judged-fault}
 use Rattle.labels.specs.declared.label.Label.{Label}

@@ -2,12 +2,18 @@
 use Prim.Native.Nat.{ℕ}
 use mathlib.Core.Option.{Option, none, some}
 use lib.Dec.{ltb}
-use Rattle.hml.specs.Labels.{partnerAmong}
+use Rattle.hml.specs.Labels.{partnerAmong, pairs}
 use Rattle.labels.specs.Refusals.{refusedIf}
 use Rattle.labels.specs.declared.refusal.Check.{Check}
 use Rattle.labels.specs.declared.refusal.Refusal.the-variants.{TooManyPairs}
 use Rattle.labels.specs.declared.label.Partner.{Partner}
 use Rattle.labels.specs.declared.label.Partner.the-variants as partner
+use Rattle.hml.specs.System.{Pairing}
+use Rattle.labels.specs.declared.label.Labels.{Labels}
+
+-- who shakes hands with whom in a call
+unfoldable pub pairing : Labels → Pairing
+pairing labels = pairs (labels .pairs)
 
 -- 4: k over 15
 abbrev pub checkPairs : ℕ → Check

@@ -1,4 +1,3 @@
--- In reading order; Working is how the code works.
+-- In reading order.
 pub mod Refusals
 pub mod Labels
-pub mod Working

@@ -4,8 +4,7 @@ use crate::refusal::Refusal;
 ghost use mathlib.Core.Path.{_≡_};
 ghost use lib.Dec.{eqb, leb};
 ghost use Rattle.hml.specs.Labels.{count};
-ghost use Rattle.labels.specs.Labels.{checkPairs, anyPartner, partnerFound};
-ghost use Rattle.labels.specs.Working.{pairing};
+ghost use Rattle.labels.specs.Labels.{checkPairs, anyPartner, partnerFound, pairing};
 
 // A label by its number.
 pub struct Label(pub u8);

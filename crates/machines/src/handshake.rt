@@ -4,8 +4,7 @@ use labels::label::Labels;
 use labels::label::Partner;
 use tables::leaving::leads_to;
 ghost use mathlib.Core.Path.{_≡_};
-ghost use Rattle.labels.specs.Labels.{partnerFound};
-ghost use Rattle.labels.specs.Working.{pairing};
+ghost use Rattle.labels.specs.Labels.{partnerFound, pairing};
 ghost use Rattle.tables.specs.Working.{movesIn};
 ghost use Rattle.machines.specs.Working.{answerTo};
 

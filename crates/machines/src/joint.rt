@@ -17,7 +17,7 @@ ghost use mathlib.Core.Bool.{_&&_};
 ghost use lib.Dec.{eqb};
 ghost use lib.ListN.{length};
 ghost use Rattle.hml.specs.Labels.{pairs};
-ghost use Rattle.labels.specs.Working.{pairing};
+ghost use Rattle.labels.specs.Labels.{pairing};
 ghost use Rattle.tables.specs.Tables.{rowsOf, tableOf, hasMove, Rising};
 ghost use Rattle.tables.specs.Working.{Ready};
 ghost use Rattle.machines.specs.Joints.{isHandshake, isJointIdle, isRealStep, isJointRun, checkTablesAndJoint};

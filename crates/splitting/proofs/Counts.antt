@@ -15,7 +15,7 @@ use Rattle.hml.specs.Labels.{pairs}
 use Rattle.hml.specs.Split.{splits}
 use Rattle.hml.proofs.Splits.{splits-count}
 use Rattle.hml.specs.Lists.{same}
-use Rattle.labels.specs.Working.{pairing}
+use Rattle.labels.specs.Labels.{pairing}
 use Rattle.labels.specs.declared.label.Labels.{Labels}
 use Rattle.tables.specs.Tables.{tableOf, rowsOf, rowsFrom, bytesOf}
 use Rattle.tables.specs.Working.{movesIn}

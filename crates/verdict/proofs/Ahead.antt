@@ -16,8 +16,7 @@ use Rattle.hml.specs.System.{Run, _▸_, move, last, Pairing}
 use Rattle.hml.specs.Formula.{Formula, fwd, holds}
 use Rattle.hml.specs.Compose.{shakes, beside}
 use Rattle.hml.proofs.Composition.{decided-shakes, beside-composed, Composed}
-use Rattle.labels.specs.Labels.{partnerFound}
-use Rattle.labels.specs.Working.{pairing}
+use Rattle.labels.specs.Labels.{partnerFound, pairing}
 use Rattle.labels.specs.declared.label.Label.{Label}
 use Rattle.labels.specs.declared.label.Labels.{Labels}
 use Rattle.labels.specs.declared.label.Partner.the-variants as partner

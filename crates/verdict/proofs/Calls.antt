@@ -16,8 +16,7 @@ use Rattle.hml.specs.Labels.{pairs}
 use Rattle.hml.specs.Compose.{beside}
 use Rattle.hml.proofs.Alone.{holds-alone}
 use Rattle.labels.specs.Refusals.{thenOf, firstOf, refusedIf}
-use Rattle.labels.specs.Labels.{checkPairs}
-use Rattle.labels.specs.Working.{pairing}
+use Rattle.labels.specs.Labels.{checkPairs, pairing}
 use Rattle.labels.specs.declared.label.Labels.{Labels}
 use Rattle.labels.specs.declared.refusal.Refusal.{Refusal}
 use Rattle.labels.specs.declared.refusal.Refusal.the-variants.{PointBeyond}

@@ -10,7 +10,7 @@ use Rattle.hml.specs.System.{System, Run, Pairing}
 use Rattle.hml.specs.Formula.{Formula, holds, nesting, labelled}
 use Rattle.hml.specs.Compose.{beside}
 use Rattle.hml.specs.Labels.{count}
-use Rattle.labels.specs.Working.{pairing}
+use Rattle.labels.specs.Labels.{pairing}
 use Rattle.labels.specs.declared.label.Labels.{Labels}
 use Rattle.tables.specs.Tables.{tableOf}
 use Rattle.machines.specs.declared.step.JointRead.{JointRead}

@@ -23,7 +23,7 @@ ghost use lib.Dec.{eqb};
 ghost use Rattle.hml.specs.Lists.{present};
 ghost use Rattle.hml.specs.System.{_▸_};
 ghost use Rattle.hml.specs.Formula.{fwd};
-ghost use Rattle.labels.specs.Working.{pairing};
+ghost use Rattle.labels.specs.Labels.{pairing};
 ghost use Rattle.halves.specs.Runs.{stepOf};
 ghost use Rattle.machines.specs.Joints.{jointOf};
 ghost use Rattle.formulas.specs.Working.{treeOf};

@@ -9,7 +9,7 @@ use labels::label::Labels;
 use labels::label::Partner;
 use machines::step::JointStep;
 ghost use mathlib.Core.Path.{_≡_};
-ghost use Rattle.labels.specs.Working.{pairing};
+ghost use Rattle.labels.specs.Labels.{pairing};
 ghost use Rattle.tables.specs.Working.{movesIn};
 ghost use Rattle.ways.specs.Working.{waysHere, rightWays, handshakes, wayStruct, chosen};
 

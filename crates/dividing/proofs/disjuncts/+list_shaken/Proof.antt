@@ -12,7 +12,7 @@ use Rattle.dividing.proofs.disjuncts.+list_shaken.Tie.{close}
 use mathlib.Core.Path.{refl, sym, _∙_}
 use native.Mathlib.Omega.{arith}
 use borrow.Author.Needs.{needs}
-use Rattle.labels.specs.Working.{pairing}
+use Rattle.labels.specs.Labels.{pairing}
 use lib.ListN.{length}
 use Rattle.labels.proofs.Slices.{rest-length}
 use Rattle.labels.proofs.Outputs.{front-length}

@@ -1,6 +1,6 @@
 -- What each half has at i.
 use mathlib.Core.Path.{sym, _∙_}
-use Rattle.labels.specs.Working.{pairing}
+use Rattle.labels.specs.Labels.{pairing}
 use Rattle.joining.proofs.Joined.{both-read, left-read, right-read, none-read}
 use borrow.Author.Needs.{needs}
 use Rattle.joining.proofs.join.label_at.Statement.{statement}

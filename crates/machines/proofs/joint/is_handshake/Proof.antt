@@ -6,7 +6,7 @@ use native.Mathlib.Omega.{arith}
 use mathlib.Core.Path.{sym, _∙_}
 use lib.ListN.{length}
 use borrow.Author.Tests.{not-true, not-false}
-use Rattle.labels.specs.Working.{pairing}
+use Rattle.labels.specs.Labels.{pairing}
 use Rattle.labels.proofs.Slices.{rest-fewer}
 use Rattle.tables.specs.Working.{movesIn}
 use Rattle.tables.proofs.Searching.{Searching, search-rows, search-end, search-hit, search-miss, leaving-moves}

@@ -5,7 +5,7 @@ use Prim.Native.Nat.{_-_, _/_}
 use lib.ListN.{length}
 use borrow.Author.Needs.{needs}
 use borrow.Author.Tests.{not-true, not-false}
-use Rattle.labels.specs.Working.{pairing}
+use Rattle.labels.specs.Labels.{pairing}
 use Rattle.machines.proofs.Steps.{step-found}
 use Rattle.machines.proofs.Joints.{Walked, walked-start, left-out, right-out, walked-end, walked-stop, walked-on}
 use Rattle.machines.proofs.joint.is_joint_run.Statement.{statement}

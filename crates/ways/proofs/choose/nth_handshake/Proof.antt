@@ -7,7 +7,7 @@ use mathlib.Core.Path.{sym, _∙_}
 use lib.ListN.{length}
 use borrow.Author.Tests.{not-true, not-false}
 use Rattle.hml.specs.Labels.{positive}
-use Rattle.labels.specs.Working.{pairing}
+use Rattle.labels.specs.Labels.{pairing}
 use Rattle.labels.proofs.Slices.{rest-fewer}
 use Rattle.tables.specs.Working.{movesIn}
 use Rattle.ways.proofs.RowWays.{Seeking, seeking-start, seeking-miss, seeking-hit, seeking-end, seeking-found}

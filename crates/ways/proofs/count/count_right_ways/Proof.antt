@@ -4,7 +4,7 @@ use Rattle.ways.proofs.count.count_right_ways.Statement.{statement}
 use Rattle.ways.proofs.count.count_right_ways.Tie as tie
 use native.Mathlib.Omega.{arith}
 use mathlib.Core.Path.{sym, _∙_}
-use Rattle.labels.specs.Working.{pairing}
+use Rattle.labels.specs.Labels.{pairing}
 use Rattle.tables.specs.Working.{movesIn}
 use Rattle.ways.proofs.RowWays.{right-counted, no-right-counted, handshakes-bytes}
 
