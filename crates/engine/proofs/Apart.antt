@@ -10,6 +10,7 @@ use lib.ListN.{length}
 use lib.Dec.{eqb}
 use Rattle.labels.specs.Refusals.{Answer}
 use Rattle.labels.proofs.Answers.{Within, next, within-at}
+use Rattle.labels.proofs.Slices.{no-bytes}
 use Rattle.halves.specs.Cuts.{beyond, cutOf, knownOf, knownPart}
 use Rattle.halves.specs.declared.side.Side.{Side}
 use Rattle.halves.proofs.Cuts.{refused-empty}
@@ -116,8 +117,4 @@ pub cut-refused-0 : (l r : List ℕ) (side : Side) (point : ℕ)
 unfolding cutOf
 cut-refused-0 l r side point =
     let (there, back) = refused-empty (knownPart l r (knownOf side)) point in
-    (λ h. ap length (there h), λ h. back (empty _ h))
-  where
-    empty : (xs : List ℕ) → length xs ≡ 0 → xs ≡ []
-    empty [] h = refl
-    empty (x ∷ xs) h = absurd (omega arith)
+    (λ h. ap length (there h), λ h. back (no-bytes _ h))

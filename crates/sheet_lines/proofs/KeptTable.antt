@@ -12,17 +12,16 @@ use lib.Seq.{sets-eq, take-at, drop-at, take-length, take-take, length-take-le}
 use borrow.Rule.Slice.PartMut.{putMid}
 use borrow.Author.Tests.{le-ltb, lt-leb, ltb-true, ltb-false}
 use Rattle.hml.specs.System.{steps}
-use Rattle.labels.specs.Refusals.{firstOf, refusedIf, inFront, outputOf}
-use Rattle.labels.specs.declared.refusal.Refusal.the-variants.{TooManySplittings}
+use Rattle.labels.specs.Refusals.{firstOf, inFront, outputOf}
 use Rattle.labels.specs.declared.refusal.Check.{Check}
 use Rattle.labels.specs.declared.refusal.Check.the-variants as check
 use Rattle.labels.specs.declared.refusal.Check.the-variants.{Sound}
-use Rattle.labels.proofs.Refusals.{both-sound, unrefused}
 use Rattle.labels.proofs.Slices.{rest, rest-of, rest-length}
 use Rattle.machines.specs.Joints.{jointOf}
 use Rattle.splitting.specs.Splittings.{splittingsOf, splittingLimit, checkLog, checkCount, checkNumber, checkSplit}
 use Rattle.splitting.specs.Splittings.{countOf, counted, rightHalf, halfLength, rightOutput}
 use Rattle.splitting.proofs.LogRuns.{sound-log, nth-length}
+use Rattle.splitting.proofs.Values.{count-most}
 use Rattle.sheet_lines.specs.Working.{putAt, countedAs, olderPart, newerPart, HalfAt, HalvesAt, Halved}
 use Rattle.sheet_lines.proofs.Puts.{part-front, put-front, rest-copied}
 use Rattle.sheet_lines.proofs.PointLines.{counted-log}
@@ -30,14 +29,11 @@ use Rattle.sheet_lines.proofs.KeptHalves.{Cut, cut-window}
 
 -- what is counted is at most the limit, so that its square is a number of the machine
 counted-few : (k : ℕ) (l r s : List ℕ) → countedAs (countOf k l r s) ≤ 65535
-unfolding countedAs countOf checkCount firstOf splittingLimit
+unfolding countedAs countOf splittingLimit
 counted-few k l r s = go (checkCount k l r s) refl
   where
     go : (c : Check) → checkCount k l r s ≡ c → countedAs (counted c (length (splittingsOf k l r s))) ≤ 65535
-    go check.Sound e =
-        let (_, a) = both-sound (checkLog k l r s) _ e in
-        let (b, _) = both-sound (refusedIf (ltb 65535 (length (splittingsOf k l r s))) TooManySplittings) _ a in
-        ltb-false 65535 (length (splittingsOf k l r s)) (unrefused _ _ b)
+    go check.Sound e = count-most k l r s e
     go (check.Refused x) e = omega arith
 
 pub square-few : (k : ℕ) (l r s : List ℕ) (n : ℕ) → n ≡ countedAs (countOf k l r s) → n * n ≤ 65535 * 65535

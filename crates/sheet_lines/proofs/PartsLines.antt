@@ -4,15 +4,11 @@ use mathlib.Core.Path.{_≡_, sym, _∙_, ap}
 use mathlib.Core.List.{List, [], _∷_}
 use native.Mathlib.Omega.{arith}
 use lib.ListN.{length, take, drop}
-use lib.Dec.{ltb}
-use borrow.Author.Tests.{ltb-false}
 use Rattle.hml.specs.System.{steps}
 use Rattle.hml.specs.Labels.{positive}
-use Rattle.labels.specs.Refusals.{refusedIf, firstOf}
+use Rattle.labels.specs.Refusals.{firstOf}
 use Rattle.labels.specs.declared.refusal.Refusal.{Refusal}
 use Rattle.labels.specs.declared.refusal.Check.the-variants.{Sound}
-use Rattle.labels.specs.declared.refusal.Refusal.the-variants.{TooManySplittings}
-use Rattle.labels.proofs.Refusals.{both-sound, unrefused}
 use Rattle.machines.specs.Joints.{jointOf}
 use Rattle.casebook.specs.Records.{bodyOf}
 use Rattle.casebook.specs.Reading.{readOf}
@@ -24,6 +20,7 @@ use Rattle.splitting.specs.declared.count.Counted.the-variants as count
 use Rattle.splitting.proofs.LogRuns.{sound-log}
 use Rattle.splitting.proofs.AllSplittings.{count-some}
 use Rattle.splitting.proofs.Outcomes.{count-answered}
+use Rattle.splitting.proofs.Values.{count-most}
 use Rattle.sheet_lines.specs.Sheets.{refusedLine, countedLines, partsLines, readLines, sheetOf, listed, linesDue}
 use Rattle.sheet_lines.specs.Working.{Asked, Numbered, numberedLine}
 use Rattle.sheet_lines.proofs.SheetLines.{lines-numbered, due-listed, none-due}
@@ -40,20 +37,13 @@ module _ (k : ℕ) (l r s f : List ℕ) (asked : Asked k l r s f) where
     unfolding countOf
     answered = count-answered (checkCount k l r s) (length (splittingsOf k l r s)) c told
 
-    few : length (splittingsOf k l r s) ≤ splittingLimit
-    unfolding checkCount firstOf splittingLimit
-    few =
-        let (_, a) = both-sound (checkLog k l r s) _ (answered .0) in
-        let (b, _) = both-sound (refusedIf (ltb 65535 (length (splittingsOf k l r s))) TooManySplittings) _ a in
-        ltb-false 65535 (length (splittingsOf k l r s)) (unrefused _ _ b)
-
     pub numbered-log : Numbered k l r s f c
     unfolding splittingLimit
     numbered-log =
         record {
           asked = asked;
           counted = sym (answered .1);
-          few = omega (arith, few, answered .1);
+          few = omega (arith, count-most k l r s (answered .0), answered .1);
           some = omega (arith, count-some k l r s (asked .log), answered .1);
         }
 

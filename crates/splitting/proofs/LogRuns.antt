@@ -1,5 +1,5 @@
 -- Logs and halves that no check refuses, as runs of their tables; and the splittings of a log as runs.
-use Prim.Native.Nat.{ℕ, _+_, _*_, _≤_, _<_}
+use Prim.Native.Nat.{ℕ, _+_, _*_, _/_, _≤_, _<_}
 use mathlib.Core.Path.{_≡_, refl, _∙_, ap}
 use mathlib.Core.Bool.{true, not}
 use mathlib.Core.List.{List}
@@ -154,6 +154,11 @@ module _ (k : ℕ) (l r : List ℕ) where
         run = j;
         joined = f;
       }
+
+-- how long a half of a log is, by the bytes of the log
+pub half-room : {k : ℕ} {l r s : List ℕ} → Log k l r s → halfLength s ≡ 2 * (length s / 3) + 1
+unfolding halfLength
+half-room g = rw (g .run .counted)
 
 -- what joins as runs joins as bytes
 module _ {k : ℕ} {l r : List ℕ} (t : SoundMachines k l r) {x y : Run ℕ} {j : Run (ℕ × ℕ)}

@@ -22,7 +22,7 @@ use Rattle.splitting.specs.Splittings.{leftOutput, rightOutput}
 use Rattle.splitting.specs.Working.{Log}
 use Rattle.splitting.specs.declared.count.Counted.the-variants as count
 use Rattle.splitting.specs.declared.split.Splitting.the-variants as splitting
-use Rattle.splitting.proofs.LogRuns.{sound-log, sound-ready}
+use Rattle.splitting.proofs.LogRuns.{sound-ready, half-room}
 use Rattle.splitting.proofs.Outcomes.{count-answered, split-checked}
 
 module _ (k : ℕ) (l r s : List ℕ) where
@@ -65,10 +65,6 @@ module _ (k : ℕ) (l r s : List ℕ) where
   unfolding checkCount firstOf
   count-log e = both-sound (checkLog k l r s) _ e .0
 
-  pub half-size : checkCount k l r s ≡ Sound → halfLength s ≡ 2 * (length s / 3) + 1
-  unfolding halfLength
-  half-size e = rw (sound-log k l r s (count-log e) .run .counted)
-
   module _ (i a b : ℕ) where
     -- the checks of a split
     pub count-refuses : (x : Refusal) → countOf k l r s ≡ count.Refused x → Refused x ≡ checkSplit k l r s i a b
@@ -88,7 +84,7 @@ module _ (k : ℕ) (l r s : List ℕ) where
             let (c, z) = count-told n e in rw (c, lt-leb (length (splittingsOf k l r s)) i (omega (arith, z, h)))
 
         size-told : halfLength s ≡ 2 * (length s / 3) + 1
-        size-told = half-size (count-told n e .0)
+        size-told = half-room (sound-ready k l r s (count-log (count-told n e .0)))
 
         pub left-short : a < 2 * (length s / 3) + 1 → Refused OutputTooShort ≡ checkSplit k l r s i a b
         unfolding checkSplit firstOf
@@ -145,5 +141,5 @@ module _ (k : ℕ) (l r s : List ℕ) (i : ℕ) (x y : List ℕ) where
       → u ≡ inFront (leftHalf k l r s i) x → v ≡ inFront (rightHalf k l r s i) y
       → (splitting.Halves (2 * (length s / 3) + 1) ≡ splitOf k l r s i (length x) (length y))
       × ((u ≡ leftOutput k l r s i x (length y)) × (v ≡ rightOutput k l r s i (length x) y))
-  unfolding splitOf leftOutput rightOutput halfLength
-  split-answered e u v p q = (rw (e, split-log k l r s i (length x) (length y) e .run .counted), (rw e p, rw e q))
+  unfolding splitOf leftOutput rightOutput
+  split-answered e u v p q = (rw (e, half-room (split-log k l r s i (length x) (length y) e)), (rw e p, rw e q))

@@ -42,7 +42,7 @@ use Rattle.splitting.proofs.Counts.{
   one-step,
   step-splits,
 }
-use Rattle.splitting.proofs.LogRuns.{nth-length}
+use Rattle.splitting.proofs.LogRuns.{nth-length, half-room}
 
 -- one step of a half, as it is written
 module _ (out : List ℕ) (i state : ℕ) (s : Step) where
@@ -145,10 +145,6 @@ module _ (k : ℕ) (l r s : List ℕ) where
     pub right : halfBytes (nthUpTo i n .1) ++ drop (2 * i + 1) y ≡ inFront (rightHalf k l r s number) y₀
 
 module _ {k : ℕ} {l r s : List ℕ} (g : Log k l r s) where
-  half-room : halfLength s ≡ 2 * (length s / 3) + 1
-  unfolding halfLength
-  half-room = rw (g .run .counted)
-
   pub unrolled-start : (number : ℕ) (x y : List ℕ) → number < length (splittingsOf k l r s)
       → Unrolled k l r s number x y (length s / 3) number x y
   unfolding splittingsOf inFront leftHalf rightHalf
@@ -159,8 +155,8 @@ module _ {k : ℕ} {l r s : List ℕ} (g : Log k l r s) where
         below = rw (up-to-end g) h;
         leftSize = refl;
         rightSize = refl;
-        left = rw (up-to-end g, u, half-room);
-        right = rw (up-to-end g, v, half-room);
+        left = rw (up-to-end g, u, half-room g);
+        right = rw (up-to-end g, v, half-room g);
       }
 
   -- one step
@@ -209,8 +205,8 @@ module _ {k : ℕ} {l r s : List ℕ} (g : Log k l r s) where
 
       pub put-room : (2 * i + 2 < length x) × (2 * i + 2 < length y)
       put-room = (
-        omega (arith, last-step, u .leftSize, room .0, half-room),
-        omega (arith, last-step, u .rightSize, room .1, half-room),
+        omega (arith, last-step, u .leftSize, room .0, half-room g),
+        omega (arith, last-step, u .rightSize, room .1, half-room g),
       )
 
       -- it is there
@@ -250,7 +246,7 @@ module _ {k : ℕ} {l r s : List ℕ} (g : Log k l r s) where
 
     module _ (z : j ≡ 0) where
       pub first-room : (1 ≤ length x) × (1 ≤ length y)
-      first-room = (omega (arith, u .leftSize, room .0, half-room), omega (arith, u .rightSize, room .1, half-room))
+      first-room = (omega (arith, u .leftSize, room .0, half-room g), omega (arith, u .rightSize, room .1, half-room g))
 
       -- no step: the states in which the log starts
       start-left : halfBytes (nthUpTo k l r s j n .0) ≡ getD s 0 0 ∷ []
