@@ -1,7 +1,7 @@
 -- Every answer of one number is taken apart rightly: for every input of each call, the header's two functions give
 -- document 01's number, 0 where nothing is refused, and what the call tells of the values, 0 where it is refused.
 use Prim.Native.Nat.{ℕ, _+_, _≤_, _<_}
-use mathlib.Core.Path.{_≡_, refl, ap}
+use mathlib.Core.Path.{_≡_, ap}
 use mathlib.Core.Logic.{_↔_}
 use mathlib.Core.Bool.{Bool, true, false, cond}
 use mathlib.Core.List.{List, [], _∷_}

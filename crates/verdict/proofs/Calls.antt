@@ -45,6 +45,24 @@ use Rattle.verdict.specs.declared.answer.Verdict.{Verdict}
 use Rattle.verdict.specs.declared.answer.Verdict.the-variants as verdict
 use Rattle.verdict.proofs.Still.{still-read, still-length, still-take, still-ends}
 
+-- a buffer that begins with a run up to its point p, which ends at each point in the two states written last
+front-held : (s xs : List ℕ) (p : ℕ) → take (3 * p + 2) xs ≡ take (3 * p + 2) s → 3 * p + 2 ≤ length xs
+    → ((m : ℕ) → m ≤ p → last (jointOf (take (3 * m + 2) s)) ≡ (getD s (3 * m) 0, getD s (3 * m + 1) 0))
+    → Held xs (3 * p + 2)
+front-held s xs p e h ends = record { whole = omega arith; within = h; kept = kept }
+  where
+    front : (n : ℕ) → n ≤ 3 * p + 2 → take n xs ≡ take n s
+    front n i = sym (take-take n (3 * p + 2) xs i) ∙ ap (take n) e ∙ take-take n (3 * p + 2) s i
+
+    front-at : (n : ℕ) → n < 3 * p + 2 → getD xs n 0 ≡ getD s n 0
+    front-at n i = sym (getD-take (3 * p + 2) xs n 0 i) ∙ ap (λ zs. getD zs n 0) e ∙ getD-take (3 * p + 2) s n 0 i
+
+    kept : (m : ℕ) → 3 * m + 2 ≤ 3 * p + 2
+        → last (jointOf (take (3 * m + 2) xs)) ≡ (getD xs (3 * m) 0, getD xs (3 * m + 1) 0)
+    kept m i =
+        rw (front (3 * m + 2) i, front-at (3 * m) (omega arith), front-at (3 * m + 1) (omega arith))
+        (ends m (omega arith))
+
 -- a legal formula is ready for its verdict, with the sizes of its trees
 module _ (k : ℕ) (f : List ℕ) (legal : Legal k quotientLimit f) where
   pub legal-ready : (sizes xs : List ℕ) (n : ℕ) → length sizes ≡ 4096 → length xs ≡ 614 → Held xs n → n ≤ 602
@@ -143,22 +161,11 @@ module _ (k : ℕ) (l r s f : List ℕ) where
 
       -- a buffer that begins with the run up to the point
       module _ (xs : List ℕ) (e : take (3 * p + 2) xs ≡ take (3 * p + 2) s) where
-        front : (n : ℕ) → n ≤ 3 * p + 2 → take n xs ≡ take n s
-        front n h = sym (take-take n (3 * p + 2) xs h) ∙ ap (take n) e ∙ take-take n (3 * p + 2) s h
-
-        front-at : (i : ℕ) → i < 3 * p + 2 → getD xs i 0 ≡ getD s i 0
-        front-at i h = sym (getD-take (3 * p + 2) xs i 0 h) ∙ ap (λ zs. getD zs i 0) e ∙ getD-take (3 * p + 2) s i 0 h
-
         pub joint-held : 3 * p + 2 ≤ length xs → Held xs (3 * p + 2)
-        joint-held h = record { whole = omega arith; within = h; kept = kept }
-          where
-            kept : (m : ℕ) → 3 * m + 2 ≤ 3 * p + 2
-                → last (jointOf (take (3 * m + 2) xs)) ≡ (getD xs (3 * m) 0, getD xs (3 * m + 1) 0)
-            kept m i =
-                let held = accepted-held k l r (no-idle-label (call .tables .left))
-                (no-idle-label (call .tables .right)) s (call .fit) (call .real) in
-                rw (front (3 * m + 2) i, front-at (3 * m) (omega arith), front-at (3 * m + 1) (omega arith))
-                (held .kept m (omega (arith, i, joint-room)))
+        joint-held h =
+            let held = accepted-held k l r (no-idle-label (call .tables .left)) (no-idle-label (call .tables .right)) s
+            (call .fit) (call .real) in
+            front-held s xs p e h (λ m i. held .kept m (omega (arith, i, joint-room)))
 
         pub joint-answer : checkJointCall k l r s f p ≡ Sound → (v : Verdict)
             → v ≡ verdictOf (present (λ φ. tablesHold (record { pairs = k }) l r φ (jointOf (take (3 * p + 2) xs)))
@@ -270,22 +277,9 @@ module _ (k : ℕ) (t s f : List ℕ) where
           (still-length (take (2 * p + 1) s) half-odd ∙ omega (arith, z)))
 
       pub half-held : 3 * p + 2 ≤ length xs → Held xs (3 * p + 2)
-      half-held h = record { whole = omega arith; within = h; kept = kept }
-        where
-          kept : (m : ℕ) → 3 * m + 2 ≤ 3 * p + 2
-              → last (jointOf (take (3 * m + 2) xs)) ≡ (getD xs (3 * m) 0, getD xs (3 * m + 1) 0)
-          kept m i =
-              let g : take (3 * p + 2) xs ≡ take (3 * p + 2) (besideStill s) = half-front
-              ∙ sym (still-take s p (half-room .0)) in
-              let n : (j : ℕ) → j < 3 * p + 2
-              → getD xs j 0 ≡ getD (besideStill s) j 0 =
-              λ j h. sym (getD-take (3 * p + 2) xs j 0 h) ∙ ap (λ zs. getD zs j 0) g
-              ∙ getD-take (3 * p + 2) (besideStill s) j 0 h in
-              let w : take (3 * m + 2) xs ≡ take (3 * m + 2) (besideStill s) = sym
-              (take-take (3 * m + 2) (3 * p + 2) xs i)
-              ∙ ap (take (3 * m + 2)) g ∙ take-take (3 * m + 2) (3 * p + 2) (besideStill s) i in
-              rw (w, n (3 * m) (omega arith), n (3 * m + 1) (omega arith))
-              (still-ends t s (call .run) m (omega (arith, half-room)))
+      half-held h =
+          front-held (besideStill s) xs p (half-front ∙ sym (still-take s p (half-room .0))) h
+          (λ m i. still-ends t s (call .run) m (omega (arith, i, half-room)))
 
       pub half-answer : checkHalfCall k t s f p ≡ Sound → (v : Verdict)
           → v ≡ verdictOf (present (λ φ. tablesHold (record { pairs = k }) t still φ (jointOf (take (3 * p + 2) xs)))

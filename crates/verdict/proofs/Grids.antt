@@ -4,7 +4,6 @@ use Prim.Native.Nat.{ℕ, zero, suc, _+_, _*_, _/_, _≤_, _<_}
 use mathlib.Core.Path.{_≡_, refl, sym, _∙_, ap}
 use mathlib.Core.Bool.{Bool, true, false}
 use mathlib.Core.List.{List, [], _∷_, _++_, append-nil, append-assoc}
-use mathlib.Core.List.{List·Memᴰ·head as here, List·Memᴰ·tail as there}
 use native.Mathlib.Omega.{arith}
 use native.Mathlib.Numerals.{add-one}
 use lib.ListN.{length, getD, take, drop, set, replicate, length-append, length-set, length-replicate, take-append-drop}
@@ -12,7 +11,8 @@ use lib.Seq.{getD-drop, getD-set-same, getD-set-other, take-suc, take-all}
 use lib.Dec.{eqb}
 use borrow.Author.Tests.{eqb-true, eqb-false}
 use Rattle.hml.proofs.Tests.{same-refl}
-use Rattle.hml.specs.Lists.{_∈_, only}
+use Rattle.hml.proofs.Indexed.{element}
+use Rattle.hml.specs.Lists.{only}
 use Rattle.hml.specs.Machine.{Row, machine}
 use Rattle.tables.specs.Tables.{rowsOf, tableOf, SoundTable}
 use Rattle.tables.specs.Working.{rowOf}
@@ -153,12 +153,6 @@ machine-part rows i p =
       length-append (machine (take i rows) p) (machine (drop i rows) p),
     )
 
--- a row by its number is one of the rows
-row-in : (rows : List Row) (i : ℕ) → i < length rows → getD rows i (0, 0, 0) ∈ rows
-row-in [] i h = absurd (omega arith)
-row-in (r ∷ rows) zero h = here refl
-row-in (r ∷ rows) (suc i) h = there (row-in rows i (omega arith))
-
 -- zeros read as 0, also past their end
 zeros-at : (n i : ℕ) → getD {A = ℕ} (replicate n 0) i 0 ≡ 0
 zeros-at zero i = refl
@@ -206,7 +200,7 @@ module _ {k : ℕ} {t : List ℕ} (s : SoundTable k t) (g : List ℕ) (i : ℕ) 
         omega (
           arith,
           ap (λ (r : Row). r .0) (rows-at t i inside),
-          s .ranged (getD (rowsOf t) i (0, 0, 0)) (row-in (rowsOf t) i inside) .0,
+          s .ranged (getD (rowsOf t) i (0, 0, 0)) (element (0, 0, 0) (rowsOf t) i inside) .0,
           s .few-states,
         )
 
