@@ -6,6 +6,7 @@ pub mod fitted;
 pub mod formula;
 pub mod generate;
 pub mod half;
+pub mod hex;
 pub mod label;
 pub mod quotient;
 pub mod random;

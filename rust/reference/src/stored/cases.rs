@@ -1,8 +1,9 @@
 //! Case A, whole, and the questions of document 01 on its machines; then those on machines of one state each.
 
-use super::show::{answer, hex, truth, unhex, verdict};
+use super::show::{answer, truth, verdict};
 use crate::casebook::{read, write, Parts};
 use crate::cut::{cut, Side};
+use crate::hex::{hex, unhex};
 use crate::quotient::{by_halves, by_number, line_office, Asked, Known};
 use crate::splitting::{count, join, split};
 use crate::verdict::{half, joint};
@@ -59,16 +60,21 @@ pub fn splittings() -> Vec<String> {
     lines
 }
 
-/// Both halves of a splitting of a log, and what they are joined to.
-pub fn halves(parts: &Parts, number: usize) -> String {
-    let found = split(
+/// Both halves of a splitting of a log.
+fn halves_of(parts: &Parts, number: usize) -> Result<[Vec<u8>; 2], Refusal> {
+    split(
         parts.k,
         &parts.left,
         &parts.right,
         &parts.run,
         number,
         HALF_ROOM,
-    );
+    )
+}
+
+/// Both halves of a splitting of a log, and what they are joined to.
+pub fn halves(parts: &Parts, number: usize) -> String {
+    let found = halves_of(parts, number);
     answer(found, |[left, right]| {
         let joined = joined(parts, &left, &right, ROOM);
         let [left, right] = [hex(&left), hex(&right)];
@@ -135,14 +141,7 @@ fn asked(name: &str, parts: &Parts, number: usize, known: Known) -> String {
         Side::Left => "left",
         Side::Right => "right",
     };
-    let found = split(
-        parts.k,
-        &parts.left,
-        &parts.right,
-        &parts.run,
-        number,
-        HALF_ROOM,
-    );
+    let found = halves_of(parts, number);
     let answers = answer(found, |halves| answers(parts, number, &halves, known));
     let point = known.point;
     format!("{name}, point {point}, splitting {number}, known side {side}: {answers}")

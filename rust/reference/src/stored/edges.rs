@@ -1,9 +1,10 @@
 //! The cases at the edges: quotients just below and above 4,096 nodes, splittings just below and above 65,535.
 
 use super::cases::{halves, joined, ROOM};
-use super::show::{answer, hex, truth, unhex};
+use super::show::{answer, truth};
 use crate::casebook::Parts;
 use crate::cut::Side;
+use crate::hex::{hex, unhex};
 use crate::quotient::{by_halves, by_number, line_office, Asked, Known};
 use crate::splitting::count;
 

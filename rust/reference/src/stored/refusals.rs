@@ -1,9 +1,10 @@
 //! A small input for each number of "Who can cause a refusal" that the edges do not give (those are 13 and 17).
 
 use super::cases::{case_a, halves, joined, parts_a, ROOM};
-use super::show::{answer, hex, unhex, verdict};
+use super::show::{answer, verdict};
 use crate::casebook::read;
 use crate::cut::{cut, Side};
+use crate::hex::{hex, unhex};
 use crate::quotient::{by_number, Asked, Known};
 use crate::splitting::count;
 use crate::verdict::{half, joint};

@@ -5,6 +5,7 @@ use std::hint::black_box;
 
 use reference::casebook::{self, Casebook, Parts};
 use reference::cut::{self, Side};
+pub use reference::hex::{hex, unhex};
 use reference::random::Random;
 use yenuslap::{bare, Refusal};
 
@@ -59,18 +60,6 @@ impl Tally {
         let each: Vec<String> = seen.map(|n| format!("{n}: {}", self.of(n))).collect();
         println!("compared {}: {total} ({})", self.name, each.join(", "));
     }
-}
-
-/// Bytes in hexadecimal, for messages.
-pub fn hex(bytes: &[u8]) -> String {
-    bytes.iter().map(|byte| format!("{byte:02x}")).collect()
-}
-
-/// Bytes from hexadecimal; blanks are only for the eye.
-pub fn unhex(text: &str) -> Vec<u8> {
-    let digits: Vec<char> = text.chars().filter(|c| !c.is_whitespace()).collect();
-    let byte = |pair: &[char]| u8::from_str_radix(&String::from_iter(pair), 16).unwrap();
-    digits.chunks(2).map(byte).collect()
 }
 
 /// The number of an answer, 0 if it is none.

@@ -22,7 +22,6 @@ enum-told-2 c = search needs
 enum-known-right-2 : tie.Need-enum-known-right-2
 enum-known-right-2 c = search needs
 
--- /work/h/e/target/rlib/labels.rlib/interface/lang/src/label.rt:7:26
 enum-told-3 : tie.Need-enum-told-3
 enum-told-3 c = search needs
 
