@@ -11,6 +11,7 @@ use Rattle.labels.specs.declared.refusal.Check.the-variants as check
 use Rattle.labels.specs.declared.refusal.Refusal.the-variants.{BytesAfter}
 use Rattle.tables.specs.Tables.{checkTable}
 use Rattle.machines.specs.Joints.{checkJoint}
+use Rattle.machines.specs.Cases.{Case}
 use Rattle.formulas.specs.Formulas.{questionLimit, checkFormula}
 use Rattle.casebook.specs.Records.{nextAt, bodyOf}
 use Rattle.casebook.specs.declared.record.Cursor.{Cursor}
@@ -53,6 +54,16 @@ readLeft s k at = after (nextAt s at 2) (λ l c. ifSound (checkTable k (bodyOf s
 unfoldable pub readOf : List ℕ → Reading
 readOf s =
     after (nextAt s 0 1) (λ h c. ifSound (checkPairs (getD s (h .start) 0)) (readLeft s (getD s (h .start) 0) (c .at)))
+
+-- the case that the bytes show, where their parts lie so
+unfoldable pub caseOf : List ℕ → Parts → Case
+caseOf s p = record {
+  labels = record { pairs = p .pairs };
+  left = bodyOf s (p .left);
+  right = bodyOf s (p .right);
+  run = bodyOf s (p .run);
+  question = bodyOf s (p .question);
+}
 
 -- the number of a reading, and its values: k, then start and length of the bodies of the four other records
 unfoldable pub readAnswer : Reading → Answer

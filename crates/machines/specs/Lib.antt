@@ -1,4 +1,5 @@
 -- In reading order; Working is how the code works.
 pub mod Steps
 pub mod Joints
+pub mod Cases
 pub mod Working
