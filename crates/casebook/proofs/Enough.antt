@@ -7,7 +7,7 @@ use mathlib.Core.Logic.{_⊎_, ⊎-elim, inl, inr}
 use mathlib.Core.Bool.{Bool, true, false, cond, not, _&&_}
 use mathlib.Core.List.{List, [], _∷_}
 use native.Mathlib.Omega.{arith}
-use lib.ListN.{length, getD, take, drop}
+use lib.ListN.{length, take, drop}
 use lib.Seq.{length-take-le, take-all, take-take, getD-take}
 use lib.Dec.{eqb, leb, ltb}
 use borrow.Author.Tests.{lt-ltb, le-ltb, ltb-true, ltb-false, leb-true, eqb-true}
@@ -21,7 +21,7 @@ use Rattle.tables.specs.Tables.{checkTable}
 use Rattle.machines.specs.Joints.{checkJoint}
 use Rattle.formulas.specs.Formulas.{questionLimit, checkFormula}
 use Rattle.casebook.specs.Records.{wordAt, fitTableLength, fitRunLength, fitQuestionLength, fitLength, nextAt}
-use Rattle.casebook.specs.Records.{bodyOf}
+use Rattle.casebook.specs.Records.{bodyOf, labelsOf}
 use Rattle.casebook.specs.Reading.{after, ifSound, readQuestion, readRun, readRight, readLeft, readOf}
 use Rattle.casebook.specs.declared.record.Cursor.{Cursor}
 use Rattle.casebook.specs.declared.record.Record.{Record}
@@ -103,6 +103,11 @@ module _ (n : ℕ) (s : List ℕ) (long : n ≤ length s) where
   unfolding bodyOf
   body-early r h = part-early (r .start) (r .len) n s h
 
+  -- the labels of a record that begins in them
+  labels-early : (r : Record) → r .start < n → labelsOf (take n s) r ≡ labelsOf s r
+  unfolding labelsOf
+  labels-early r h = rw (getD-take n s (r .start) 0 h)
+
   -- where a record of a kind has room in them, stepping over it answers the same, and what is alike behind it is alike
   -- from it on
   after-alike : (at kind most : ℕ) → Longest kind most → 2 ≤ most → at + 2 + most ≤ n
@@ -142,51 +147,56 @@ module _ (n : ℕ) (s : List ℕ) (long : n ≤ length s) where
 
   -- from the question record on, the front and the whole are refused alike, if the record has room in the front and
   -- leaves a byte
-  question-alike : (k : ℕ) (l r j : Record) (at : ℕ) → at + 132 < n
-      → Alike (readQuestion (take n s) k l r j at) (readQuestion s k l r j at)
+  question-alike : (h l r j : Record) (at : ℕ) → h .start < n → at + 132 < n
+      → Alike (readQuestion (take n s) h l r j at) (readQuestion s h l r j at)
   unfolding readQuestion
-  question-alike k l r j at h = after-alike at 5 130 longest-question (omega arith) (omega arith) _ _ (λ q c d.
+  question-alike h l r j at f room = after-alike at 5 130 longest-question (omega arith) (omega arith) _ _ (λ q c d.
       rw (
-        body-early q (omega (arith, h, d .whole, d .near)),
+        labels-early h f,
+        body-early q (omega (arith, room, d .whole, d .near)),
         front,
-        lt-ltb (c .at) n (omega (arith, h, d .near)),
-        lt-ltb (c .at) (length s) (omega (arith, h, long, d .near)),
+        lt-ltb (c .at) n (omega (arith, room, d .near)),
+        lt-ltb (c .at) (length s) (omega (arith, room, long, d .near)),
       )
-      (sound-alike (checkFormula k questionLimit (bodyOf s q)) (BytesAfter, refl, refl)))
+      (sound-alike (checkFormula (labelsOf s h .pairs) questionLimit (bodyOf s q)) (BytesAfter, refl, refl)))
 
   -- so it is from the run record on, if it and the question have room and leave a byte
-  run-alike : (k : ℕ) (l r : Record) (at : ℕ) → l .start + l .len ≤ n → r .start + r .len ≤ n → at + 606 + 132 < n
-      → Alike (readRun (take n s) k l r at) (readRun s k l r at)
+  run-alike : (h l r : Record) (at : ℕ) → h .start < n → l .start + l .len ≤ n → r .start + r .len ≤ n
+      → at + 606 + 132 < n
+      → Alike (readRun (take n s) h l r at) (readRun s h l r at)
   unfolding readRun
-  run-alike k l r at a b h = after-alike at 4 604 longest-run (omega arith) (omega arith) _ _ (λ j c d.
-      rw (body-early l a, body-early r b, body-early j (omega (arith, h, d .whole, d .near)))
-      (sound-alike (checkJoint k (bodyOf s l) (bodyOf s r) (bodyOf s j))
-      (question-alike k l r j (c .at) (omega (arith, h, d .near)))))
+  run-alike h l r at f a b room = after-alike at 4 604 longest-run (omega arith) (omega arith) _ _ (λ j c d.
+      rw (labels-early h f, body-early l a, body-early r b, body-early j (omega (arith, room, d .whole, d .near)))
+      (sound-alike (checkJoint (labelsOf s h .pairs) (bodyOf s l) (bodyOf s r) (bodyOf s j))
+      (question-alike h l r j (c .at) f (omega (arith, room, d .near)))))
 
   -- from the right table's record on, if the last three have room and leave a byte
-  right-alike : (k : ℕ) (l : Record) (at : ℕ) → l .start + l .len ≤ n → at + 1541 + 606 + 132 < n
-      → Alike (readRight (take n s) k l at) (readRight s k l at)
+  right-alike : (h l : Record) (at : ℕ) → h .start < n → l .start + l .len ≤ n → at + 1541 + 606 + 132 < n
+      → Alike (readRight (take n s) h l at) (readRight s h l at)
   unfolding readRight
-  right-alike k l at a h = after-alike at 3 1539 longest-right (omega arith) (omega arith) _ _ (λ r c d.
-      let b : r .start + r .len ≤ n = omega (arith, h, d .whole, d .near) in
-      rw (body-early r b)
-      (sound-alike (checkTable k (bodyOf s r)) (run-alike k l r (c .at) a b (omega (arith, h, d .near)))))
+  right-alike h l at f a room = after-alike at 3 1539 longest-right (omega arith) (omega arith) _ _ (λ r c d.
+      let b : r .start + r .len ≤ n = omega (arith, room, d .whole, d .near) in
+      rw (labels-early h f, body-early r b)
+      (sound-alike (checkTable (labelsOf s h .pairs) (bodyOf s r))
+      (run-alike h l r (c .at) f a b (omega (arith, room, d .near)))))
 
   -- and from the left table's record on, if the last four have room and leave a byte
-  left-alike : (k at : ℕ) → at + 1541 + 1541 + 606 + 132 < n → Alike (readLeft (take n s) k at) (readLeft s k at)
+  left-alike : (h : Record) (at : ℕ) → h .start < n → at + 1541 + 1541 + 606 + 132 < n
+      → Alike (readLeft (take n s) h at) (readLeft s h at)
   unfolding readLeft
-  left-alike k at h = after-alike at 2 1539 longest-left (omega arith) (omega arith) _ _ (λ l c d.
-      let a : l .start + l .len ≤ n = omega (arith, h, d .whole, d .near) in
-      rw (body-early l a)
-      (sound-alike (checkTable k (bodyOf s l)) (right-alike k l (c .at) a (omega (arith, h, d .near)))))
+  left-alike h at f room = after-alike at 2 1539 longest-left (omega arith) (omega arith) _ _ (λ l c d.
+      let a : l .start + l .len ≤ n = omega (arith, room, d .whole, d .near) in
+      rw (labels-early h f, body-early l a)
+      (sound-alike (checkTable (labelsOf s h .pairs) (bodyOf s l))
+      (right-alike h l (c .at) f a (omega (arith, room, d .near)))))
 
   -- more bytes than five records can have are refused, for what their front is refused for
   all-alike : 5 + 1541 + 1541 + 606 + 132 < n → Alike (readOf (take n s)) (readOf s)
   unfolding readOf
-  all-alike h = after-alike 0 1 3 longest-header (omega arith) (omega arith) _ _ (λ r c d.
-      rw (getD-take n s (r .start) 0 (omega (arith, h, d .some, d .near)))
-      (sound-alike (checkPairs (getD s (r .start) 0))
-      (left-alike (getD s (r .start) 0) (c .at) (omega (arith, h, d .near)))))
+  all-alike room = after-alike 0 1 3 longest-header (omega arith) (omega arith) _ _ (λ h c d.
+      let f : h .start < n = omega (arith, room, d .some, d .near) in
+      rw (labels-early h f)
+      (sound-alike (checkPairs (labelsOf s h .pairs)) (left-alike h (c .at) f (omega (arith, room, d .near)))))
 
 -- bytes are at most 3,826, or they are refused for what their first 3,826 are refused for
 pub judged-by-front : (s : List ℕ) → (take 3826 s ≡ s) ⊎ Alike (readOf (take 3826 s)) (readOf s)

@@ -5,11 +5,12 @@ use lib.Dec.{eqb, ltb}
 use mathlib.Core.Path.{_≡_, refl, sym, _∙_, ap}
 use mathlib.Core.List.{List}
 use native.Mathlib.Omega.{arith}
-use lib.ListN.{length, getD}
+use lib.ListN.{length}
 use borrow.Author.Tests.{lt-ltb, le-ltb, ltb-false}
 use Rattle.hml.proofs.Tests.{apart}
 use Rattle.labels.specs.Refusals.{firstOf}
 use Rattle.labels.specs.Labels.{checkPairs}
+use Rattle.labels.specs.declared.label.Labels.{Labels}
 use Rattle.labels.specs.declared.refusal.Refusal.{Refusal}
 use Rattle.labels.specs.declared.refusal.Refusal.the-variants.{BytesAfter, Truncated, WrongKind, WrongLength}
 use Rattle.labels.specs.declared.refusal.Check.{Check}
@@ -18,7 +19,7 @@ use Rattle.labels.proofs.Refusals.{then-sound}
 use Rattle.tables.specs.Tables.{checkTable}
 use Rattle.machines.specs.Joints.{checkJoint, checkTablesAndJoint}
 use Rattle.formulas.specs.Formulas.{questionLimit, checkFormula}
-use Rattle.casebook.specs.Records.{wordAt, fitLength, nextAt, bodyOf}
+use Rattle.casebook.specs.Records.{wordAt, fitLength, nextAt, bodyOf, labelsOf}
 use Rattle.casebook.specs.Reading.{readQuestion, readRun, readRight, readLeft, readOf}
 use Rattle.casebook.specs.declared.record.Cursor.{Cursor}
 use Rattle.casebook.specs.declared.record.Record.{Record}
@@ -52,18 +53,24 @@ found-within s at kind r c e =
         let n : r .len ≡ wordAt s at - 2 = ap (λ (y : Record). y .len) z in
         omega (arith, w, x, n, ltb-false (length s) (at + 2 + wordAt s at) q)
 
--- what a check said of a body, as the code has it
-pub seen : (f : List ℕ → Check) {b b′ : List ℕ} {y z : Check} → b ≡ b′ → y ≡ f b → y ≡ z → f b′ ≡ z
-seen f p q h = sym (q ∙ ap f p) ∙ h
+-- what a check under some labels said of a body, as the code has them
+pub seen : (f : Labels → List ℕ → Check) {x x′ : Labels} {b b′ : List ℕ} {y z : Check} → x ≡ x′ → b ≡ b′ → y ≡ f x b
+    → y ≡ z
+    → f x′ b′ ≡ z
+seen f o p q h = rw (← o, ← p, ← q) h
+
+-- what the check of k said, as the code has the labels
+pub pairs-seen : {x x′ : Labels} {y z : Check} → x ≡ x′ → y ≡ checkPairs (x .pairs) → y ≡ z → checkPairs (x′ .pairs) ≡ z
+pairs-seen o q h = rw (← o, ← q) h
 
 module _ (s : List ℕ) where
   module _ (h : Record) (c : Cursor) (e : next.Found h c ≡ nextAt s 0 1) where
-    pub pairs-sound : checkPairs (getD s (h .start) 0) ≡ check.Sound → {x : Reading}
-        → x ≡ readLeft s (getD s (h .start) 0) (c .at) → x ≡ readOf s
+    pub pairs-sound : checkPairs (labelsOf s h .pairs) ≡ check.Sound → {x : Reading}
+        → x ≡ readLeft s h (c .at) → x ≡ readOf s
     unfolding readOf
     pairs-sound f g = rw (← e, f) g
 
-    pub pairs-refused : (y : Refusal) → checkPairs (getD s (h .start) 0) ≡ check.Refused y
+    pub pairs-refused : (y : Refusal) → checkPairs (labelsOf s h .pairs) ≡ check.Refused y
         → reading.Refused y ≡ readOf s
     unfolding readOf
     pairs-refused y f = rw (← e, f)
@@ -72,74 +79,74 @@ module _ (s : List ℕ) where
   unfolding readOf
   first-refused y e = rw (← e)
 
-  module _ (k at : ℕ) where
+  module _ (h : Record) (at : ℕ) where
     module _ (l : Record) (c : Cursor) (e : next.Found l c ≡ nextAt s at 2) where
-      pub left-sound : checkTable k (bodyOf s l) ≡ check.Sound → {x : Reading} → x ≡ readRight s k l (c .at)
-          → x ≡ readLeft s k at
+      pub left-sound : checkTable (labelsOf s h .pairs) (bodyOf s l) ≡ check.Sound → {x : Reading} → x ≡ readRight s h l (c .at)
+          → x ≡ readLeft s h at
       unfolding readLeft
       left-sound f g = rw (← e, f) g
 
-      pub left-refused : (y : Refusal) → checkTable k (bodyOf s l) ≡ check.Refused y
-          → reading.Refused y ≡ readLeft s k at
+      pub left-refused : (y : Refusal) → checkTable (labelsOf s h .pairs) (bodyOf s l) ≡ check.Refused y
+          → reading.Refused y ≡ readLeft s h at
       unfolding readLeft
       left-refused y f = rw (← e, f)
 
-    pub no-left : (y : Refusal) → next.Refused y ≡ nextAt s at 2 → reading.Refused y ≡ readLeft s k at
+    pub no-left : (y : Refusal) → next.Refused y ≡ nextAt s at 2 → reading.Refused y ≡ readLeft s h at
     unfolding readLeft
     no-left y e = rw (← e)
 
     module _ (l : Record) where
       module _ (r : Record) (c : Cursor) (e : next.Found r c ≡ nextAt s at 3) where
-        pub right-sound : checkTable k (bodyOf s r) ≡ check.Sound → {x : Reading} → x ≡ readRun s k l r (c .at)
-            → x ≡ readRight s k l at
+        pub right-sound : checkTable (labelsOf s h .pairs) (bodyOf s r) ≡ check.Sound → {x : Reading} → x ≡ readRun s h l r (c .at)
+            → x ≡ readRight s h l at
         unfolding readRight
         right-sound f g = rw (← e, f) g
 
-        pub right-refused : (y : Refusal) → checkTable k (bodyOf s r) ≡ check.Refused y
-            → reading.Refused y ≡ readRight s k l at
+        pub right-refused : (y : Refusal) → checkTable (labelsOf s h .pairs) (bodyOf s r) ≡ check.Refused y
+            → reading.Refused y ≡ readRight s h l at
         unfolding readRight
         right-refused y f = rw (← e, f)
 
-      pub no-right : (y : Refusal) → next.Refused y ≡ nextAt s at 3 → reading.Refused y ≡ readRight s k l at
+      pub no-right : (y : Refusal) → next.Refused y ≡ nextAt s at 3 → reading.Refused y ≡ readRight s h l at
       unfolding readRight
       no-right y e = rw (← e)
 
       module _ (r : Record) where
         module _ (j : Record) (c : Cursor) (e : next.Found j c ≡ nextAt s at 4) where
-          pub run-sound : checkJoint k (bodyOf s l) (bodyOf s r) (bodyOf s j) ≡ check.Sound → {x : Reading}
-              → x ≡ readQuestion s k l r j (c .at) → x ≡ readRun s k l r at
+          pub run-sound : checkJoint (labelsOf s h .pairs) (bodyOf s l) (bodyOf s r) (bodyOf s j) ≡ check.Sound → {x : Reading}
+              → x ≡ readQuestion s h l r j (c .at) → x ≡ readRun s h l r at
           unfolding readRun
           run-sound f g = rw (← e, f) g
 
-          pub run-refused : (y : Refusal) → checkJoint k (bodyOf s l) (bodyOf s r) (bodyOf s j) ≡ check.Refused y
-              → reading.Refused y ≡ readRun s k l r at
+          pub run-refused : (y : Refusal) → checkJoint (labelsOf s h .pairs) (bodyOf s l) (bodyOf s r) (bodyOf s j) ≡ check.Refused y
+              → reading.Refused y ≡ readRun s h l r at
           unfolding readRun
           run-refused y f = rw (← e, f)
 
-        pub no-run : (y : Refusal) → next.Refused y ≡ nextAt s at 4 → reading.Refused y ≡ readRun s k l r at
+        pub no-run : (y : Refusal) → next.Refused y ≡ nextAt s at 4 → reading.Refused y ≡ readRun s h l r at
         unfolding readRun
         no-run y e = rw (← e)
 
         module _ (j : Record) where
           module _ (q : Record) (c : Cursor) (e : next.Found q c ≡ nextAt s at 5) where
-            pub question-refused : (y : Refusal) → checkFormula k questionLimit (bodyOf s q) ≡ check.Refused y
-                → reading.Refused y ≡ readQuestion s k l r j at
+            pub question-refused : (y : Refusal) → checkFormula (labelsOf s h .pairs) questionLimit (bodyOf s q) ≡ check.Refused y
+                → reading.Refused y ≡ readQuestion s h l r j at
             unfolding readQuestion
             question-refused y f = rw (← e, f)
 
-            module _ (f : checkFormula k questionLimit (bodyOf s q) ≡ check.Sound) where
-              pub bytes-after : c .at < length s → reading.Refused BytesAfter ≡ readQuestion s k l r j at
+            module _ (f : checkFormula (labelsOf s h .pairs) questionLimit (bodyOf s q) ≡ check.Sound) where
+              pub bytes-after : c .at < length s → reading.Refused BytesAfter ≡ readQuestion s h l r j at
               unfolding readQuestion
-              bytes-after h = rw (← e, f, lt-ltb (c .at) (length s) h)
+              bytes-after more = rw (← e, f, lt-ltb (c .at) (length s) more)
 
               pub whole : length s ≤ c .at
-                  → reading.Casebook (record { pairs = k; left = l; right = r; run = j; question = q })
-                  ≡ readQuestion s k l r j at
+                  → reading.Casebook (record { labels = h; left = l; right = r; run = j; question = q })
+                  ≡ readQuestion s h l r j at
               unfolding readQuestion
-              whole h = rw (← e, f, le-ltb (c .at) (length s) h)
+              whole all = rw (← e, f, le-ltb (c .at) (length s) all)
 
           pub no-question : (y : Refusal) → next.Refused y ≡ nextAt s at 5
-              → reading.Refused y ≡ readQuestion s k l r j at
+              → reading.Refused y ≡ readQuestion s h l r j at
           unfolding readQuestion
           no-question y e = rw (← e)
 
@@ -149,10 +156,11 @@ pub run-alone : (k : ℕ) (l r j : List ℕ) → checkTable k l ≡ check.Sound 
 unfolding checkTablesAndJoint firstOf
 run-alone k l r j a b = rw (a, b) (then-sound (checkJoint k l r j))
 
-pub run-seen : (k : ℕ) (s : List ℕ) (l r j : Record) → checkTable k (bodyOf s l) ≡ check.Sound
-    → checkTable k (bodyOf s r) ≡ check.Sound
-    → {a b d : List ℕ} {y z : Check} → a ≡ bodyOf s l → b ≡ bodyOf s r → d ≡ bodyOf s j
-    → y ≡ checkTablesAndJoint k a b d → y ≡ z
-    → checkJoint k (bodyOf s l) (bodyOf s r) (bodyOf s j) ≡ z
-run-seen k s l r j f g p q w e h =
-    sym (run-alone k (bodyOf s l) (bodyOf s r) (bodyOf s j) f g) ∙ rw (← p, ← q, ← w, ← e) h
+pub run-seen : (s : List ℕ) (h l r j : Record) → checkTable (labelsOf s h .pairs) (bodyOf s l) ≡ check.Sound
+    → checkTable (labelsOf s h .pairs) (bodyOf s r) ≡ check.Sound
+    → {x : Labels} {a b d : List ℕ} {y z : Check} → x ≡ labelsOf s h → a ≡ bodyOf s l → b ≡ bodyOf s r
+    → d ≡ bodyOf s j
+    → y ≡ checkTablesAndJoint (x .pairs) a b d → y ≡ z
+    → checkJoint (labelsOf s h .pairs) (bodyOf s l) (bodyOf s r) (bodyOf s j) ≡ z
+run-seen s h l r j f g o p q w e i =
+    sym (run-alone (labelsOf s h .pairs) (bodyOf s l) (bodyOf s r) (bodyOf s j) f g) ∙ rw (← o, ← p, ← q, ← w, ← e) i

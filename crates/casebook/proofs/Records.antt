@@ -4,14 +4,15 @@ use mathlib.Core.Path.{_≡_, sym, _∙_}
 use mathlib.Core.Bool.{Bool, true, false, cond, _&&_, _||_}
 use mathlib.Core.List.{List, []}
 use native.Mathlib.Omega.{arith}
-use lib.ListN.{length, take, drop, length-drop, drop-of-length-le}
-use lib.Seq.{take-all, take-nil}
+use lib.ListN.{length, getD, take, drop, length-drop, drop-of-length-le}
+use lib.Seq.{take-all, take-nil, getD-drop}
 use lib.Dec.{eqb, leb}
 use borrow.Author.Tests.{eq-eqb, ne-eqb, lt-ltb, le-ltb, le-leb, lt-leb, leb-true, eqb-true}
 use Rattle.hml.proofs.Tests.{both-true, apart}
+use Rattle.labels.specs.declared.label.Labels.{Labels}
 use Rattle.labels.specs.declared.refusal.Refusal.the-variants.{Truncated, WrongKind, WrongLength}
 use Rattle.casebook.specs.Records.{wordAt, fitTableLength, fitRunLength, fitQuestionLength, fitLength, nextAt}
-use Rattle.casebook.specs.Records.{bodyOf}
+use Rattle.casebook.specs.Records.{bodyOf, labelsOf}
 use Rattle.casebook.specs.declared.record.Record.{Record}
 use Rattle.casebook.specs.declared.record.Next.the-variants as next
 
@@ -130,3 +131,11 @@ module _ (s : List ℕ) (r : Record) where
   pub body-whole : (n : ℕ) → n ≡ r .len → take n (drop (r .start) s) ≡ bodyOf s r
   unfolding bodyOf
   body-whole n e = rw e
+
+  -- past the bytes' end there is no k
+  pub labels-outside : length s ≤ r .start → _≡_ {A = Labels} (record { pairs = 0 }) (labelsOf s r)
+  unfolding labelsOf
+  labels-outside h =
+      let z : r .start + 0 ≡ r .start = omega arith in
+      let e : getD s (r .start) 0 ≡ 0 = rw (← z, ← getD-drop (r .start) s 0 0, drop-of-length-le s {i = r .start} h) in
+      rw e

@@ -11,7 +11,7 @@ use Rattle.labels.specs.declared.refusal.Check.{Check}
 use Rattle.labels.specs.declared.refusal.Check.the-variants as check
 use Rattle.labels.specs.declared.refusal.Refusal.the-variants.{OutputTooShort}
 use Rattle.labels.proofs.Refusals.{both-sound}
-use Rattle.casebook.specs.Records.{bodyOf}
+use Rattle.casebook.specs.Records.{bodyOf, labelsOf}
 use Rattle.casebook.specs.Reading.{readOf}
 use Rattle.casebook.specs.Writing.{casebookBytes, checkParts, checkWrite, answered, writeOf, writtenOf}
 use Rattle.casebook.specs.declared.read.Parts.{Parts}
@@ -25,12 +25,13 @@ use Rattle.casebook.proofs.RoundTrip.{ReadsTo, read-sound, read-written
 module _ (s : List ℕ) (p : Parts) (out : List ℕ) where
   abbrev pub answerFor : Writing
   answerFor =
-      writeOf (p .pairs) (bodyOf s (p .left)) (bodyOf s (p .right)) (bodyOf s (p .run)) (bodyOf s (p .question))
-      (length out)
+      writeOf (labelsOf s (p .labels) .pairs) (bodyOf s (p .left)) (bodyOf s (p .right)) (bodyOf s (p .run))
+      (bodyOf s (p .question)) (length out)
 
   abbrev pub outputFor : List ℕ
   outputFor =
-      writtenOf (p .pairs) (bodyOf s (p .left)) (bodyOf s (p .right)) (bodyOf s (p .run)) (bodyOf s (p .question)) out
+      writtenOf (labelsOf s (p .labels) .pairs) (bodyOf s (p .left)) (bodyOf s (p .right)) (bodyOf s (p .run))
+      (bodyOf s (p .question)) out
 
 -- A casebook that was read, written again from its parts. Into an output of its length or more go its own bytes, and
 -- "lent bytes past it keep theirs". A shorter output is refused, 18, and "every lent byte keeps its value".

@@ -19,7 +19,7 @@ use Rattle.labels.proofs.Refusals.{judges, judged-fault, both-sound}
 use Rattle.tables.specs.Tables.{checkTable}
 use Rattle.machines.specs.Joints.{checkJoint}
 use Rattle.formulas.specs.Formulas.{questionLimit, checkFormula}
-use Rattle.casebook.specs.Records.{nextAt, bodyOf, recordBytes, fitLength}
+use Rattle.casebook.specs.Records.{nextAt, bodyOf, labelsOf, recordBytes, fitLength}
 use Rattle.casebook.specs.Reading.{after, ifSound, readQuestion, readRun, readRight, readLeft, readOf}
 use Rattle.casebook.specs.Writing.{casebookBytes, checkParts}
 use Rattle.casebook.specs.declared.record.Cursor.{Cursor}
@@ -102,25 +102,25 @@ same-parts e = cc
 nothing-behind : (at n : ℕ) → refusedIf (ltb at n) BytesAfter ≡ Sound → n ≤ at
 nothing-behind at n e = omega (arith, judges (judged-fault BytesAfter (decided-lt at n)) .0 e)
 
--- the header's byte is k where the body is that byte alone
-header-byte : (s : List ℕ) (h : Record) (k : ℕ) → bodyOf s h ≡ k ∷ [] → getD s (h .start) 0 ≡ k
-header-byte s h k e = sym (first-byte s h (omega (arith, ap length e))) ∙ ap (λ l. getD l 0 0) e
+-- the labels' record shows k where its body is that byte alone
+pairs-shown : (s : List ℕ) (h : Record) (k : ℕ) → bodyOf s h ≡ k ∷ [] → labelsOf s h .pairs ≡ k
+unfolding labelsOf
+pairs-shown s h k e = sym (first-byte s h (omega (arith, ap length e))) ∙ ap (λ l. getD l 0 0) e
 
 -- five records, each once, in this order, with sound contents, and nothing behind them
 record Chain (s : List ℕ) (p : Parts) : Type 0 where
-  header : Record
   c1 : Cursor
   c2 : Cursor
   c3 : Cursor
   c4 : Cursor
   c5 : Cursor
-  first : nextAt s 0 1 ≡ next.Found header c1
+  first : nextAt s 0 1 ≡ next.Found (p .labels) c1
   second : nextAt s (c1 .at) 2 ≡ next.Found (p .left) c2
   third : nextAt s (c2 .at) 3 ≡ next.Found (p .right) c3
   fourth : nextAt s (c3 .at) 4 ≡ next.Found (p .run) c4
   fifth : nextAt s (c4 .at) 5 ≡ next.Found (p .question) c5
-  byte : getD s (header .start) 0 ≡ p .pairs
-  sound : SoundParts (p .pairs) (bodyOf s (p .left)) (bodyOf s (p .right)) (bodyOf s (p .run)) (bodyOf s (p .question))
+  sound : SoundParts (labelsOf s (p .labels) .pairs) (bodyOf s (p .left)) (bodyOf s (p .right)) (bodyOf s (p .run))
+      (bodyOf s (p .question))
   all : length s ≤ c5 .at
 
 module _ (s : List ℕ) (p : Parts) where
@@ -131,7 +131,6 @@ module _ (s : List ℕ) (p : Parts) where
       let a = w .sound in
       rw (
         w .first,
-        w .byte,
         a .pairs,
         w .second,
         a .left,
@@ -148,20 +147,19 @@ module _ (s : List ℕ) (p : Parts) where
   read-chain : readOf s ≡ reading.Casebook p → Chain s p
   unfolding readOf readLeft readRight readRun readQuestion
   read-chain e =
-      record-read (nextAt s 0 1) (λ h. checkPairs (getD s (h .start) 0))
-      (λ h c. readLeft s (getD s (h .start) 0) (c .at)) e (λ h c1 n1 f1 e1.
-      let k = getD s (h .start) 0 in
-      record-read (nextAt s (c1 .at) 2) (λ l. checkTable k (bodyOf s l)) (λ l c. readRight s k l (c .at)) e1
+      record-read (nextAt s 0 1) (λ h. checkPairs (labelsOf s h .pairs)) (λ h c. readLeft s h (c .at)) e
+      (λ h c1 n1 f1 e1.
+      let k = labelsOf s h .pairs in
+      record-read (nextAt s (c1 .at) 2) (λ l. checkTable k (bodyOf s l)) (λ l c. readRight s h l (c .at)) e1
       (λ l c2 n2 f2 e2.
-      record-read (nextAt s (c2 .at) 3) (λ r. checkTable k (bodyOf s r)) (λ r c. readRun s k l r (c .at)) e2
+      record-read (nextAt s (c2 .at) 3) (λ r. checkTable k (bodyOf s r)) (λ r c. readRun s h l r (c .at)) e2
       (λ r c3 n3 f3 e3.
       record-read (nextAt s (c3 .at) 4) (λ j. checkJoint k (bodyOf s l) (bodyOf s r) (bodyOf s j))
-      (λ j c. readQuestion s k l r j (c .at)) e3 (λ j c4 n4 f4 e4.
+      (λ j c. readQuestion s h l r j (c .at)) e3 (λ j c4 n4 f4 e4.
       record-read (nextAt s (c4 .at) 5) (λ q. checkFormula k questionLimit (bodyOf s q))
       (λ q c. ifSound (refusedIf (ltb (c .at) (length s)) BytesAfter)
-      (reading.Casebook (record { pairs = k; left = l; right = r; run = j; question = q }))) e4 (λ q c5 n5 f5 e5.
+      (reading.Casebook (record { labels = h; left = l; right = r; run = j; question = q }))) e4 (λ q c5 n5 f5 e5.
       sound-read (refusedIf (ltb (c5 .at) (length s)) BytesAfter) e5 (λ a b. rw (← same-parts b) (record {
-        header = h;
         c1 = c1;
         c2 = c2;
         c3 = c3;
@@ -172,22 +170,23 @@ module _ (s : List ℕ) (p : Parts) where
         third = n3;
         fourth = n4;
         fifth = n5;
-        byte = refl;
         sound = record { pairs = f1; left = f2; right = f3; run = f4; question = f5 };
         all = nothing-behind (c5 .at) (length s) a;
       })))))))
 
   -- the parts of a casebook that was read are sound
   pub read-sound : readOf s ≡ reading.Casebook p
-      → checkParts (p .pairs) (bodyOf s (p .left)) (bodyOf s (p .right)) (bodyOf s (p .run)) (bodyOf s (p .question))
+      → checkParts (labelsOf s (p .labels) .pairs) (bodyOf s (p .left)) (bodyOf s (p .right)) (bodyOf s (p .run))
+      (bodyOf s (p .question))
       ≡ Sound
   read-sound e = parts-sound _ _ _ _ _ (read-chain e .sound)
 
--- bytes that read to a casebook of these parts: its k, and the bodies of its four records, are theirs
+-- bytes that read to a casebook of these parts: the k that it shows, and the bodies of its four other records, are
+-- theirs
 pub record ReadsTo (s : List ℕ) (k : ℕ) (l r j q : List ℕ) : Type 0 where
   pub parts : Parts
   pub read : readOf s ≡ reading.Casebook parts
-  pub pairs : parts .pairs ≡ k
+  pub pairs : labelsOf s (parts .labels) .pairs ≡ k
   pub left : bodyOf s (parts .left) ≡ l
   pub right : bodyOf s (parts .right) ≡ r
   pub run : bodyOf s (parts .run) ≡ j
@@ -205,7 +204,7 @@ read-written k l r j q e =
     let c3 = behind (c2 .at) r in
     let c4 = behind (c3 .at) j in
     let p : Parts = record {
-      pairs = k;
+      labels = placed 1 0 (k ∷ []);
       left = placed 2 (c1 .at) l;
       right = placed 3 (c2 .at) r;
       run = placed 4 (c3 .at) j;
@@ -217,10 +216,10 @@ read-written k l r j q e =
     let (n4, b4, d4) = next-record s (c3 .at) 4 j _ (joint-fits k l r j (w .run) .0) d3 in
     let (n5, b5, d5) = next-record s (c4 .at) 5 q [] (question-fits k q (w .question) .0)
     (d4 ∙ sym (append-nil (recordBytes 5 q))) in
+    let shown = pairs-shown s (placed 1 0 (k ∷ [])) k b1 in
     record {
       parts = p;
       read = chain-read s p (record {
-        header = placed 1 0 (k ∷ []);
         c1 = c1;
         c2 = c2;
         c3 = c3;
@@ -231,11 +230,10 @@ read-written k l r j q e =
         third = n3;
         fourth = n4;
         fifth = n5;
-        byte = header-byte s (placed 1 0 (k ∷ [])) k b1;
-        sound = rw (b2, b3, b4, b5) w;
+        sound = rw (shown, b2, b3, b4, b5) w;
         all = omega (arith, casebook-length k l r j q);
       });
-      pairs = refl;
+      pairs = shown;
       left = b2;
       right = b3;
       run = b4;
@@ -245,15 +243,15 @@ read-written k l r j q e =
 -- a casebook that was read, of bytes
 module _ (s : List ℕ) (bytes : Bytes s) (p : Parts) (e : readOf s ≡ reading.Casebook p) where
   -- writing its parts gives its bytes
-  pub written-read : casebookBytes (p .pairs) (bodyOf s (p .left)) (bodyOf s (p .right)) (bodyOf s (p .run))
-      (bodyOf s (p .question)) ≡ s
-  unfolding casebookBytes
+  pub written-read : casebookBytes (labelsOf s (p .labels) .pairs) (bodyOf s (p .left)) (bodyOf s (p .right))
+      (bodyOf s (p .run)) (bodyOf s (p .question)) ≡ s
+  unfolding casebookBytes labelsOf
   written-read =
       let w = read-chain s p e in
-      let y = record-next s 0 1 bytes (w .header) (w .c1) (w .first) in
-      let one = header-fits (length (bodyOf s (w .header))) (y .fits) in
-      let k : bodyOf s (w .header) ≡ p .pairs ∷ [] = single (bodyOf s (w .header)) one
-      ∙ ap (λ x. x ∷ []) (first-byte s (w .header) (omega (arith, one)) ∙ w .byte) in
+      let y = record-next s 0 1 bytes (p .labels) (w .c1) (w .first) in
+      let one = header-fits (length (bodyOf s (p .labels))) (y .fits) in
+      let k : bodyOf s (p .labels) ≡ getD s (p .labels .start) 0 ∷ [] = single (bodyOf s (p .labels)) one
+      ∙ ap (λ x. x ∷ []) (first-byte s (p .labels) (omega (arith, one))) in
       sym (y .bytes ∙ rw (
         k,
         record-next s (w .c1 .at) 2 bytes (p .left) (w .c2) (w .second) .bytes,
@@ -264,6 +262,13 @@ module _ (s : List ℕ) (bytes : Bytes s) (p : Parts) (e : readOf s ≡ reading.
         append-nil (recordBytes 5 (bodyOf s (p .question))),
       ))
 
+  -- its first record is the shortest there is: k alone, behind the record's length and kind
+  pub labels-placed : (p .labels .start ≡ 4) × (p .labels .len ≡ 1)
+  labels-placed =
+      let w = read-chain s p e in
+      let y = record-next s 0 1 bytes (p .labels) (w .c1) (w .first) in
+      (y .start-is, sym (y .body-length) ∙ header-fits (length (bodyOf s (p .labels))) (y .fits))
+
 -- a casebook is accepted exactly if it is what writing makes of sound parts
 pub accepted-exactly : (s : List ℕ) → Bytes s
     → ((p : Parts) × (readOf s ≡ reading.Casebook p))
@@ -271,7 +276,7 @@ pub accepted-exactly : (s : List ℕ) → Bytes s
     × (s ≡ casebookBytes k l r j q))
 accepted-exactly s b = (
   λ (p, e). (
-    p .pairs,
+    labelsOf s (p .labels) .pairs,
     bodyOf s (p .left),
     bodyOf s (p .right),
     bodyOf s (p .run),
@@ -290,6 +295,7 @@ accepted-exactly s b = (
 -- a casebook that was read is short, and its records lie in it
 pub record Placing (s : List ℕ) (p : Parts) : Type 0 where
   pub short : length s ≤ 3825
+  pub labels : p .labels .start + p .labels .len ≤ length s
   pub left : p .left .start + p .left .len ≤ length s
   pub right : p .right .start + p .right .len ≤ length s
   pub run : p .run .start + p .run .len ≤ length s
@@ -300,6 +306,7 @@ placing s bytes p e =
     let w = read-chain s p e in
     record {
       short = omega (arith, casebook-short _ _ _ _ _ (read-sound s p e), ap length (written-read s bytes p e));
+      labels = found-within s 0 1 (p .labels) (w .c1) (sym (w .first)) .0;
       left = found-within s (w .c1 .at) 2 (p .left) (w .c2) (sym (w .second)) .0;
       right = found-within s (w .c2 .at) 3 (p .right) (w .c3) (sym (w .third)) .0;
       run = found-within s (w .c3 .at) 4 (p .run) (w .c4) (sym (w .fourth)) .0;

@@ -4,22 +4,18 @@ use mathlib.Core.Path.{_≡_, refl}
 use mathlib.Core.List.{List, _∷_}
 use native.Mathlib.Omega.{arith}
 use lib.ListN.{length}
-use Rattle.hml.proofs.Tests.{decided-lt}
 use Rattle.labels.specs.Refusals.{firstOf}
-use Rattle.labels.specs.Labels.{checkPairs}
 use Rattle.labels.specs.declared.refusal.Check.{Check}
 use Rattle.labels.specs.declared.refusal.Check.the-variants.{Sound, Refused}
-use Rattle.labels.specs.declared.refusal.Refusal.the-variants.{TooManyPairs}
-use Rattle.labels.proofs.Refusals.{judges, judged-fault, both-sound}
+use Rattle.labels.proofs.Refusals.{both-sound}
 use Rattle.labels.proofs.Answers.{Within, none, next}
 use Rattle.casebook.specs.Reading.{readOf, readAnswer}
 use Rattle.casebook.specs.Writing.{casebookBytes, checkParts, checkWrite, answered, writeOf, writeAnswer}
 use Rattle.casebook.specs.declared.record.Record.{Record}
-use Rattle.casebook.specs.declared.read.Parts.{Parts}
 use Rattle.casebook.specs.declared.read.Reading.{Reading}
 use Rattle.casebook.specs.declared.read.Reading.the-variants as reading
 use Rattle.casebook.proofs.RecordLaws.{Bytes}
-use Rattle.casebook.proofs.RoundTrip.{casebook-short, placing, read-sound, sound-parts}
+use Rattle.casebook.proofs.RoundTrip.{casebook-short, placing}
 
 -- of a writing: at most 3,825
 pub write-within : (k : ℕ) (l r j q : List ℕ) (room : ℕ) → Within 3825 (writeAnswer (writeOf k l r j q room) .values)
@@ -31,10 +27,7 @@ write-within k l r j q room = go (checkWrite k l r j q room) refl
     go Sound e = next (casebook-short k l r j q (both-sound (checkParts k l r j q) _ e .0)) none
     go (Refused x) e = none
 
--- of a reading: k is at most 15, and the records lie in at most 3,825 bytes
-pairs-few : (k : ℕ) → checkPairs k ≡ Sound → k ≤ 3825
-pairs-few k e = omega (arith, judges (judged-fault TooManyPairs (decided-lt 15 k)) .0 e)
-
+-- of a reading: the records lie in at most 3,825 bytes
 place-within : (r : Record) (n : ℕ) {ns : List ℕ} → r .start + r .len ≤ n → n ≤ 3825 → Within 3825 ns
     → Within 3825 (r .start ∷ r .len ∷ ns)
 place-within r n h i w = next {n = r .start} (omega arith) (next {n = r .len} (omega arith) w)
@@ -46,7 +39,7 @@ read-within s bytes = go (readOf s) refl
     go : (a : Reading) → readOf s ≡ a → Within 3825 (readAnswer a .values)
     go (reading.Casebook p) e =
         let w = placing s bytes p e in
-        next (pairs-few (p .pairs) (sound-parts _ _ _ _ _ (read-sound s p e) .pairs))
+        place-within (p .labels) _ (w .labels) (w .short)
         (place-within (p .left) _ (w .left) (w .short)
         (place-within (p .right) _ (w .right) (w .short)
         (place-within (p .run) _ (w .run) (w .short)

@@ -2,7 +2,7 @@
 -- order 1 (header), 2, 3, 1 (body), then contents from left to right."
 use Prim.Native.Nat.{ℕ}
 use mathlib.Core.List.{List, [], _∷_}
-use lib.ListN.{length, getD}
+use lib.ListN.{length}
 use lib.Dec.{ltb}
 use Rattle.labels.specs.Refusals.{refusedIf, Answer, refusedAs, giving}
 use Rattle.labels.specs.Labels.{checkPairs}
@@ -13,7 +13,7 @@ use Rattle.tables.specs.Tables.{checkTable}
 use Rattle.machines.specs.Joints.{checkJoint}
 use Rattle.machines.specs.Cases.{Case}
 use Rattle.formulas.specs.Formulas.{questionLimit, checkFormula}
-use Rattle.casebook.specs.Records.{nextAt, bodyOf}
+use Rattle.casebook.specs.Records.{nextAt, bodyOf, labelsOf}
 use Rattle.casebook.specs.declared.record.Cursor.{Cursor}
 use Rattle.casebook.specs.declared.record.Record.{Record}
 use Rattle.casebook.specs.declared.record.Next.{Next}
@@ -33,42 +33,43 @@ ifSound check.Sound go = go
 ifSound (check.Refused x) go = reading.Refused x
 
 -- the question record, then 11: "bytes after the question record"
-unfoldable pub readQuestion : List ℕ → ℕ → Record → Record → Record → ℕ → Reading
-readQuestion s k l r j at = after (nextAt s at 5) (λ q c.
-    ifSound (checkFormula k questionLimit (bodyOf s q))
+unfoldable pub readQuestion : List ℕ → Record → Record → Record → Record → ℕ → Reading
+readQuestion s h l r j at = after (nextAt s at 5) (λ q c.
+    ifSound (checkFormula (labelsOf s h .pairs) questionLimit (bodyOf s q))
     (ifSound (refusedIf (ltb (c .at) (length s)) BytesAfter)
-    (reading.Casebook (record { pairs = k; left = l; right = r; run = j; question = q }))))
+    (reading.Casebook (record { labels = h; left = l; right = r; run = j; question = q }))))
 
-unfoldable pub readRun : List ℕ → ℕ → Record → Record → ℕ → Reading
-readRun s k l r at =
-    after (nextAt s at 4)
-    (λ j c. ifSound (checkJoint k (bodyOf s l) (bodyOf s r) (bodyOf s j)) (readQuestion s k l r j (c .at)))
+unfoldable pub readRun : List ℕ → Record → Record → Record → ℕ → Reading
+readRun s h l r at = after (nextAt s at 4) (λ j c.
+    ifSound (checkJoint (labelsOf s h .pairs) (bodyOf s l) (bodyOf s r) (bodyOf s j)) (readQuestion s h l r j (c .at)))
 
-unfoldable pub readRight : List ℕ → ℕ → Record → ℕ → Reading
-readRight s k l at = after (nextAt s at 3) (λ r c. ifSound (checkTable k (bodyOf s r)) (readRun s k l r (c .at)))
+unfoldable pub readRight : List ℕ → Record → Record → ℕ → Reading
+readRight s h l at =
+    after (nextAt s at 3) (λ r c. ifSound (checkTable (labelsOf s h .pairs) (bodyOf s r)) (readRun s h l r (c .at)))
 
-unfoldable pub readLeft : List ℕ → ℕ → ℕ → Reading
-readLeft s k at = after (nextAt s at 2) (λ l c. ifSound (checkTable k (bodyOf s l)) (readRight s k l (c .at)))
+unfoldable pub readLeft : List ℕ → Record → ℕ → Reading
+readLeft s h at =
+    after (nextAt s at 2) (λ l c. ifSound (checkTable (labelsOf s h .pairs) (bodyOf s l)) (readRight s h l (c .at)))
 
 -- "Five records, each once, in this order."
 unfoldable pub readOf : List ℕ → Reading
-readOf s =
-    after (nextAt s 0 1) (λ h c. ifSound (checkPairs (getD s (h .start) 0)) (readLeft s (getD s (h .start) 0) (c .at)))
+readOf s = after (nextAt s 0 1) (λ h c. ifSound (checkPairs (labelsOf s h .pairs)) (readLeft s h (c .at)))
 
 -- the case that the bytes show, where their parts lie so
 unfoldable pub caseOf : List ℕ → Parts → Case
 caseOf s p = record {
-  labels = record { pairs = p .pairs };
+  labels = labelsOf s (p .labels);
   left = bodyOf s (p .left);
   right = bodyOf s (p .right);
   run = bodyOf s (p .run);
   question = bodyOf s (p .question);
 }
 
--- the number of a reading, and its values: k, then start and length of the bodies of the four other records
+-- the number of a reading, and its values: start and length of the bodies of the five records, in their order
 unfoldable pub readAnswer : Reading → Answer
 readAnswer (reading.Casebook p) = giving
-    (p .pairs
+    (p .labels .start
+    ∷ p .labels .len
     ∷ p .left .start
     ∷ p .left .len
     ∷ p .right .start

@@ -7,6 +7,7 @@ use mathlib.Core.List.{List, [], _∷_, _++_}
 use lib.ListN.{length, getD, take, drop}
 use lib.Dec.{eqb, leb, ltb}
 use Rattle.labels.specs.Refusals.{Answer, refusedAs, giving}
+use Rattle.labels.specs.declared.label.Labels.{Labels}
 use Rattle.labels.specs.declared.refusal.Refusal.the-variants.{Truncated, WrongKind, WrongLength}
 use Rattle.casebook.specs.declared.record.Record.{Record}
 use Rattle.casebook.specs.declared.record.Next.{Next}
@@ -54,6 +55,10 @@ nextAnswer (next.Refused x) = refusedAs x
 -- the body of a record
 unfoldable pub bodyOf : List ℕ → Record → List ℕ
 bodyOf s r = take (r .len) (drop (r .start) s)
+
+-- the labels that the first record shows: its body is k
+unfoldable pub labelsOf : List ℕ → Record → Labels
+labelsOf s r = record { pairs = getD s (r .start) 0 }
 
 -- a record as bytes
 abbrev pub wordBytes : ℕ → List ℕ

@@ -1,4 +1,4 @@
-// Reading a casebook: where each part lies and k, or the one number of document 01's order.
+// Reading a casebook: where each part lies, or the one number of document 01's order.
 use crate::record::Cursor;
 use crate::record::Next;
 use crate::record::Record;
@@ -12,16 +12,26 @@ use tables::check::check_table;
 ghost use mathlib.Core.Path.{_≡_};
 ghost use Rattle.labels.specs.declared.refusal.Check.the-variants.{Sound};
 ghost use Rattle.tables.specs.Tables.{checkTable};
-ghost use Rattle.casebook.specs.Records.{bodyOf};
+ghost use Rattle.casebook.specs.Records.{bodyOf, labelsOf};
 ghost use Rattle.casebook.specs.Reading.{readQuestion, readRun, readRight, readLeft, readOf};
 
-// A casebook that was read: k, and where the bodies of the four other records lie.
+// A casebook that was read: where the bodies of its five records lie.
 pub struct Parts {
-    pub pairs: u8,
+    pub labels: Record,
     pub left: Record,
     pub right: Record,
     pub run: Record,
     pub question: Record,
+}
+
+impl Parts {
+    // The labels that the casebook's bytes show.
+    pub fn labels(self, s: &[u8]) -> Labels
+        ensures { λ r. ⌜ r ≡ labelsOf (now (s .entry)) (self .labels) ⌝ }
+    {
+        let first = self.labels;
+        first.labels(s)
+    }
 }
 
 // What reading some bytes gives.
@@ -35,11 +45,10 @@ pub fn read(s: &[u8]) -> Reading
     ensures { λ r. ⌜ r ≡ readOf (now (s .entry)) ⌝ }
 {
     match (Cursor { at: 0 }).next(s, 1) {
-        Next::Found(record, cursor) => {
-            let start = record.start;
-            let k = s[start];
-            match check_pairs(k) {
-                Check::Sound => read_left(s, k, cursor),
+        Next::Found(first, cursor) => {
+            let labels = first.labels(s);
+            match check_pairs(labels.pairs) {
+                Check::Sound => read_left(s, first, cursor),
                 Check::Refused(refusal) => Reading::Refused(refusal),
             }
         }
@@ -48,12 +57,12 @@ pub fn read(s: &[u8]) -> Reading
 }
 
 // The left table, and what follows it.
-fn read_left(s: &[u8], k: u8, cursor: Cursor) -> Reading
-    ensures { λ r. ⌜ r ≡ readLeft (now (s .entry)) k (cursor .at) ⌝ }
+fn read_left(s: &[u8], first: Record, cursor: Cursor) -> Reading
+    ensures { λ r. ⌜ r ≡ readLeft (now (s .entry)) first (cursor .at) ⌝ }
 {
     match cursor.next(s, 2) {
-        Next::Found(left, next) => match check_table(Labels { pairs: k }, left.body(s)) {
-            Check::Sound => read_right(s, k, left, next),
+        Next::Found(left, next) => match check_table(first.labels(s), left.body(s)) {
+            Check::Sound => read_right(s, first, left, next),
             Check::Refused(refusal) => Reading::Refused(refusal),
         },
         Next::Refused(refusal) => Reading::Refused(refusal),
@@ -61,13 +70,13 @@ fn read_left(s: &[u8], k: u8, cursor: Cursor) -> Reading
 }
 
 // The right table, and what follows it.
-fn read_right(s: &[u8], k: u8, left: Record, cursor: Cursor) -> Reading
-    requires { ⌜ checkTable k (bodyOf (now s) left) ≡ Sound ⌝ }
-    ensures { λ r. ⌜ r ≡ readRight (now (s .entry)) k left (cursor .at) ⌝ }
+fn read_right(s: &[u8], first: Record, left: Record, cursor: Cursor) -> Reading
+    requires { ⌜ checkTable (labelsOf (now s) first .pairs) (bodyOf (now s) left) ≡ Sound ⌝ }
+    ensures { λ r. ⌜ r ≡ readRight (now (s .entry)) first left (cursor .at) ⌝ }
 {
     match cursor.next(s, 3) {
-        Next::Found(right, next) => match check_table(Labels { pairs: k }, right.body(s)) {
-            Check::Sound => read_run(s, k, left, right, next),
+        Next::Found(right, next) => match check_table(first.labels(s), right.body(s)) {
+            Check::Sound => read_run(s, first, left, right, next),
             Check::Refused(refusal) => Reading::Refused(refusal),
         },
         Next::Refused(refusal) => Reading::Refused(refusal),
@@ -75,19 +84,14 @@ fn read_right(s: &[u8], k: u8, left: Record, cursor: Cursor) -> Reading
 }
 
 // The joint run, and what follows it.
-fn read_run(s: &[u8], k: u8, left: Record, right: Record, cursor: Cursor) -> Reading
-    requires { ⌜ (checkTable k (bodyOf (now s) left) ≡ Sound) × (checkTable k (bodyOf (now s) right) ≡ Sound) ⌝ }
-    ensures { λ r. ⌜ r ≡ readRun (now (s .entry)) k left right (cursor .at) ⌝ }
+fn read_run(s: &[u8], first: Record, left: Record, right: Record, cursor: Cursor) -> Reading
+    requires { ⌜ (checkTable (labelsOf (now s) first .pairs) (bodyOf (now s) left) ≡ Sound) × (checkTable (labelsOf (now s) first .pairs) (bodyOf (now s) right) ≡ Sound) ⌝ }
+    ensures { λ r. ⌜ r ≡ readRun (now (s .entry)) first left right (cursor .at) ⌝ }
 {
     match cursor.next(s, 4) {
         Next::Found(run, next) => {
-            match check_joint(
-                Labels { pairs: k },
-                left.body(s),
-                right.body(s),
-                run.body(s),
-            ) {
-                Check::Sound => read_question(s, k, left, right, run, next),
+            match check_joint(first.labels(s), left.body(s), right.body(s), run.body(s)) {
+                Check::Sound => read_question(s, first, left, right, run, next),
                 Check::Refused(refusal) => Reading::Refused(refusal),
             }
         }
@@ -98,23 +102,23 @@ fn read_run(s: &[u8], k: u8, left: Record, right: Record, cursor: Cursor) -> Rea
 // The question, and that nothing follows it.
 fn read_question(
     s: &[u8],
-    k: u8,
+    first: Record,
     left: Record,
     right: Record,
     run: Record,
     cursor: Cursor,
 ) -> Reading
-    ensures { λ r. ⌜ r ≡ readQuestion (now (s .entry)) k left right run (cursor .at) ⌝ }
+    ensures { λ r. ⌜ r ≡ readQuestion (now (s .entry)) first left right run (cursor .at) ⌝ }
 {
     match cursor.next(s, 5) {
         Next::Found(question, next) => {
-            match check_formula(Labels { pairs: k }, 64, question.body(s)) {
+            match check_formula(first.labels(s), 64, question.body(s)) {
                 Check::Sound => {
                     if next.at < s.len() {
                         return Reading::Refused(Refusal::BytesAfter);
                     }
                     Reading::Casebook(Parts {
-                        pairs: k,
+                        labels: first,
                         left,
                         right,
                         run,

@@ -1,10 +1,11 @@
 // Records, and the reading position that steps over them.
+use labels::label::Labels;
 use labels::refusal::Refusal;
 ghost use mathlib.Core.Path.{_≡_};
 ghost use Prim.Native.Nat.{_+_, _<_};
 ghost use lib.ListN.{length};
 ghost use Rattle.casebook.specs.Records.{wordAt, fitTableLength, fitRunLength, fitQuestionLength, fitLength};
-ghost use Rattle.casebook.specs.Records.{nextAt, bodyOf};
+ghost use Rattle.casebook.specs.Records.{nextAt, bodyOf, labelsOf};
 
 // A reading position.
 pub struct Cursor {
@@ -33,6 +34,17 @@ impl Record {
         }
         let end = start + len;
         &s[start..end]
+    }
+
+    // The labels that the first record shows: its body is k.
+    pub fn labels(self, s: &[u8]) -> Labels
+        ensures { λ r. ⌜ r ≡ labelsOf (now (s .entry)) self ⌝ }
+    {
+        let start = self.start;
+        if s.len() <= start {
+            return Labels { pairs: 0 };
+        }
+        Labels { pairs: s[start] }
     }
 }
 

@@ -48,7 +48,7 @@ fn show_split(bytes: &[u8], parts: Parts, asked: Asked) {
     let right = parts.right.body(bytes);
     let run = parts.run.body(bytes);
     match split(
-        parts.pairs,
+        parts.labels(bytes).pairs,
         left,
         right,
         run,
@@ -79,7 +79,7 @@ fn show_answers<'a>(
     let right = parts.right.body(bytes);
     let run = parts.run.body(bytes);
     let question = parts.question.body(bytes);
-    let k = parts.pairs;
+    let k = parts.labels(bytes).pairs;
     let point = asked.point;
     let side = asked.side;
     show(b"joint verdict ");
@@ -105,7 +105,7 @@ fn show_by_half<'a>(
     let left = parts.left.body(bytes);
     let right = parts.right.body(bytes);
     let question = parts.question.body(bytes);
-    let k = parts.pairs;
+    let k = parts.labels(bytes).pairs;
     let point = asked.point;
     let side = asked.side;
     let mut out = output();

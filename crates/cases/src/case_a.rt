@@ -32,7 +32,7 @@ pub(crate) fn show_records() {
 // Prints k, where each other part lies, and whether writing gives back what was read.
 fn show_parts(bytes: &[u8], parts: Parts) {
     show(b"case A, k: ");
-    let k = parts.pairs;
+    let k = parts.labels(bytes).pairs;
     show_number(k as usize);
     show_place(b"\ncase A, left table: ", parts.left);
     show_place(b"\ncase A, right table: ", parts.right);
@@ -58,7 +58,14 @@ fn show_written(bytes: &[u8], parts: Parts) {
     let run = parts.run.body(bytes);
     let question = parts.question.body(bytes);
     let mut out = output();
-    match write(parts.pairs, left, right, run, question, &mut out) {
+    match write(
+        parts.labels(bytes).pairs,
+        left,
+        right,
+        run,
+        question,
+        &mut out,
+    ) {
         Writing::Written(n) => {
             show_number(n);
             if same(first(&out, n), bytes) {

@@ -27,7 +27,7 @@ pub(crate) fn show_count(counted: Counted) {
 pub(crate) fn show_log_count(bytes: &[u8]) {
     match read(bytes) {
         Reading::Casebook(parts) => show_count(count(
-            parts.pairs,
+            parts.labels(bytes).pairs,
             parts.left.body(bytes),
             parts.right.body(bytes),
             parts.run.body(bytes),
@@ -40,7 +40,7 @@ pub(crate) fn show_log_count(bytes: &[u8]) {
 pub(crate) fn show_log_halves(bytes: &[u8], number: usize) {
     match read(bytes) {
         Reading::Casebook(parts) => show_halves(
-            parts.pairs,
+            parts.labels(bytes).pairs,
             parts.left.body(bytes),
             parts.right.body(bytes),
             parts.run.body(bytes),

@@ -1,8 +1,10 @@
 -- The boundary's answers by their cases, each from what the code knows at its return.
 use Prim.Native.Nat.{ℕ, _+_, _*_, _≤_}
 use mathlib.Core.Path.{_≡_, refl, sym, _∙_, ap}
+use mathlib.Core.Bool.{Bool, true, false, cond}
 use mathlib.Core.List.{List, [], _∷_}
 use native.Mathlib.Omega.{arith}
+use lib.Dec.{eqb}
 use borrow.Author.Tests.{ne-eqb}
 use Rattle.labels.specs.Refusals.{Answer, numberOf, refusedAs, giving}
 use Rattle.labels.specs.declared.refusal.Refusal.{Refusal}
@@ -54,6 +56,7 @@ pub placed : (s : List ℕ) → Bytes s → (x : Reading) (p : Parts) → x ≡ 
 placed s bytes x p e f =
     let w = placing s bytes p (sym e ∙ f) in
     record {
+      labels = omega (arith, w .labels, w .short);
       left = omega (arith, w .left, w .short);
       right = omega (arith, w .right, w .short);
       run = omega (arith, w .run, w .short);
@@ -62,9 +65,9 @@ placed s bytes x p e f =
 
 -- the kinds of records
 module _ (p : Parts) (kind : ℕ) where
-  pub place-1 : kind ≡ 1 → 262145 ≡ placeIn kind (placesOf p)
-  unfolding placeIn readAnswer
-  place-1 e = rw e
+  pub place-1 : kind ≡ 1 → {n : ℕ} → n ≡ p .labels .start * 65536 + p .labels .len → n ≡ placeIn kind (placesOf p)
+  unfolding placeIn placeAt readAnswer
+  place-1 e h = rw e h
 
   pub place-2 : kind ≡ 2 → {n : ℕ} → n ≡ p .left .start * 65536 + p .left .len → n ≡ placeIn kind (placesOf p)
   unfolding placeIn placeAt readAnswer
@@ -86,6 +89,18 @@ module _ (p : Parts) (kind : ℕ) where
       → 0 ≡ placeIn kind (placesOf p)
   unfolding placeIn readAnswer
   no-place a b c d e = rw (ne-eqb _ _ a, ne-eqb _ _ b, ne-eqb _ _ c, ne-eqb _ _ d, ne-eqb _ _ e)
+
+-- a refused reading has no places
+either-none : (b : Bool) {x y : ℕ} → x ≡ 0 → y ≡ 0 → cond b x y ≡ 0
+either-none true p q = p
+either-none false p q = q
+
+pub no-places : (kind : ℕ) → placeIn kind [] ≡ 0
+unfolding placeIn placeAt
+no-places kind =
+    either-none (eqb kind 1) refl
+    (either-none (eqb kind 2) refl
+    (either-none (eqb kind 3) refl (either-none (eqb kind 4) refl (either-none (eqb kind 5) refl refl))))
 
 -- the side that a byte names
 pub left-named : (b : ℕ) → b ≡ 1 → side.Left ≡ sideOf b

@@ -4,12 +4,12 @@ use Prim.Native.Nat.{ℕ, _+_, _≤_, _<_}
 use mathlib.Core.Path.{_≡_, ap}
 use mathlib.Core.Logic.{_↔_}
 use mathlib.Core.Bool.{Bool, true, false, cond}
-use mathlib.Core.List.{List, [], _∷_}
+use mathlib.Core.List.{List}
 use native.Mathlib.Omega.{arith}
 use lib.ListN.{length}
 use lib.Dec.{eqb}
 use Rattle.labels.specs.Refusals.{Answer}
-use Rattle.labels.proofs.Answers.{Within, next, within-at}
+use Rattle.labels.proofs.Answers.{Within, within-at}
 use Rattle.labels.proofs.Slices.{no-bytes}
 use Rattle.halves.specs.Cuts.{beyond, cutOf, knownOf, knownPart}
 use Rattle.halves.specs.declared.side.Side.{Side}
@@ -59,13 +59,12 @@ chosen false h i = i
 
 places-small : (kind : ℕ) (ns : List ℕ) → Within 3825 ns → placeIn kind ns < 4294967296
 unfolding placeIn
-places-small kind [] w = omega arith
-places-small kind (k ∷ ns) (next h w) =
-    chosen (eqb kind 1) (omega arith)
-    (chosen (eqb kind 2) (place-small ns 0 w)
-    (chosen (eqb kind 3) (place-small ns 2 w)
-    (chosen (eqb kind 4) (place-small ns 4 w)
-    (chosen (eqb kind 5) (place-small ns 6 w) (omega arith)))))
+places-small kind ns w =
+    chosen (eqb kind 1) (place-small ns 0 w)
+    (chosen (eqb kind 2) (place-small ns 2 w)
+    (chosen (eqb kind 3) (place-small ns 4 w)
+    (chosen (eqb kind 4) (place-small ns 6 w)
+    (chosen (eqb kind 5) (place-small ns 8 w) (omega arith)))))
 
 -- the calls, for every input: of casebooks
 pub casebook-read-apart : (s : List ℕ) → Apart nothing (readAnswer (readOf s))

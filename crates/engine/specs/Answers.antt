@@ -2,7 +2,7 @@
 -- its enum, in the specs of the crate that answers; a cut has no enum, and the boundary answers the length of its part.
 use Prim.Native.Nat.{ℕ, _+_, _*_, _/_, _%_}
 use mathlib.Core.Bool.{cond}
-use mathlib.Core.List.{List, [], _∷_}
+use mathlib.Core.List.{List}
 use lib.ListN.{getD}
 use lib.Dec.{eqb}
 use Rattle.labels.specs.Refusals.{Answer}
@@ -37,16 +37,14 @@ twoBits ns = 2 * getD ns 0 0 + getD ns 1 0
 unfoldable pub placeAt : List ℕ → ℕ → ℕ
 placeAt ns i = getD ns i 0 * 65536 + getD ns (i + 1) 0
 
--- of the values of a reading, where the body of the record of a kind lies: the first record has k alone, behind its
--- header of four bytes; for a kind outside 1 to 5 it is 0
+-- of the values of a reading, where the body of the record of a kind lies; for a kind outside 1 to 5 it is 0
 unfoldable pub placeIn : ℕ → List ℕ → ℕ
-placeIn kind [] = 0
-placeIn kind (k ∷ ns) =
-    cond (eqb kind 1) (4 * 65536 + 1)
-    (cond (eqb kind 2) (placeAt ns 0)
-    (cond (eqb kind 3) (placeAt ns 2)
-    (cond (eqb kind 4) (placeAt ns 4)
-    (cond (eqb kind 5) (placeAt ns 6) 0))))
+placeIn kind ns =
+    cond (eqb kind 1) (placeAt ns 0)
+    (cond (eqb kind 2) (placeAt ns 2)
+    (cond (eqb kind 3) (placeAt ns 4)
+    (cond (eqb kind 4) (placeAt ns 6)
+    (cond (eqb kind 5) (placeAt ns 8) 0))))
 
 -- lines of the sheet: the number, the lines and the bytes
 unfoldable pub linesTold : Answer → LinesAnswer

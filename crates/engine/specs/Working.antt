@@ -11,6 +11,7 @@ placesOf p = readAnswer (Casebook p) .values
 
 -- records that lie in a sound casebook
 pub record Placed (p : Parts) : Type 0 where
+  pub labels : p .labels .start + p .labels .len ≤ 3825
   pub left : p .left .start + p .left .len ≤ 3825
   pub right : p .right .start + p .right .len ≤ 3825
   pub run : p .run .start + p .run .len ≤ 3825

@@ -75,7 +75,7 @@ fn place_in(parts: Parts, kind: u8) -> u64
     ensures { λ r. ⌜ r ≡ placeIn kind (placesOf parts) ⌝ }
 {
     if kind == 1 {
-        return 262145;
+        return place(parts.labels);
     }
     if kind == 2 {
         return place(parts.left);

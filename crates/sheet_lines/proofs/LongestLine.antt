@@ -82,5 +82,5 @@ sheet-line-short s line h = go (readOf s) refl h
   where
     go : (r : Reading) → readOf s ≡ r → line ∈ readLines s r → length line ≤ 16399
     go (reading.Casebook c) e m =
-        parts-short (c .pairs) _ _ _ _ (read-asked s 0 0 c e _ _ _ _ refl refl refl refl) line m
+        parts-short _ _ _ _ _ (read-asked s 0 0 c e _ _ _ _ _ refl refl refl refl refl) line m
     go (reading.Refused x) e m = refused-lines-short x line m

@@ -7,10 +7,11 @@ use lib.ListN.{length, take, drop}
 use Rattle.hml.specs.System.{steps}
 use Rattle.hml.specs.Labels.{positive}
 use Rattle.labels.specs.Refusals.{firstOf}
+use Rattle.labels.specs.declared.label.Labels.{Labels}
 use Rattle.labels.specs.declared.refusal.Refusal.{Refusal}
 use Rattle.labels.specs.declared.refusal.Check.the-variants.{Sound}
 use Rattle.machines.specs.Joints.{jointOf}
-use Rattle.casebook.specs.Records.{bodyOf}
+use Rattle.casebook.specs.Records.{bodyOf, labelsOf}
 use Rattle.casebook.specs.Reading.{readOf}
 use Rattle.casebook.specs.declared.read.Parts.{Parts}
 use Rattle.casebook.specs.declared.read.Reading.the-variants as reading
@@ -86,22 +87,24 @@ refused-count k l r s f x e = rw e
 
 -- any bytes: a casebook that was read, or a refusal
 module _ (s : List ℕ) (first most : ℕ) where
-  module _ (p : Parts) (told : readOf s ≡ reading.Casebook p) (l r j q : List ℕ) (a : l ≡ bodyOf s (p .left))
-      (b : r ≡ bodyOf s (p .right)) (c : j ≡ bodyOf s (p .run)) (d : q ≡ bodyOf s (p .question)) where
-    pub read-asked : Asked (p .pairs) l r j q
+  module _ (p : Parts) (told : readOf s ≡ reading.Casebook p) (x : Labels) (l r j q : List ℕ)
+      (o : x ≡ labelsOf s (p .labels)) (a : l ≡ bodyOf s (p .left)) (b : r ≡ bodyOf s (p .right))
+      (c : j ≡ bodyOf s (p .run)) (d : q ≡ bodyOf s (p .question)) where
+    pub read-asked : Asked (x .pairs) l r j q
     unfolding checkLog firstOf
     read-asked =
         let parts = sound-parts _ _ _ _ _ (read-sound s p told) in
         rw (
+          o,
           a,
           b,
           c,
           d,
         ) (record { log = rw (parts .pairs, parts .left, parts .right, parts .run); question = parts .question })
 
-    pub read-due : linesDue s first most ≡ take most (drop first (partsLines (p .pairs) l r j q))
+    pub read-due : linesDue s first most ≡ take most (drop first (partsLines (x .pairs) l r j q))
     unfolding linesDue sheetOf readLines
-    read-due = rw (told, a, b, c, d)
+    read-due = rw (told, o, a, b, c, d)
 
   pub refused-due : (x : Refusal) → readOf s ≡ reading.Refused x
       → linesDue s first most ≡ take most (drop first (refusedLine x ∷ []))

@@ -24,6 +24,7 @@ use Rattle.machines.specs.Joints.{jointSteps, jointOf, isLeftAlone, isRightAlon
 use Rattle.machines.specs.Joints.{isReal, fitJoint, isJointRun, checkJoint}
 use Rattle.formulas.specs.Formulas.{wholeOf, formulaOf, isFormula, nestsFit, checkFormula}
 use Rattle.casebook.specs.Records.{fitTableLength, fitRunLength, fitQuestionLength, fitLength, nextAt, bodyOf}
+use Rattle.casebook.specs.Records.{labelsOf}
 use Rattle.casebook.specs.Reading.{readQuestion, readRun, readRight, readLeft, readOf}
 use Rattle.casebook.specs.declared.read.Reading.{Reading}
 use Rattle.casebook.specs.declared.read.Reading.the-variants as reading
@@ -140,7 +141,8 @@ due c = record { count = counted.Splittings (c .splittings); size = 2 * c .split
 
 -- the count of a casebook's splittings
 abbrev countIn : List ℕ → Reading → Counted
-countIn s (reading.Casebook c) = countOf (c .pairs) (bodyOf s (c .left)) (bodyOf s (c .right)) (bodyOf s (c .run))
+countIn s (reading.Casebook c) =
+    countOf (labelsOf s (c .labels) .pairs) (bodyOf s (c .left)) (bodyOf s (c .right)) (bodyOf s (c .run))
 countIn s (reading.Refused x) = counted.Refused x
 
 abbrev computed : Case → Answers
@@ -154,7 +156,7 @@ computed c =
 
 pub published : map computed cases ≡ map due cases
 unfolding cases readOf readLeft readRight readRun readQuestion nextAt fitLength fitTableLength fitRunLength
-    fitQuestionLength bodyOf
+    fitQuestionLength bodyOf labelsOf
     countOf checkCount checkLog splittingLimit splittingsOf firstOf checkTable fitTable fitStates checkRows checkRow
     inRange rowBelow aboveLast leaving count checkJoint fitJoint isJointRun isReal isLeftAlone isRightAlone isHandshake
     shakesTo isJointIdle hasMove among goOn jointSteps threes rowsOf tableOf machine only pairs partnerAmong partnerOf

@@ -38,7 +38,7 @@ unfolding sheetOf readLines
 sheet-short s = go (readOf s) refl
   where
     go : (r : Reading) → readOf s ≡ r → length (readLines s r) ≤ 13172535
-    go (reading.Casebook c) e = parts-short (c .pairs) _ _ _ _ (read-asked s 0 0 c e _ _ _ _ refl refl refl refl)
+    go (reading.Casebook c) e = parts-short _ _ _ _ _ (read-asked s 0 0 c e _ _ _ _ _ refl refl refl refl refl)
     go (reading.Refused x) e = omega arith
 
 -- all lines that are left are asked for

@@ -14,7 +14,7 @@ use Rattle.labels.specs.declared.refusal.Check.{Check}
 use Rattle.labels.specs.declared.refusal.Check.the-variants as check
 use Rattle.halves.specs.declared.side.Side.the-variants as side
 use Rattle.machines.specs.Joints.{jointOf}
-use Rattle.casebook.specs.Records.{bodyOf}
+use Rattle.casebook.specs.Records.{bodyOf, labelsOf}
 use Rattle.casebook.specs.Reading.{readOf}
 use Rattle.casebook.specs.declared.read.Reading.{Reading}
 use Rattle.casebook.specs.declared.read.Reading.the-variants as reading
@@ -100,7 +100,8 @@ partsLines k l r s f = countedLines (countOf k l r s) (linesOf k l r s f)
 
 unfoldable pub readLines : List ℕ → Reading → List (List ℕ)
 readLines s (reading.Casebook c) =
-    partsLines (c .pairs) (bodyOf s (c .left)) (bodyOf s (c .right)) (bodyOf s (c .run)) (bodyOf s (c .question))
+    partsLines (labelsOf s (c .labels) .pairs) (bodyOf s (c .left)) (bodyOf s (c .right)) (bodyOf s (c .run))
+    (bodyOf s (c .question))
 readLines s (reading.Refused x) = refusedLine x ∷ []
 
 -- the sheet of any bytes

@@ -66,8 +66,9 @@ pub(crate) fn fit_lines(casebook: &[u8], first: usize, most: usize, out: &mut [u
             let right = parts.right;
             let run = parts.run;
             let question = parts.question;
+            let labels = parts.labels(casebook);
             fit_parts(
-                parts.pairs,
+                labels.pairs,
                 left.body(casebook),
                 right.body(casebook),
                 run.body(casebook),

@@ -3,7 +3,7 @@ use native.Mathlib.Omega.{arith}
 use mathlib.Core.Path.{refl}
 use Rattle.casebook.specs.Reading.{readAnswer}
 use Rattle.engine.specs.Answers.{placeIn}
-use Rattle.engine.proofs.Answers.{placed, gives, refuses}
+use Rattle.engine.proofs.Answers.{placed, no-places, gives, refuses}
 use borrow.Author.Needs.{needs}
 use Rattle.engine.proofs.yenuslap_casebook_part.Statement.{statement}
 use Rattle.engine.proofs.yenuslap_casebook_part.Tie as tie
@@ -32,11 +32,11 @@ returns c =
     gives readAnswer e (c .before .before .parts .given .1) (placeIn _) _ refl (c .place-in .ensures)
 
 returns-2 : tie.Need-returns-2
-unfolding readAnswer placeIn
+unfolding readAnswer
 returns-2 c =
     let x = c .before .before .refusal .given in
     let e = c .before .before .before .before .read .ensures in
-    refuses readAnswer e (x .1) (placeIn _) (x .0 .0) refl refl (c .refused .ensures)
+    refuses readAnswer e (x .1) (placeIn _) (x .0 .0) (no-places _) refl (c .refused .ensures)
 
 pub yenuslap-casebook-part-spec : {M : Type 1} → statement M
 yenuslap-casebook-part-spec =

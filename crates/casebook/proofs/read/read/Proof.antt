@@ -1,7 +1,6 @@
 -- The first record decides, then k, then what follows.
-use native.Mathlib.Omega.{arith}
 use mathlib.Core.Path.{sym, _∙_}
-use Rattle.casebook.proofs.Reading.{found-within, pairs-sound, pairs-refused, first-refused}
+use Rattle.casebook.proofs.Reading.{pairs-seen, pairs-sound, pairs-refused, first-refused}
 use borrow.Author.Needs.{needs}
 use Rattle.casebook.proofs.read.read.Statement.{statement}
 use Rattle.casebook.proofs.read.read.Tie as tie
@@ -9,16 +8,11 @@ use Rattle.casebook.proofs.read.read.Tie as tie
 next-requires : tie.Need-next-requires
 next-requires c κs = search needs
 
-enum-known-record : tie.Need-enum-known-record
-enum-known-record c = search needs
+enum-known-first : tie.Need-enum-known-first
+enum-known-first c = search needs
 
-shared-slice-read-k : tie.Need-shared-slice-read-k
-shared-slice-read-k c =
-    omega (
-      arith,
-      found-within _ _ _ _ _
-          (sym (c .before .before .«record» .given .1) ∙ c .before .before .before .before .next .ensures),
-    )
+labels-requires : tie.Need-labels-requires
+labels-requires c κs = search needs
 
 check-pairs-requires : tie.Need-check-pairs-requires
 check-pairs-requires c κs = search needs
@@ -38,16 +32,18 @@ enum-known-refusal-2 c = search needs
 returns : tie.Need-returns
 returns c =
     pairs-sound _ _ _
-    (sym (c .before .before .before .before .before .before .«record» .given .1)
+    (sym (c .before .before .before .before .before .before .first .given .1)
     ∙ c .before .before .before .before .before .before .before .before .next .ensures)
-    (sym (c .before .before .before .check-pairs .ensures) ∙ c .before .enum-told .given .1) (c .read-left .ensures)
+    (pairs-seen (c .before .before .before .before .labels .ensures) (c .before .before .before .check-pairs .ensures)
+    (c .before .enum-told .given .1)) (c .read-left .ensures)
 
 returns-2 : tie.Need-returns-2
 returns-2 c =
     pairs-refused _ _ _
-    (sym (c .before .before .before .before .before .before .«record» .given .1)
+    (sym (c .before .before .before .before .before .before .first .given .1)
     ∙ c .before .before .before .before .before .before .before .before .next .ensures) _
-    (sym (c .before .before .before .check-pairs .ensures) ∙ c .before .refusal .given .1)
+    (pairs-seen (c .before .before .before .before .labels .ensures) (c .before .before .before .check-pairs .ensures)
+    (c .before .refusal .given .1))
 
 returns-3 : tie.Need-returns-3
 returns-3 c = first-refused _ _ (sym (c .before .refusal2 .given .1) ∙ c .before .before .before .next .ensures)
@@ -57,8 +53,8 @@ read-spec =
     tie.close
     (tie.spec
     next-requires
-    enum-known-record
-    shared-slice-read-k
+    enum-known-first
+    labels-requires
     check-pairs-requires
     enum-told
     read-left-requires

@@ -12,6 +12,9 @@ next-requires c κs = search needs
 enum-known-left : tie.Need-enum-known-left
 enum-known-left c = search needs
 
+labels-requires : tie.Need-labels-requires
+labels-requires c κs = search needs
+
 body-requires : tie.Need-body-requires
 body-requires c κs = search needs
 
@@ -23,7 +26,7 @@ enum-told c = search needs
 
 read-right-requires : tie.Need-read-right-requires
 read-right-requires c κs =
-    seen (checkTable _) (c .before .before .before .body .ensures) (c .before .before .check-table .ensures)
+    seen (λ x. checkTable (x .pairs)) (c .before .before .before .before .labels .ensures) (c .before .before .before .body .ensures) (c .before .before .check-table .ensures)
     (c .enum-told .given .1)
 
 enum-known-refusal : tie.Need-enum-known-refusal
@@ -36,16 +39,16 @@ returns : tie.Need-returns
 returns c =
     let c1 = c .before .before .before in
     left-sound _ _ _ _ _
-    (sym (c1 .before .before .before .left .given .1) ∙ c1 .before .before .before .before .before .next .ensures)
-    (seen (checkTable _) (c1 .before .body .ensures) (c1 .check-table .ensures) (c .before .enum-told .given .1))
+    (sym (c1 .before .before .before .before .left .given .1) ∙ c1 .before .before .before .before .before .before .next .ensures)
+    (seen (λ x. checkTable (x .pairs)) (c1 .before .before .labels .ensures) (c1 .before .body .ensures) (c1 .check-table .ensures) (c .before .enum-told .given .1))
     (c .read-right .ensures)
 
 returns-2 : tie.Need-returns-2
 returns-2 c =
     let c1 = c .before .before .before in
     left-refused _ _ _ _ _
-    (sym (c1 .before .before .before .left .given .1) ∙ c1 .before .before .before .before .before .next .ensures) _
-    (seen (checkTable _) (c1 .before .body .ensures) (c1 .check-table .ensures) (c .before .refusal .given .1))
+    (sym (c1 .before .before .before .before .left .given .1) ∙ c1 .before .before .before .before .before .before .next .ensures) _
+    (seen (λ x. checkTable (x .pairs)) (c1 .before .before .labels .ensures) (c1 .before .body .ensures) (c1 .check-table .ensures) (c .before .refusal .given .1))
 
 returns-3 : tie.Need-returns-3
 returns-3 c = no-left _ _ _ _ (sym (c .before .refusal2 .given .1) ∙ c .before .before .before .next .ensures)
@@ -56,6 +59,7 @@ read-left-spec =
     (tie.spec
     next-requires
     enum-known-left
+    labels-requires
     body-requires
     check-table-requires
     enum-told

@@ -11,6 +11,9 @@ next-requires c κs = search needs
 enum-known-run : tie.Need-enum-known-run
 enum-known-run c = search needs
 
+labels-requires : tie.Need-labels-requires
+labels-requires c κs = search needs
+
 body-requires : tie.Need-body-requires
 body-requires c κs = search needs
 
@@ -39,10 +42,10 @@ returns : tie.Need-returns
 returns c =
     let c1 = c .before .before .before in
     let c2 = c1 .before .before in
-    let c3 = c2 .before .before .before in
+    let c3 = c2 .before .before .before .before in
     let s = c3 .before .before .before .before in
     run-sound _ _ _ _ _ _ _ (sym (c3 .run .given .1) ∙ c3 .before .before .next .ensures)
-    (run-seen _ _ _ _ _ (s .pre .0) (s .pre .1) (c2 .before .body .ensures) (c2 .body2 .ensures)
+    (run-seen _ _ _ _ _ (s .pre .0) (s .pre .1) (c2 .before .before .labels .ensures) (c2 .before .body .ensures) (c2 .body2 .ensures)
     (c1 .before .body3 .ensures) (c1 .check-joint .ensures) (c .before .enum-told .given .1))
     (c .read-question .ensures)
 
@@ -50,10 +53,10 @@ returns-2 : tie.Need-returns-2
 returns-2 c =
     let c1 = c .before .before .before in
     let c2 = c1 .before .before in
-    let c3 = c2 .before .before .before in
+    let c3 = c2 .before .before .before .before in
     let s = c3 .before .before .before .before in
     run-refused _ _ _ _ _ _ _ (sym (c3 .run .given .1) ∙ c3 .before .before .next .ensures) _
-    (run-seen _ _ _ _ _ (s .pre .0) (s .pre .1) (c2 .before .body .ensures) (c2 .body2 .ensures)
+    (run-seen _ _ _ _ _ (s .pre .0) (s .pre .1) (c2 .before .before .labels .ensures) (c2 .before .body .ensures) (c2 .body2 .ensures)
     (c1 .before .body3 .ensures) (c1 .check-joint .ensures) (c .before .refusal .given .1))
 
 returns-3 : tie.Need-returns-3
@@ -65,6 +68,7 @@ read-run-spec =
     (tie.spec
     next-requires
     enum-known-run
+    labels-requires
     body-requires
     body-requires-2
     body-requires-3

@@ -12,6 +12,9 @@ read-requires c κs = search needs
 enum-known-parts : tie.Need-enum-known-parts
 enum-known-parts c = search needs
 
+labels-requires : tie.Need-labels-requires
+labels-requires c κs = search needs
+
 body-requires : tie.Need-body-requires
 body-requires c κs = search needs
 
@@ -27,9 +30,9 @@ body-requires-4 c κs = search needs
 fit-parts-requires : tie.Need-fit-parts-requires
 fit-parts-requires c κs =
     let c1 = c .before .before .before in
-    let c2 = c1 .before .before .before .before .before .before .before in
-    read-asked _ 0 0 _ (sym (c2 .before .before .read .ensures) ∙ c2 .parts .given .1) _ _ _ _
-    (c1 .before .body .ensures) (c1 .body2 .ensures) (c .before .before .body3 .ensures) (c .before .body4 .ensures)
+    let c2 = c1 .before .before .before .before .before .before .before .before in
+    read-asked _ 0 0 _ (sym (c2 .before .before .read .ensures) ∙ c2 .parts .given .1) _ _ _ _ _
+    (c1 .before .before .labels .ensures) (c1 .before .body .ensures) (c1 .body2 .ensures) (c .before .before .body3 .ensures) (c .before .body4 .ensures)
 
 enum-known-refusal : tie.Need-enum-known-refusal
 enum-known-refusal c = search needs
@@ -45,10 +48,10 @@ returns c =
     let c1 = c .before .before in
     let c2 = c1 .before .before in
     let c3 = c2 .before .before in
-    let c4 = c3 .before .before .before .before .before .before .before in
+    let c4 = c3 .before .before .before .before .before .before .before .before in
     let s = c4 .before .before .before .before .before in
     let e = read-due _ (s .args .first) (s .args .most) _
-    (sym (c4 .before .before .read .ensures) ∙ c4 .parts .given .1) _ _ _ _ (c3 .before .body .ensures)
+    (sym (c4 .before .before .read .ensures) ∙ c4 .parts .given .1) _ _ _ _ _ (c3 .before .before .labels .ensures) (c3 .before .body .ensures)
     (c3 .body2 .ensures) (c2 .before .body3 .ensures) (c2 .body4 .ensures) in (
       c1 .fit-parts .ensures .0 ∙ ap (λ d. fittedOf d (length (s .args .out .now))) (sym e),
       c1 .fit-parts .ensures .1 ∙ ap (λ d. fittedOutput d (s .args .out .now)) (sym e),
@@ -73,6 +76,7 @@ fit-lines-spec =
     (tie.spec
     read-requires
     enum-known-parts
+    labels-requires
     body-requires
     body-requires-2
     body-requires-3
