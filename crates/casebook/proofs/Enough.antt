@@ -12,11 +12,12 @@ use lib.Seq.{length-take-le, take-all, take-take, getD-take}
 use lib.Dec.{eqb, leb, ltb}
 use borrow.Author.Tests.{lt-ltb, le-ltb, ltb-true, ltb-false, leb-true, eqb-true}
 use Rattle.hml.proofs.Tests.{both-true}
-use Rattle.labels.specs.Labels.{checkPairs}
+use Rattle.labels.specs.Labels.{checkLabels}
 use Rattle.labels.specs.declared.refusal.Refusal.{Refusal}
 use Rattle.labels.specs.declared.refusal.Refusal.the-variants.{BytesAfter, Truncated, WrongKind, WrongLength}
 use Rattle.labels.specs.declared.refusal.Check.{Check}
 use Rattle.labels.specs.declared.refusal.Check.the-variants as check
+use Rattle.labels.specs.declared.label.Labels.{Labels}
 use Rattle.tables.specs.Tables.{checkTable}
 use Rattle.machines.specs.Joints.{checkJoint}
 use Rattle.formulas.specs.Formulas.{questionLimit, checkFormula}
@@ -158,7 +159,7 @@ module _ (n : ℕ) (s : List ℕ) (long : n ≤ length s) where
         lt-ltb (c .at) n (omega (arith, room, d .near)),
         lt-ltb (c .at) (length s) (omega (arith, room, long, d .near)),
       )
-      (sound-alike (checkFormula (labelsOf s h .pairs) questionLimit (bodyOf s q)) (BytesAfter, refl, refl)))
+      (sound-alike (checkFormula (labelsOf s h) questionLimit (bodyOf s q)) (BytesAfter, refl, refl)))
 
   -- so it is from the run record on, if it and the question have room and leave a byte
   run-alike : (h l r : Record) (at : ℕ) → h .start < n → l .start + l .len ≤ n → r .start + r .len ≤ n
@@ -167,7 +168,7 @@ module _ (n : ℕ) (s : List ℕ) (long : n ≤ length s) where
   unfolding readRun
   run-alike h l r at f a b room = after-alike at 4 604 longest-run (omega arith) (omega arith) _ _ (λ j c d.
       rw (labels-early h f, body-early l a, body-early r b, body-early j (omega (arith, room, d .whole, d .near)))
-      (sound-alike (checkJoint (labelsOf s h .pairs) (bodyOf s l) (bodyOf s r) (bodyOf s j))
+      (sound-alike (checkJoint (labelsOf s h) (bodyOf s l) (bodyOf s r) (bodyOf s j))
       (question-alike h l r j (c .at) f (omega (arith, room, d .near)))))
 
   -- from the right table's record on, if the last three have room and leave a byte
@@ -177,7 +178,7 @@ module _ (n : ℕ) (s : List ℕ) (long : n ≤ length s) where
   right-alike h l at f a room = after-alike at 3 1539 longest-right (omega arith) (omega arith) _ _ (λ r c d.
       let b : r .start + r .len ≤ n = omega (arith, room, d .whole, d .near) in
       rw (labels-early h f, body-early r b)
-      (sound-alike (checkTable (labelsOf s h .pairs) (bodyOf s r))
+      (sound-alike (checkTable (labelsOf s h) (bodyOf s r))
       (run-alike h l r (c .at) f a b (omega (arith, room, d .near)))))
 
   -- and from the left table's record on, if the last four have room and leave a byte
@@ -187,7 +188,7 @@ module _ (n : ℕ) (s : List ℕ) (long : n ≤ length s) where
   left-alike h at f room = after-alike at 2 1539 longest-left (omega arith) (omega arith) _ _ (λ l c d.
       let a : l .start + l .len ≤ n = omega (arith, room, d .whole, d .near) in
       rw (labels-early h f, body-early l a)
-      (sound-alike (checkTable (labelsOf s h .pairs) (bodyOf s l))
+      (sound-alike (checkTable (labelsOf s h) (bodyOf s l))
       (right-alike h l (c .at) f a (omega (arith, room, d .near)))))
 
   -- more bytes than five records can have are refused, for what their front is refused for
@@ -196,7 +197,7 @@ module _ (n : ℕ) (s : List ℕ) (long : n ≤ length s) where
   all-alike room = after-alike 0 1 3 longest-header (omega arith) (omega arith) _ _ (λ h c d.
       let f : h .start < n = omega (arith, room, d .some, d .near) in
       rw (labels-early h f)
-      (sound-alike (checkPairs (labelsOf s h .pairs)) (left-alike h (c .at) f (omega (arith, room, d .near)))))
+      (sound-alike (checkLabels (labelsOf s h)) (left-alike h (c .at) f (omega (arith, room, d .near)))))
 
 -- bytes are at most 3,826, or they are refused for what their first 3,826 are refused for
 pub judged-by-front : (s : List ℕ) → (take 3826 s ≡ s) ⊎ Alike (readOf (take 3826 s)) (readOf s)

@@ -9,7 +9,7 @@ use lib.ListN.{length}
 use borrow.Author.Tests.{lt-ltb, le-ltb, ltb-false}
 use Rattle.hml.proofs.Tests.{apart}
 use Rattle.labels.specs.Refusals.{firstOf}
-use Rattle.labels.specs.Labels.{checkPairs}
+use Rattle.labels.specs.Labels.{checkLabels}
 use Rattle.labels.specs.declared.label.Labels.{Labels}
 use Rattle.labels.specs.declared.refusal.Refusal.{Refusal}
 use Rattle.labels.specs.declared.refusal.Refusal.the-variants.{BytesAfter, Truncated, WrongKind, WrongLength}
@@ -60,20 +60,20 @@ pub seen : (f : Labels → List ℕ → Check) {x x′ : Labels} {b b′ : List 
 seen f o p q h = rw (← o, ← p, ← q) h
 
 -- what the check of k said, as the code has the labels
-pub pairs-seen : {x x′ : Labels} {y z : Check} → x ≡ x′ → y ≡ checkPairs (x .pairs) → y ≡ z → checkPairs (x′ .pairs) ≡ z
-pairs-seen o q h = rw (← o, ← q) h
+pub labels-seen : {x x′ : Labels} {y z : Check} → x ≡ x′ → y ≡ checkLabels x → y ≡ z → checkLabels x′ ≡ z
+labels-seen o q h = rw (← o, ← q) h
 
 module _ (s : List ℕ) where
   module _ (h : Record) (c : Cursor) (e : next.Found h c ≡ nextAt s 0 1) where
-    pub pairs-sound : checkPairs (labelsOf s h .pairs) ≡ check.Sound → {x : Reading}
+    pub labels-sound : checkLabels (labelsOf s h) ≡ check.Sound → {x : Reading}
         → x ≡ readLeft s h (c .at) → x ≡ readOf s
     unfolding readOf
-    pairs-sound f g = rw (← e, f) g
+    labels-sound f g = rw (← e, f) g
 
-    pub pairs-refused : (y : Refusal) → checkPairs (labelsOf s h .pairs) ≡ check.Refused y
+    pub labels-refused : (y : Refusal) → checkLabels (labelsOf s h) ≡ check.Refused y
         → reading.Refused y ≡ readOf s
     unfolding readOf
-    pairs-refused y f = rw (← e, f)
+    labels-refused y f = rw (← e, f)
 
   pub first-refused : (y : Refusal) → next.Refused y ≡ nextAt s 0 1 → reading.Refused y ≡ readOf s
   unfolding readOf
@@ -81,12 +81,13 @@ module _ (s : List ℕ) where
 
   module _ (h : Record) (at : ℕ) where
     module _ (l : Record) (c : Cursor) (e : next.Found l c ≡ nextAt s at 2) where
-      pub left-sound : checkTable (labelsOf s h .pairs) (bodyOf s l) ≡ check.Sound → {x : Reading} → x ≡ readRight s h l (c .at)
+      pub left-sound : checkTable (labelsOf s h) (bodyOf s l) ≡ check.Sound → {x : Reading}
+          → x ≡ readRight s h l (c .at)
           → x ≡ readLeft s h at
       unfolding readLeft
       left-sound f g = rw (← e, f) g
 
-      pub left-refused : (y : Refusal) → checkTable (labelsOf s h .pairs) (bodyOf s l) ≡ check.Refused y
+      pub left-refused : (y : Refusal) → checkTable (labelsOf s h) (bodyOf s l) ≡ check.Refused y
           → reading.Refused y ≡ readLeft s h at
       unfolding readLeft
       left-refused y f = rw (← e, f)
@@ -97,12 +98,13 @@ module _ (s : List ℕ) where
 
     module _ (l : Record) where
       module _ (r : Record) (c : Cursor) (e : next.Found r c ≡ nextAt s at 3) where
-        pub right-sound : checkTable (labelsOf s h .pairs) (bodyOf s r) ≡ check.Sound → {x : Reading} → x ≡ readRun s h l r (c .at)
+        pub right-sound : checkTable (labelsOf s h) (bodyOf s r) ≡ check.Sound → {x : Reading}
+            → x ≡ readRun s h l r (c .at)
             → x ≡ readRight s h l at
         unfolding readRight
         right-sound f g = rw (← e, f) g
 
-        pub right-refused : (y : Refusal) → checkTable (labelsOf s h .pairs) (bodyOf s r) ≡ check.Refused y
+        pub right-refused : (y : Refusal) → checkTable (labelsOf s h) (bodyOf s r) ≡ check.Refused y
             → reading.Refused y ≡ readRight s h l at
         unfolding readRight
         right-refused y f = rw (← e, f)
@@ -113,12 +115,13 @@ module _ (s : List ℕ) where
 
       module _ (r : Record) where
         module _ (j : Record) (c : Cursor) (e : next.Found j c ≡ nextAt s at 4) where
-          pub run-sound : checkJoint (labelsOf s h .pairs) (bodyOf s l) (bodyOf s r) (bodyOf s j) ≡ check.Sound → {x : Reading}
+          pub run-sound : checkJoint (labelsOf s h) (bodyOf s l) (bodyOf s r) (bodyOf s j) ≡ check.Sound → {x : Reading}
               → x ≡ readQuestion s h l r j (c .at) → x ≡ readRun s h l r at
           unfolding readRun
           run-sound f g = rw (← e, f) g
 
-          pub run-refused : (y : Refusal) → checkJoint (labelsOf s h .pairs) (bodyOf s l) (bodyOf s r) (bodyOf s j) ≡ check.Refused y
+          pub run-refused : (y : Refusal) → checkJoint (labelsOf s h) (bodyOf s l) (bodyOf s r) (bodyOf s j)
+              ≡ check.Refused y
               → reading.Refused y ≡ readRun s h l r at
           unfolding readRun
           run-refused y f = rw (← e, f)
@@ -129,12 +132,13 @@ module _ (s : List ℕ) where
 
         module _ (j : Record) where
           module _ (q : Record) (c : Cursor) (e : next.Found q c ≡ nextAt s at 5) where
-            pub question-refused : (y : Refusal) → checkFormula (labelsOf s h .pairs) questionLimit (bodyOf s q) ≡ check.Refused y
+            pub question-refused : (y : Refusal) → checkFormula (labelsOf s h) questionLimit (bodyOf s q)
+                ≡ check.Refused y
                 → reading.Refused y ≡ readQuestion s h l r j at
             unfolding readQuestion
             question-refused y f = rw (← e, f)
 
-            module _ (f : checkFormula (labelsOf s h .pairs) questionLimit (bodyOf s q) ≡ check.Sound) where
+            module _ (f : checkFormula (labelsOf s h) questionLimit (bodyOf s q) ≡ check.Sound) where
               pub bytes-after : c .at < length s → reading.Refused BytesAfter ≡ readQuestion s h l r j at
               unfolding readQuestion
               bytes-after more = rw (← e, f, lt-ltb (c .at) (length s) more)
@@ -151,16 +155,16 @@ module _ (s : List ℕ) where
           no-question y e = rw (← e)
 
 -- beside sound tables, the check of tables and run is that of the run
-pub run-alone : (k : ℕ) (l r j : List ℕ) → checkTable k l ≡ check.Sound → checkTable k r ≡ check.Sound
+pub run-alone : (k : Labels) (l r j : List ℕ) → checkTable k l ≡ check.Sound → checkTable k r ≡ check.Sound
     → checkTablesAndJoint k l r j ≡ checkJoint k l r j
 unfolding checkTablesAndJoint firstOf
 run-alone k l r j a b = rw (a, b) (then-sound (checkJoint k l r j))
 
-pub run-seen : (s : List ℕ) (h l r j : Record) → checkTable (labelsOf s h .pairs) (bodyOf s l) ≡ check.Sound
-    → checkTable (labelsOf s h .pairs) (bodyOf s r) ≡ check.Sound
+pub run-seen : (s : List ℕ) (h l r j : Record) → checkTable (labelsOf s h) (bodyOf s l) ≡ check.Sound
+    → checkTable (labelsOf s h) (bodyOf s r) ≡ check.Sound
     → {x : Labels} {a b d : List ℕ} {y z : Check} → x ≡ labelsOf s h → a ≡ bodyOf s l → b ≡ bodyOf s r
     → d ≡ bodyOf s j
-    → y ≡ checkTablesAndJoint (x .pairs) a b d → y ≡ z
-    → checkJoint (labelsOf s h .pairs) (bodyOf s l) (bodyOf s r) (bodyOf s j) ≡ z
+    → y ≡ checkTablesAndJoint x a b d → y ≡ z
+    → checkJoint (labelsOf s h) (bodyOf s l) (bodyOf s r) (bodyOf s j) ≡ z
 run-seen s h l r j f g o p q w e i =
-    sym (run-alone (labelsOf s h .pairs) (bodyOf s l) (bodyOf s r) (bodyOf s j) f g) ∙ rw (← o, ← p, ← q, ← w, ← e) i
+    sym (run-alone (labelsOf s h) (bodyOf s l) (bodyOf s r) (bodyOf s j) f g) ∙ rw (← o, ← p, ← q, ← w, ← e) i

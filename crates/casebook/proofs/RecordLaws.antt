@@ -16,6 +16,7 @@ use Rattle.labels.specs.Refusals.{firstOf}
 use Rattle.labels.specs.declared.refusal.Check.the-variants.{Sound}
 use Rattle.labels.specs.declared.refusal.Refusal.the-variants.{Truncated, WrongKind, WrongLength}
 use Rattle.labels.proofs.Refusals.{judges, judged-unless, both-sound}
+use Rattle.labels.specs.declared.label.Labels.{Labels}
 use Rattle.tables.specs.Tables.{checkTable}
 use Rattle.tables.proofs.SoundTables.{sound-table}
 use Rattle.machines.specs.Joints.{fitJoint, checkJoint}
@@ -245,7 +246,7 @@ single (x ∷ []) e = refl
 single (x ∷ y ∷ l) e = absurd (omega (arith, e))
 
 -- the record of a sound table has a length that fits, on either side
-pub table-fits : (k : ℕ) (t : List ℕ) → checkTable k t ≡ Sound
+pub table-fits : (k : Labels) (t : List ℕ) → checkTable k t ≡ Sound
     → (fitLength 2 (2 + length t) ≡ true) × (fitLength 3 (2 + length t) ≡ true) × (length t ≤ 1537)
 unfolding fitLength fitTableLength
 table-fits k t e =
@@ -255,7 +256,7 @@ table-fits k t e =
     (g, g, f .1)
 
 -- so has the record of a sound joint run
-pub joint-fits : (k : ℕ) (l r j : List ℕ) → checkJoint k l r j ≡ Sound
+pub joint-fits : (k : Labels) (l r j : List ℕ) → checkJoint k l r j ≡ Sound
     → (fitLength 4 (2 + length j) ≡ true) × (length j ≤ 602)
 unfolding fitLength fitRunLength checkJoint firstOf fitJoint
 joint-fits k l r j e =
@@ -264,7 +265,7 @@ joint-fits k l r j e =
     (decides (decided-length 3 1 4 604 (2 + length j)) .1 (omega (arith, c), omega (arith, c), omega (arith, c)), c .1)
 
 -- and that of a sound question
-pub question-fits : (k : ℕ) (q : List ℕ) → checkFormula k 64 q ≡ Sound
+pub question-fits : (k : Labels) (q : List ℕ) → checkFormula k 64 q ≡ Sound
     → (fitLength 5 (2 + length q) ≡ true) × (length q ≤ 128)
 unfolding fitLength fitQuestionLength Legal
 question-fits k q e =

@@ -9,7 +9,7 @@ use lib.Seq.{take-all, take-nil, getD-drop}
 use lib.Dec.{eqb, leb}
 use borrow.Author.Tests.{eq-eqb, ne-eqb, lt-ltb, le-ltb, le-leb, lt-leb, leb-true, eqb-true}
 use Rattle.hml.proofs.Tests.{both-true, apart}
-use Rattle.labels.specs.declared.label.Labels.{Labels}
+use Rattle.labels.specs.Labels.{ofPairs}
 use Rattle.labels.specs.declared.refusal.Refusal.the-variants.{Truncated, WrongKind, WrongLength}
 use Rattle.casebook.specs.Records.{wordAt, fitTableLength, fitRunLength, fitQuestionLength, fitLength, nextAt}
 use Rattle.casebook.specs.Records.{bodyOf, labelsOf}
@@ -133,7 +133,7 @@ module _ (s : List ℕ) (r : Record) where
   body-whole n e = rw e
 
   -- past the bytes' end there is no k
-  pub labels-outside : length s ≤ r .start → _≡_ {A = Labels} (record { pairs = 0 }) (labelsOf s r)
+  pub labels-outside : length s ≤ r .start → ofPairs 0 ≡ labelsOf s r
   unfolding labelsOf
   labels-outside h =
       let z : r .start + 0 ≡ r .start = omega arith in

@@ -11,6 +11,7 @@ use Rattle.labels.specs.declared.refusal.Check.{Check}
 use Rattle.labels.specs.declared.refusal.Check.the-variants as check
 use Rattle.labels.specs.declared.refusal.Refusal.the-variants.{OutputTooShort}
 use Rattle.labels.proofs.Refusals.{both-sound}
+use Rattle.labels.specs.declared.label.Labels.{Labels}
 use Rattle.casebook.specs.Records.{bodyOf, labelsOf}
 use Rattle.casebook.specs.Reading.{readOf}
 use Rattle.casebook.specs.Writing.{casebookBytes, checkParts, checkWrite, answered, writeOf, writtenOf}
@@ -25,12 +26,12 @@ use Rattle.casebook.proofs.RoundTrip.{ReadsTo, read-sound, read-written
 module _ (s : List ℕ) (p : Parts) (out : List ℕ) where
   abbrev pub answerFor : Writing
   answerFor =
-      writeOf (labelsOf s (p .labels) .pairs) (bodyOf s (p .left)) (bodyOf s (p .right)) (bodyOf s (p .run))
+      writeOf (labelsOf s (p .labels)) (bodyOf s (p .left)) (bodyOf s (p .right)) (bodyOf s (p .run))
       (bodyOf s (p .question)) (length out)
 
   abbrev pub outputFor : List ℕ
   outputFor =
-      writtenOf (labelsOf s (p .labels) .pairs) (bodyOf s (p .left)) (bodyOf s (p .right)) (bodyOf s (p .run))
+      writtenOf (labelsOf s (p .labels)) (bodyOf s (p .left)) (bodyOf s (p .right)) (bodyOf s (p .run))
       (bodyOf s (p .question)) out
 
 -- A casebook that was read, written again from its parts. Into an output of its length or more go its own bytes, and
@@ -55,7 +56,7 @@ answered-whole (check.Refused x) m n e = absurd (apart cc)
 
 -- Parts that were written, any k and bytes whatever. The output's first bytes, as many as the answer says, read to a
 -- casebook with that k, and the bodies of its four records are those parts.
-pub returned-as-filed : (k : ℕ) (l r j q out : List ℕ) (n : ℕ) → writeOf k l r j q (length out) ≡ writing.Written n
+pub returned-as-filed : (k : Labels) (l r j q out : List ℕ) (n : ℕ) → writeOf k l r j q (length out) ≡ writing.Written n
     → ReadsTo (take n (writtenOf k l r j q out)) k l r j q
 unfolding writeOf writtenOf checkWrite firstOf inFront
 returned-as-filed k l r j q out n e =

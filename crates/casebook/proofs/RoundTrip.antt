@@ -10,16 +10,17 @@ use lib.Dec.{ltb}
 use borrow.Author.Tests.{le-ltb}
 use Rattle.hml.proofs.Tests.{apart, decided-lt}
 use Rattle.labels.specs.Refusals.{refusedIf, firstOf}
-use Rattle.labels.specs.Labels.{checkPairs}
+use Rattle.labels.specs.Labels.{ofPairs, checkLabels}
 use Rattle.labels.specs.declared.refusal.Check.{Check}
 use Rattle.labels.specs.declared.refusal.Check.the-variants as check
 use Rattle.labels.specs.declared.refusal.Check.the-variants.{Sound}
 use Rattle.labels.specs.declared.refusal.Refusal.the-variants.{BytesAfter}
 use Rattle.labels.proofs.Refusals.{judges, judged-fault, both-sound}
+use Rattle.labels.specs.declared.label.Labels.{Labels}
 use Rattle.tables.specs.Tables.{checkTable}
 use Rattle.machines.specs.Joints.{checkJoint}
 use Rattle.formulas.specs.Formulas.{questionLimit, checkFormula}
-use Rattle.casebook.specs.Records.{nextAt, bodyOf, labelsOf, recordBytes, fitLength}
+use Rattle.casebook.specs.Records.{nextAt, bodyOf, labelsOf, recordBytes, fitLength, labelsBytes}
 use Rattle.casebook.specs.Reading.{after, ifSound, readQuestion, readRun, readRight, readLeft, readOf}
 use Rattle.casebook.specs.Writing.{casebookBytes, checkParts}
 use Rattle.casebook.specs.declared.record.Cursor.{Cursor}
@@ -34,24 +35,24 @@ use Rattle.casebook.proofs.RecordLaws.{Bytes, placed, behind, next-reco
 use Rattle.casebook.proofs.RecordLaws.{header-fits, first-byte, single, table-fits, joint-fits, question-fits}
 
 -- parts of which each is sound by itself
-pub record SoundParts (k : ℕ) (l r j q : List ℕ) : Type 0 where
-  pub pairs : checkPairs k ≡ Sound
+pub record SoundParts (k : Labels) (l r j q : List ℕ) : Type 0 where
+  pub labels : checkLabels k ≡ Sound
   pub left : checkTable k l ≡ Sound
   pub right : checkTable k r ≡ Sound
   pub run : checkJoint k l r j ≡ Sound
   pub question : checkFormula k questionLimit q ≡ Sound
 
-module _ (k : ℕ) (l r j q : List ℕ) where
+module _ (k : Labels) (l r j q : List ℕ) where
   -- parts that are sound together are sound each
   pub sound-parts : checkParts k l r j q ≡ Sound → SoundParts k l r j q
   unfolding checkParts firstOf
   sound-parts e =
-      let (a, b) = both-sound (checkPairs k) _ e in
+      let (a, b) = both-sound (checkLabels k) _ e in
       let (c, d) = both-sound (checkTable k l) _ b in
       let (f, g) = both-sound (checkTable k r) _ d in
       let (h, i) = both-sound (checkJoint k l r j) _ g in
       record {
-        pairs = a;
+        labels = a;
         left = c;
         right = f;
         run = h;
@@ -61,7 +62,7 @@ module _ (k : ℕ) (l r j q : List ℕ) where
   -- parts that are sound each are sound together
   pub parts-sound : SoundParts k l r j q → checkParts k l r j q ≡ Sound
   unfolding checkParts firstOf
-  parts-sound s = rw (s .pairs, s .left, s .right, s .run, s .question)
+  parts-sound s = rw (s .labels, s .left, s .right, s .run, s .question)
 
   -- a casebook has 21 bytes beside its four parts
   pub casebook-length : length (casebookBytes k l r j q) ≡ 21 + length l + length r + length j + length q
@@ -103,9 +104,9 @@ nothing-behind : (at n : ℕ) → refusedIf (ltb at n) BytesAfter ≡ Sound → 
 nothing-behind at n e = omega (arith, judges (judged-fault BytesAfter (decided-lt at n)) .0 e)
 
 -- the labels' record shows k where its body is that byte alone
-pairs-shown : (s : List ℕ) (h : Record) (k : ℕ) → bodyOf s h ≡ k ∷ [] → labelsOf s h .pairs ≡ k
+labels-shown : (s : List ℕ) (h : Record) (k : Labels) → bodyOf s h ≡ labelsBytes k → labelsOf s h ≡ k
 unfolding labelsOf
-pairs-shown s h k e = sym (first-byte s h (omega (arith, ap length e))) ∙ ap (λ l. getD l 0 0) e
+labels-shown s h k e = ap ofPairs (sym (first-byte s h (omega (arith, ap length e))) ∙ ap (λ l. getD l 0 0) e)
 
 -- five records, each once, in this order, with sound contents, and nothing behind them
 record Chain (s : List ℕ) (p : Parts) : Type 0 where
@@ -119,7 +120,7 @@ record Chain (s : List ℕ) (p : Parts) : Type 0 where
   third : nextAt s (c2 .at) 3 ≡ next.Found (p .right) c3
   fourth : nextAt s (c3 .at) 4 ≡ next.Found (p .run) c4
   fifth : nextAt s (c4 .at) 5 ≡ next.Found (p .question) c5
-  sound : SoundParts (labelsOf s (p .labels) .pairs) (bodyOf s (p .left)) (bodyOf s (p .right)) (bodyOf s (p .run))
+  sound : SoundParts (labelsOf s (p .labels)) (bodyOf s (p .left)) (bodyOf s (p .right)) (bodyOf s (p .run))
       (bodyOf s (p .question))
   all : length s ≤ c5 .at
 
@@ -131,7 +132,7 @@ module _ (s : List ℕ) (p : Parts) where
       let a = w .sound in
       rw (
         w .first,
-        a .pairs,
+        a .labels,
         w .second,
         a .left,
         w .third,
@@ -147,9 +148,9 @@ module _ (s : List ℕ) (p : Parts) where
   read-chain : readOf s ≡ reading.Casebook p → Chain s p
   unfolding readOf readLeft readRight readRun readQuestion
   read-chain e =
-      record-read (nextAt s 0 1) (λ h. checkPairs (labelsOf s h .pairs)) (λ h c. readLeft s h (c .at)) e
+      record-read (nextAt s 0 1) (λ h. checkLabels (labelsOf s h)) (λ h c. readLeft s h (c .at)) e
       (λ h c1 n1 f1 e1.
-      let k = labelsOf s h .pairs in
+      let k = labelsOf s h in
       record-read (nextAt s (c1 .at) 2) (λ l. checkTable k (bodyOf s l)) (λ l c. readRight s h l (c .at)) e1
       (λ l c2 n2 f2 e2.
       record-read (nextAt s (c2 .at) 3) (λ r. checkTable k (bodyOf s r)) (λ r c. readRun s h l r (c .at)) e2
@@ -170,53 +171,53 @@ module _ (s : List ℕ) (p : Parts) where
         third = n3;
         fourth = n4;
         fifth = n5;
-        sound = record { pairs = f1; left = f2; right = f3; run = f4; question = f5 };
+        sound = record { labels = f1; left = f2; right = f3; run = f4; question = f5 };
         all = nothing-behind (c5 .at) (length s) a;
       })))))))
 
   -- the parts of a casebook that was read are sound
   pub read-sound : readOf s ≡ reading.Casebook p
-      → checkParts (labelsOf s (p .labels) .pairs) (bodyOf s (p .left)) (bodyOf s (p .right)) (bodyOf s (p .run))
+      → checkParts (labelsOf s (p .labels)) (bodyOf s (p .left)) (bodyOf s (p .right)) (bodyOf s (p .run))
       (bodyOf s (p .question))
       ≡ Sound
   read-sound e = parts-sound _ _ _ _ _ (read-chain e .sound)
 
 -- bytes that read to a casebook of these parts: the k that it shows, and the bodies of its four other records, are
 -- theirs
-pub record ReadsTo (s : List ℕ) (k : ℕ) (l r j q : List ℕ) : Type 0 where
+pub record ReadsTo (s : List ℕ) (k : Labels) (l r j q : List ℕ) : Type 0 where
   pub parts : Parts
   pub read : readOf s ≡ reading.Casebook parts
-  pub pairs : labelsOf s (parts .labels) .pairs ≡ k
+  pub labels : labelsOf s (parts .labels) ≡ k
   pub left : bodyOf s (parts .left) ≡ l
   pub right : bodyOf s (parts .right) ≡ r
   pub run : bodyOf s (parts .run) ≡ j
   pub question : bodyOf s (parts .question) ≡ q
 
 -- reading a casebook that was written gives its parts
-pub read-written : (k : ℕ) (l r j q : List ℕ) → checkParts k l r j q ≡ Sound
+pub read-written : (k : Labels) (l r j q : List ℕ) → checkParts k l r j q ≡ Sound
     → ReadsTo (casebookBytes k l r j q) k l r j q
 unfolding casebookBytes fitLength
 read-written k l r j q e =
     let s = casebookBytes k l r j q in
     let w = sound-parts k l r j q e in
-    let c1 = behind 0 (k ∷ []) in
+    let c1 = behind 0 (labelsBytes k) in
     let c2 = behind (c1 .at) l in
     let c3 = behind (c2 .at) r in
     let c4 = behind (c3 .at) j in
     let p : Parts = record {
-      labels = placed 1 0 (k ∷ []);
+      labels = placed 1 0 (labelsBytes k);
       left = placed 2 (c1 .at) l;
       right = placed 3 (c2 .at) r;
       run = placed 4 (c3 .at) j;
       question = placed 5 (c4 .at) q;
     } in
-    let (n1, b1, d1) = next-record s 0 1 (k ∷ []) _ refl refl in
+    let (n1, b1, d1) = next-record s 0 1 (labelsBytes k) _ refl refl in
     let (n2, b2, d2) = next-record s (c1 .at) 2 l _ (table-fits k l (w .left) .0) d1 in
     let (n3, b3, d3) = next-record s (c2 .at) 3 r _ (table-fits k r (w .right) .1) d2 in
     let (n4, b4, d4) = next-record s (c3 .at) 4 j _ (joint-fits k l r j (w .run) .0) d3 in
     let (n5, b5, d5) = next-record s (c4 .at) 5 q [] (question-fits k q (w .question) .0)
     (d4 ∙ sym (append-nil (recordBytes 5 q))) in
-    let shown = pairs-shown s (placed 1 0 (k ∷ [])) k b1 in
+    let shown = labels-shown s (placed 1 0 (labelsBytes k)) k b1 in
     record {
       parts = p;
       read = chain-read s p (record {
@@ -233,7 +234,7 @@ read-written k l r j q e =
         sound = rw (shown, b2, b3, b4, b5) w;
         all = omega (arith, casebook-length k l r j q);
       });
-      pairs = shown;
+      labels = shown;
       left = b2;
       right = b3;
       run = b4;
@@ -243,7 +244,7 @@ read-written k l r j q e =
 -- a casebook that was read, of bytes
 module _ (s : List ℕ) (bytes : Bytes s) (p : Parts) (e : readOf s ≡ reading.Casebook p) where
   -- writing its parts gives its bytes
-  pub written-read : casebookBytes (labelsOf s (p .labels) .pairs) (bodyOf s (p .left)) (bodyOf s (p .right))
+  pub written-read : casebookBytes (labelsOf s (p .labels)) (bodyOf s (p .left)) (bodyOf s (p .right))
       (bodyOf s (p .run)) (bodyOf s (p .question)) ≡ s
   unfolding casebookBytes labelsOf
   written-read =
@@ -272,11 +273,11 @@ module _ (s : List ℕ) (bytes : Bytes s) (p : Parts) (e : readOf s ≡ reading.
 -- a casebook is accepted exactly if it is what writing makes of sound parts
 pub accepted-exactly : (s : List ℕ) → Bytes s
     → ((p : Parts) × (readOf s ≡ reading.Casebook p))
-    ↔ ((k : ℕ) × (l : List ℕ) × (r : List ℕ) × (j : List ℕ) × (q : List ℕ) × (checkParts k l r j q ≡ Sound)
+    ↔ ((k : Labels) × (l : List ℕ) × (r : List ℕ) × (j : List ℕ) × (q : List ℕ) × (checkParts k l r j q ≡ Sound)
     × (s ≡ casebookBytes k l r j q))
 accepted-exactly s b = (
   λ (p, e). (
-    labelsOf s (p .labels) .pairs,
+    labelsOf s (p .labels),
     bodyOf s (p .left),
     bodyOf s (p .right),
     bodyOf s (p .run),
@@ -287,7 +288,7 @@ accepted-exactly s b = (
   from,
 )
   where
-    from : (k : ℕ) × (l : List ℕ) × (r : List ℕ) × (j : List ℕ) × (q : List ℕ) × (checkParts k l r j q ≡ Sound)
+    from : (k : Labels) × (l : List ℕ) × (r : List ℕ) × (j : List ℕ) × (q : List ℕ) × (checkParts k l r j q ≡ Sound)
         × (s ≡ casebookBytes k l r j q)
         → (p : Parts) × (readOf s ≡ reading.Casebook p)
     from (k, l, r, j, q, e, z) = let t = read-written k l r j q e in (t .parts, rw z (t .read))

@@ -9,6 +9,7 @@ use Rattle.labels.specs.declared.refusal.Check.{Check}
 use Rattle.labels.specs.declared.refusal.Check.the-variants.{Sound, Refused}
 use Rattle.labels.proofs.Refusals.{both-sound}
 use Rattle.labels.proofs.Answers.{Within, none, next}
+use Rattle.labels.specs.declared.label.Labels.{Labels}
 use Rattle.casebook.specs.Reading.{readOf, readAnswer}
 use Rattle.casebook.specs.Writing.{casebookBytes, checkParts, checkWrite, answered, writeOf, writeAnswer}
 use Rattle.casebook.specs.declared.record.Record.{Record}
@@ -18,7 +19,8 @@ use Rattle.casebook.proofs.RecordLaws.{Bytes}
 use Rattle.casebook.proofs.RoundTrip.{casebook-short, placing}
 
 -- of a writing: at most 3,825
-pub write-within : (k : ℕ) (l r j q : List ℕ) (room : ℕ) → Within 3825 (writeAnswer (writeOf k l r j q room) .values)
+pub write-within : (k : Labels) (l r j q : List ℕ) (room : ℕ)
+    → Within 3825 (writeAnswer (writeOf k l r j q room) .values)
 unfolding writeOf writeAnswer checkWrite firstOf
 write-within k l r j q room = go (checkWrite k l r j q room) refl
   where

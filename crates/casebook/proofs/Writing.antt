@@ -10,16 +10,17 @@ use borrow.Author.Tests.{lt-ltb, le-ltb}
 use Rattle.labels.proofs.Slices.{rest}
 use Rattle.labels.proofs.Outputs.{front-none, front-after, put-four, front-length}
 use Rattle.labels.specs.Refusals.{thenOf, firstOf, inFront}
-use Rattle.labels.specs.Labels.{checkPairs}
+use Rattle.labels.specs.Labels.{checkLabels}
 use Rattle.labels.specs.declared.refusal.Refusal.{Refusal}
 use Rattle.labels.specs.declared.refusal.Refusal.the-variants.{OutputTooShort}
 use Rattle.labels.specs.declared.refusal.Check.{Check}
 use Rattle.labels.specs.declared.refusal.Check.the-variants as check
 use Rattle.labels.proofs.Refusals.{then-sound}
+use Rattle.labels.specs.declared.label.Labels.{Labels}
 use Rattle.tables.specs.Tables.{checkTable}
 use Rattle.machines.specs.Joints.{checkJoint, checkTablesAndJoint}
 use Rattle.formulas.specs.Formulas.{questionLimit, checkFormula}
-use Rattle.casebook.specs.Records.{recordBytes}
+use Rattle.casebook.specs.Records.{labelsBytes, recordBytes}
 use Rattle.casebook.specs.Writing.{casebookBytes, checkParts, checkWrite, writeOf, writtenOf}
 use Rattle.casebook.specs.declared.write.Writing.the-variants as writing
 use Rattle.casebook.proofs.RecordLaws.{record-length, table-fits, joint-fits, question-fits}
@@ -47,20 +48,21 @@ record-put out body ys kind a b room short small p q e =
     ∙ ap (λ z. inFront z out) (record-split kind body a b kind (omega (arith, p)) (omega (arith, q)) refl small)
 
 -- five records make a casebook
-pub five-records : (k : ℕ) (l r j q : List ℕ)
-    → (((([] ++ recordBytes 1 (k ∷ [])) ++ recordBytes 2 l) ++ recordBytes 3 r) ++ recordBytes 4 j) ++ recordBytes 5 q
+pub five-records : (k : Labels) (l r j q : List ℕ)
+    → (((([] ++ recordBytes 1 (labelsBytes k)) ++ recordBytes 2 l) ++ recordBytes 3 r) ++ recordBytes 4 j)
+    ++ recordBytes 5 q
     ≡ casebookBytes k l r j q
 unfolding casebookBytes
 five-records k l r j q = rw (append-assoc, append-assoc, append-assoc)
 
 -- the parts' checks as the code has them
-module _ (k : ℕ) (l r j q : List ℕ) where
-  pub parts-checked : {x y z w v : Check} → x ≡ thenOf y z → y ≡ thenOf w v → w ≡ checkPairs k
+module _ (k : Labels) (l r j q : List ℕ) where
+  pub parts-checked : {x y z w v : Check} → x ≡ thenOf y z → y ≡ thenOf w v → w ≡ checkLabels k
       → v ≡ checkTablesAndJoint k l r j → z ≡ checkFormula k questionLimit q → x ≡ checkParts k l r j q
   unfolding checkParts checkTablesAndJoint firstOf
   parts-checked a b c d e =
       rw (a, b, c, d, e, then-sound (checkJoint k l r j), then-sound (checkFormula k questionLimit q))
-      (regroup (checkPairs k) (checkTable k l) (checkTable k r) (checkJoint k l r j) (checkFormula k questionLimit q))
+      (regroup (checkLabels k) (checkTable k l) (checkTable k r) (checkJoint k l r j) (checkFormula k questionLimit q))
     where
       regroup : (p t u v w : Check)
           → thenOf (thenOf p (thenOf t (thenOf u v))) w ≡ thenOf p (thenOf t (thenOf u (thenOf v w)))
@@ -100,12 +102,13 @@ module _ (k : ℕ) (l r j q : List ℕ) where
           question-fits k q (p .question) .1,
         )
 
--- the output with a piece put back at k
+-- the output with a piece put back at a place
 abbrev pub put : ℕ → List ℕ → List ℕ → List ℕ
-put k zs ys = putMid k (length zs - k) zs ys
+put at zs ys = putMid at (length zs - at) zs ys
 
 -- all five records, each into the rest behind those before it
-module _ (k : ℕ) (l r j q out y1 y2 y3 y4 : List ℕ) (e1 : y1 ≡ inFront (recordBytes 1 (k ∷ [])) (rest 0 out))
+module _ (k : Labels) (l r j q out y1 y2 y3 y4 : List ℕ) (e1 : y1 ≡ inFront (recordBytes 1 (labelsBytes k))
+    (rest 0 out))
     (e2 : y2 ≡ inFront (recordBytes 2 l) (rest 5 (put 0 out y1)))
     (e3 : y3 ≡ inFront (recordBytes 3 r) (rest (9 + length l) (put 5 (put 0 out y1) y2)))
     (e4 : y4 ≡ inFront (recordBytes 4 j)
@@ -114,19 +117,20 @@ module _ (k : ℕ) (l r j q out y1 y2 y3 y4 : List ℕ) (e1 : y1 ≡ inFront (re
   four = put (9 + length l + 4 + length r) (put (9 + length l) (put 5 (put 0 out y1) y2) y3) y4
 
   abbrev front : List ℕ
-  front = ((([] ++ recordBytes 1 (k ∷ [])) ++ recordBytes 2 l) ++ recordBytes 3 r) ++ recordBytes 4 j
+  front = ((([] ++ recordBytes 1 (labelsBytes k)) ++ recordBytes 2 l) ++ recordBytes 3 r) ++ recordBytes 4 j
 
   four-length : length front ≡ 9 + length l + 4 + length r + 4 + length j
   four-length = simp (length-append, record-length) (omega arith)
 
   four-put : four ≡ inFront front out
   four-put =
-      let f1 = front-after [] (recordBytes 1 (k ∷ [])) out out y1 0 refl (front-none out) e1 in
-      let f2 = front-after ([] ++ recordBytes 1 (k ∷ [])) (recordBytes 2 l) out (put 0 out y1) y2 5 (simp record-length)
+      let f1 = front-after [] (recordBytes 1 (labelsBytes k)) out out y1 0 refl (front-none out) e1 in
+      let f2 = front-after ([] ++ recordBytes 1 (labelsBytes k)) (recordBytes 2 l) out (put 0 out y1) y2 5
+      (simp record-length)
       f1 e2 in
-      let f3 = front-after (([] ++ recordBytes 1 (k ∷ [])) ++ recordBytes 2 l) (recordBytes 3 r) out
+      let f3 = front-after (([] ++ recordBytes 1 (labelsBytes k)) ++ recordBytes 2 l) (recordBytes 3 r) out
       (put 5 (put 0 out y1) y2) y3 (9 + length l) (simp (length-append, record-length) (omega arith)) f2 e3 in
-      front-after ((([] ++ recordBytes 1 (k ∷ [])) ++ recordBytes 2 l) ++ recordBytes 3 r) (recordBytes 4 j) out
+      front-after ((([] ++ recordBytes 1 (labelsBytes k)) ++ recordBytes 2 l) ++ recordBytes 3 r) (recordBytes 4 j) out
       (put (9 + length l) (put 5 (put 0 out y1) y2) y3) y4 (9 + length l + 4 + length r)
       (simp (length-append, record-length) (omega arith)) f3 e4
 

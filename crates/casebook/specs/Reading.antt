@@ -5,7 +5,7 @@ use mathlib.Core.List.{List, [], _∷_}
 use lib.ListN.{length}
 use lib.Dec.{ltb}
 use Rattle.labels.specs.Refusals.{refusedIf, Answer, refusedAs, giving}
-use Rattle.labels.specs.Labels.{checkPairs}
+use Rattle.labels.specs.Labels.{checkLabels}
 use Rattle.labels.specs.declared.refusal.Check.{Check}
 use Rattle.labels.specs.declared.refusal.Check.the-variants as check
 use Rattle.labels.specs.declared.refusal.Refusal.the-variants.{BytesAfter}
@@ -35,25 +35,25 @@ ifSound (check.Refused x) go = reading.Refused x
 -- the question record, then 11: "bytes after the question record"
 unfoldable pub readQuestion : List ℕ → Record → Record → Record → Record → ℕ → Reading
 readQuestion s h l r j at = after (nextAt s at 5) (λ q c.
-    ifSound (checkFormula (labelsOf s h .pairs) questionLimit (bodyOf s q))
+    ifSound (checkFormula (labelsOf s h) questionLimit (bodyOf s q))
     (ifSound (refusedIf (ltb (c .at) (length s)) BytesAfter)
     (reading.Casebook (record { labels = h; left = l; right = r; run = j; question = q }))))
 
 unfoldable pub readRun : List ℕ → Record → Record → Record → ℕ → Reading
 readRun s h l r at = after (nextAt s at 4) (λ j c.
-    ifSound (checkJoint (labelsOf s h .pairs) (bodyOf s l) (bodyOf s r) (bodyOf s j)) (readQuestion s h l r j (c .at)))
+    ifSound (checkJoint (labelsOf s h) (bodyOf s l) (bodyOf s r) (bodyOf s j)) (readQuestion s h l r j (c .at)))
 
 unfoldable pub readRight : List ℕ → Record → Record → ℕ → Reading
 readRight s h l at =
-    after (nextAt s at 3) (λ r c. ifSound (checkTable (labelsOf s h .pairs) (bodyOf s r)) (readRun s h l r (c .at)))
+    after (nextAt s at 3) (λ r c. ifSound (checkTable (labelsOf s h) (bodyOf s r)) (readRun s h l r (c .at)))
 
 unfoldable pub readLeft : List ℕ → Record → ℕ → Reading
 readLeft s h at =
-    after (nextAt s at 2) (λ l c. ifSound (checkTable (labelsOf s h .pairs) (bodyOf s l)) (readRight s h l (c .at)))
+    after (nextAt s at 2) (λ l c. ifSound (checkTable (labelsOf s h) (bodyOf s l)) (readRight s h l (c .at)))
 
 -- "Five records, each once, in this order."
 unfoldable pub readOf : List ℕ → Reading
-readOf s = after (nextAt s 0 1) (λ h c. ifSound (checkPairs (labelsOf s h .pairs)) (readLeft s h (c .at)))
+readOf s = after (nextAt s 0 1) (λ h c. ifSound (checkLabels (labelsOf s h)) (readLeft s h (c .at)))
 
 -- the case that the bytes show, where their parts lie so
 unfoldable pub caseOf : List ℕ → Parts → Case

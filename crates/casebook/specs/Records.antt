@@ -7,6 +7,7 @@ use mathlib.Core.List.{List, [], _∷_, _++_}
 use lib.ListN.{length, getD, take, drop}
 use lib.Dec.{eqb, leb, ltb}
 use Rattle.labels.specs.Refusals.{Answer, refusedAs, giving}
+use Rattle.labels.specs.Labels.{ofPairs}
 use Rattle.labels.specs.declared.label.Labels.{Labels}
 use Rattle.labels.specs.declared.refusal.Refusal.the-variants.{Truncated, WrongKind, WrongLength}
 use Rattle.casebook.specs.declared.record.Record.{Record}
@@ -58,7 +59,11 @@ bodyOf s r = take (r .len) (drop (r .start) s)
 
 -- the labels that the first record shows: its body is k
 unfoldable pub labelsOf : List ℕ → Record → Labels
-labelsOf s r = record { pairs = getD s (r .start) 0 }
+labelsOf s r = ofPairs (getD s (r .start) 0)
+
+-- labels as such a body
+abbrev pub labelsBytes : Labels → List ℕ
+labelsBytes k = k .pairs ∷ []
 
 -- a record as bytes
 abbrev pub wordBytes : ℕ → List ℕ

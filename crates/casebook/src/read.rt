@@ -4,7 +4,6 @@ use crate::record::Next;
 use crate::record::Record;
 use formulas::check::check_formula;
 use labels::label::Labels;
-use labels::label::check_pairs;
 use labels::refusal::Check;
 use labels::refusal::Refusal;
 use machines::joint::check_joint;
@@ -47,7 +46,7 @@ pub fn read(s: &[u8]) -> Reading
     match (Cursor { at: 0 }).next(s, 1) {
         Next::Found(first, cursor) => {
             let labels = first.labels(s);
-            match check_pairs(labels.pairs) {
+            match labels.check() {
                 Check::Sound => read_left(s, first, cursor),
                 Check::Refused(refusal) => Reading::Refused(refusal),
             }
@@ -71,7 +70,7 @@ fn read_left(s: &[u8], first: Record, cursor: Cursor) -> Reading
 
 // The right table, and what follows it.
 fn read_right(s: &[u8], first: Record, left: Record, cursor: Cursor) -> Reading
-    requires { ⌜ checkTable (labelsOf (now s) first .pairs) (bodyOf (now s) left) ≡ Sound ⌝ }
+    requires { ⌜ checkTable (labelsOf (now s) first) (bodyOf (now s) left) ≡ Sound ⌝ }
     ensures { λ r. ⌜ r ≡ readRight (now (s .entry)) first left (cursor .at) ⌝ }
 {
     match cursor.next(s, 3) {
@@ -85,7 +84,8 @@ fn read_right(s: &[u8], first: Record, left: Record, cursor: Cursor) -> Reading
 
 // The joint run, and what follows it.
 fn read_run(s: &[u8], first: Record, left: Record, right: Record, cursor: Cursor) -> Reading
-    requires { ⌜ (checkTable (labelsOf (now s) first .pairs) (bodyOf (now s) left) ≡ Sound) × (checkTable (labelsOf (now s) first .pairs) (bodyOf (now s) right) ≡ Sound) ⌝ }
+    requires { ⌜ (checkTable (labelsOf (now s) first) (bodyOf (now s) left) ≡ Sound)
+        × (checkTable (labelsOf (now s) first) (bodyOf (now s) right) ≡ Sound) ⌝ }
     ensures { λ r. ⌜ r ≡ readRun (now (s .entry)) first left right (cursor .at) ⌝ }
 {
     match cursor.next(s, 4) {

@@ -42,9 +42,9 @@ impl Record {
     {
         let start = self.start;
         if s.len() <= start {
-            return Labels { pairs: 0 };
+            return Labels::of_pairs(0);
         }
-        Labels { pairs: s[start] }
+        Labels::of_pairs(s[start])
     }
 }
 

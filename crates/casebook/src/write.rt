@@ -1,7 +1,6 @@
 // Writing a casebook from its parts.
 use formulas::check::check_formula;
 use labels::label::Labels;
-use labels::label::check_pairs;
 use labels::refusal::Check;
 use labels::refusal::Refusal;
 use machines::joint::check_joint;
@@ -21,20 +20,21 @@ pub enum Writing {
 
 // Writes the casebook of these parts; nothing if it is refused.
 pub fn write(
-    k: u8,
+    labels: Labels,
     left: &[u8],
     right: &[u8],
     run: &[u8],
     question: &[u8],
     out: &mut [u8],
 ) -> Writing
-    ensures { λ r. ⌜ r ≡ writeOf k (now (left .entry)) (now (right .entry)) (now (run .entry)) (now (question .entry))
+    ensures { λ r. ⌜ r ≡ writeOf labels (now (left .entry)) (now (right .entry)) (now (run .entry))
+        (now (question .entry))
         (length (now (out .entry))) ⌝ }
     ensures { λ r. ⌜ now (out .exit)
-        ≡ writtenOf k (now (left .entry)) (now (right .entry)) (now (run .entry)) (now (question .entry))
+        ≡ writtenOf labels (now (left .entry)) (now (right .entry)) (now (run .entry)) (now (question .entry))
         (now (out .entry)) ⌝ }
 {
-    match check_parts(k, left, right, run, question) {
+    match check_parts(labels, left, right, run, question) {
         Check::Sound => {}
         Check::Refused(refusal) => return Writing::Refused(refusal),
     }
@@ -42,30 +42,38 @@ pub fn write(
     if out.len() < total {
         return Writing::Refused(Refusal::OutputTooShort);
     }
-    put_casebook(k, left, right, run, question, out);
+    put_casebook(labels, left, right, run, question, out);
     Writing::Written(total)
 }
 
 // The parts' numbers, in record order.
-fn check_parts(k: u8, left: &[u8], right: &[u8], run: &[u8], question: &[u8]) -> Check
-    ensures { λ r. ⌜ r ≡ checkParts k (now (left .entry)) (now (right .entry)) (now (run .entry))
+fn check_parts(labels: Labels, left: &[u8], right: &[u8], run: &[u8], question: &[u8]) -> Check
+    ensures { λ r. ⌜ r ≡ checkParts labels (now (left .entry)) (now (right .entry)) (now (run .entry))
         (now (question .entry)) ⌝ }
 {
-    let labels = Labels { pairs: k };
     let tables_and_run = check_joint(labels, left, right, run);
-    check_pairs(k)
+    labels
+        .check()
         .then(tables_and_run)
         .then(check_formula(labels, 64, question))
 }
 
 // The five records, one after the other.
-fn put_casebook(k: u8, left: &[u8], right: &[u8], run: &[u8], question: &[u8], out: &mut [u8])
+fn put_casebook(
+    labels: Labels,
+    left: &[u8],
+    right: &[u8],
+    run: &[u8],
+    question: &[u8],
+    out: &mut [u8],
+)
     requires { ⌜ Fitting (now left) (now right) (now run) (now question) (now out) ⌝ }
     ensures { λ r. ⌜ now (out .exit)
-        ≡ inFront (casebookBytes k (now (left .entry)) (now (right .entry)) (now (run .entry)) (now (question .entry)))
+        ≡ inFront (casebookBytes labels (now (left .entry)) (now (right .entry)) (now (run .entry))
+        (now (question .entry)))
         (now (out .entry)) ⌝ }
 {
-    let pairs = [k];
+    let pairs = [labels.pairs];
     put_record(&mut out[0..], 1, &pairs);
     put_record(&mut out[5..], 2, left);
     let third = 9 + left.len();

@@ -15,6 +15,7 @@ use dividing::divide::Quotient;
 use halves::side::Known;
 use halves::side::Side;
 use halves::side::cut;
+use labels::label::Labels;
 use quotient::half::by_half;
 use quotient::line::LineOffice;
 use quotient::line::line_office;
@@ -48,7 +49,7 @@ fn show_split(bytes: &[u8], parts: Parts, asked: Asked) {
     let right = parts.right.body(bytes);
     let run = parts.run.body(bytes);
     match split(
-        parts.labels(bytes).pairs,
+        parts.labels(bytes),
         left,
         right,
         run,
@@ -79,17 +80,26 @@ fn show_answers<'a>(
     let right = parts.right.body(bytes);
     let run = parts.run.body(bytes);
     let question = parts.question.body(bytes);
-    let k = parts.labels(bytes).pairs;
+    let labels = parts.labels(bytes);
     let point = asked.point;
     let side = asked.side;
     show(b"joint verdict ");
-    show_verdict(joint(k, left, right, run, question, point));
+    show_verdict(joint(labels, left, right, run, question, point));
     show(b", quotient ");
     show_by_half(bytes, parts, left_half, right_half, asked);
     show(b", quotient by number ");
-    show_by_number(k, left, right, run, question, asked);
+    show_by_number(labels, left, right, run, question, asked);
     show(b", line office ");
-    show_office(line_office(k, left, right, left_half, right_half, question, side, point));
+    show_office(line_office(
+        labels,
+        left,
+        right,
+        left_half,
+        right_half,
+        question,
+        side,
+        point,
+    ));
     show(b", cut ");
     show_bytes(cut(left_half, right_half, side, point));
 }
@@ -105,12 +115,12 @@ fn show_by_half<'a>(
     let left = parts.left.body(bytes);
     let right = parts.right.body(bytes);
     let question = parts.question.body(bytes);
-    let k = parts.labels(bytes).pairs;
+    let labels = parts.labels(bytes);
     let point = asked.point;
     let side = asked.side;
     let mut out = output();
     let found = by_half(
-        k,
+        labels,
         left,
         right,
         left_half,
@@ -124,14 +134,14 @@ fn show_by_half<'a>(
     show_quotient(found, &out);
     show(b", other half's verdict ");
     match side.known() {
-        Known::Left => show_verdict(half(k, right, right_half, formula, point)),
-        Known::Right => show_verdict(half(k, left, left_half, formula, point)),
+        Known::Left => show_verdict(half(labels, right, right_half, formula, point)),
+        Known::Right => show_verdict(half(labels, left, left_half, formula, point)),
     }
 }
 
 // Prints the quotient by the known half of the splitting of a number.
 pub(crate) fn show_by_number<'a>(
-    k: u8,
+    labels: Labels,
     left: &'a [u8],
     right: &'a [u8],
     run: &[u8],
@@ -141,7 +151,7 @@ pub(crate) fn show_by_number<'a>(
     let side = asked.side;
     let mut out = output();
     let found = by_number(
-        k,
+        labels,
         left,
         right,
         run,

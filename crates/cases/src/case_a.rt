@@ -32,8 +32,8 @@ pub(crate) fn show_records() {
 // Prints k, where each other part lies, and whether writing gives back what was read.
 fn show_parts(bytes: &[u8], parts: Parts) {
     show(b"case A, k: ");
-    let k = parts.labels(bytes).pairs;
-    show_number(k as usize);
+    let labels = parts.labels(bytes);
+    show_number(labels.pairs as usize);
     show_place(b"\ncase A, left table: ", parts.left);
     show_place(b"\ncase A, right table: ", parts.right);
     show_place(b"\ncase A, joint run: ", parts.run);
@@ -58,14 +58,7 @@ fn show_written(bytes: &[u8], parts: Parts) {
     let run = parts.run.body(bytes);
     let question = parts.question.body(bytes);
     let mut out = output();
-    match write(
-        parts.labels(bytes).pairs,
-        left,
-        right,
-        run,
-        question,
-        &mut out,
-    ) {
+    match write(parts.labels(bytes), left, right, run, question, &mut out) {
         Writing::Written(n) => {
             show_number(n);
             if same(first(&out, n), bytes) {

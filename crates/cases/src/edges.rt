@@ -21,6 +21,7 @@ use crate::splittings::show_halves;
 use crate::splittings::show_joined;
 use dividing::divide::Quotient;
 use halves::side::Side;
+use labels::label::Labels;
 use quotient::half::by_half;
 use quotient::line::line_office;
 use quotient::number::by_number;
@@ -65,7 +66,7 @@ fn show_size_in(question: &[u8], out: &mut [u8]) {
     let right = EIGHT_LOOPS;
     let start = [0u8; 1];
     let found = by_half(
-        4,
+        Labels::of_pairs(4),
         &left,
         &right,
         &start,
@@ -89,7 +90,7 @@ fn show_size_by_number(name: &[u8], question: &[u8]) {
     let start = [0u8; 2];
     let mut out = output();
     let found = by_number(
-        4,
+        Labels::of_pairs(4),
         &left,
         &right,
         &start,
@@ -109,7 +110,16 @@ fn show_office_at(name: &[u8], question: &[u8]) {
     let left = NO_ROWS;
     let right = EIGHT_LOOPS;
     let start = [0u8; 1];
-    show_office(line_office(4, &left, &right, &start, &start, question, Side::Right, 0));
+    show_office(line_office(
+        Labels::of_pairs(4),
+        &left,
+        &right,
+        &start,
+        &start,
+        question,
+        Side::Right,
+        0,
+    ));
     show_end();
 }
 
@@ -141,7 +151,12 @@ fn show_two_way_count(name: &[u8], steps: u8) {
     let table = ONE_LOOP;
     let run = TWO_WAY_RUN;
     show(name);
-    show_count(count(1, &table, &table, first(&run, length_of(steps))));
+    show_count(count(
+        Labels::of_pairs(1),
+        &table,
+        &table,
+        first(&run, length_of(steps)),
+    ));
     show_end();
 }
 
@@ -150,7 +165,13 @@ fn show_two_way_halves(name: &[u8], steps: u8, number: usize) {
     let table = ONE_LOOP;
     let run = TWO_WAY_RUN;
     show(name);
-    show_halves(1, &table, &table, first(&run, length_of(steps)), number);
+    show_halves(
+        Labels::of_pairs(1),
+        &table,
+        &table,
+        first(&run, length_of(steps)),
+        number,
+    );
     show_end();
 }
 
@@ -165,7 +186,7 @@ fn show_joined_halves(name: &[u8]) {
     let left_half = SIXTEEN_MOVES;
     let right_half = SIXTEEN_IDLES;
     show(name);
-    show_joined(1, &table, &table, &left_half, &right_half);
+    show_joined(Labels::of_pairs(1), &table, &table, &left_half, &right_half);
     show_end();
 }
 
@@ -178,7 +199,7 @@ fn show_back_by_halves(name: &[u8]) {
     let mut out = [0u8; 128];
     show(name);
     let found = by_half(
-        1,
+        Labels::of_pairs(1),
         &table,
         &table,
         &left_half,

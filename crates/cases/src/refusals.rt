@@ -22,6 +22,7 @@ use halves::side::Side;
 use halves::side::cut;
 use joining::join::Joining;
 use joining::join::join;
+use labels::label::Labels;
 use splitting::count::count;
 use verdict::half::half;
 use verdict::joint::joint;
@@ -86,7 +87,7 @@ fn show_judged(name: &[u8], question: &[u8], point: usize) {
     let right = RIGHT_A;
     let run = RUN_A;
     show(name);
-    show_verdict(joint(2, &left, &right, &run, question, point));
+    show_verdict(joint(Labels::of_pairs(2), &left, &right, &run, question, point));
     show_end();
 }
 
@@ -97,10 +98,10 @@ fn show_beyond_count() {
     let run = RUN_A;
     let back = [6u8, 0, 0, 0];
     show(b"splitting 2 of 2: ");
-    show_halves(2, &left, &right, &run, 2);
+    show_halves(Labels::of_pairs(2), &left, &right, &run, 2);
     show(b"\nquotient by splitting 2 of 2: ");
     show_by_number(
-        2,
+        Labels::of_pairs(2),
         &left,
         &right,
         &run,
@@ -162,7 +163,7 @@ fn show_half(name: &[u8], left_half: &[u8]) {
     let left = LEFT_A;
     let back = [6u8, 0, 0, 0];
     show(name);
-    show_verdict(half(2, &left, left_half, &back, 1));
+    show_verdict(half(Labels::of_pairs(2), &left, left_half, &back, 1));
     show_end();
 }
 
@@ -171,7 +172,14 @@ fn show_join(name: &[u8], left_half: &[u8], right_half: &[u8], out: &mut [u8]) {
     let left = LEFT_A;
     let right = RIGHT_A;
     show(name);
-    match join(2, &left, &right, left_half, right_half, out) {
+    match join(
+        Labels::of_pairs(2),
+        &left,
+        &right,
+        left_half,
+        right_half,
+        out,
+    ) {
         Joining::Joined(n) => show_bytes(first(out, n)),
         Joining::Refused(refusal) => show_refused(refusal),
     }
@@ -184,6 +192,6 @@ pub(crate) fn show_of_tables() {
     let still = NO_ROWS;
     let start = [0u8; 2];
     show(b"nine rows from one state: ");
-    show_count(count(4, &nine, &still, &start));
+    show_count(count(Labels::of_pairs(4), &nine, &still, &start));
     show_end();
 }

@@ -14,9 +14,8 @@ use Rattle.hml.specs.Formula.{Formula, size, nesting}
 use Rattle.hml.specs.Spell.{spell}
 use Rattle.hml.proofs.Spelling.{length-spell}
 use Rattle.hml.specs.Quotient.{quotient}
-use Rattle.hml.specs.Labels.{pairs}
 use Rattle.labels.specs.Refusals.{thenOf, firstOf, inFront}
-use Rattle.labels.specs.Labels.{checkPairs, pairing}
+use Rattle.labels.specs.Labels.{checkLabels, pairing}
 use Rattle.labels.specs.declared.label.Labels.{Labels}
 use Rattle.labels.specs.declared.refusal.Refusal.{Refusal}
 use Rattle.labels.specs.declared.refusal.Refusal.the-variants.{QuotientTooLarge, OutputTooShort}
@@ -42,12 +41,12 @@ use Rattle.dividing.proofs.QuotientSize.{quotient-size}
 use Rattle.dividing.proofs.Answers.{text-length, too-large, too-short, enough-room, text-output, refused-kept}
 
 -- the order of the checks
-module _ (k : ℕ) (t h f : List ℕ) where
-  pub pairs-refused : (x : Refusal) → checkPairs k ≡ Refused x → Refused x ≡ checkDivision k t h f
+module _ (k : Labels) (t h f : List ℕ) where
+  pub labels-refused : (x : Refusal) → checkLabels k ≡ Refused x → Refused x ≡ checkDivision k t h f
   unfolding checkDivision firstOf
-  pairs-refused x e = rw e
+  labels-refused x e = rw e
 
-  module _ (e : checkPairs k ≡ Sound) where
+  module _ (e : checkLabels k ≡ Sound) where
     -- the question is sound: the table and the half of it are left
     pub question-sound : (c : Check) → checkFormula k questionLimit f ≡ Sound → c ≡ checkTableAndHalf k t h
         → c ≡ checkDivision k t h f
@@ -64,7 +63,7 @@ module _ (k : ℕ) (t h f : List ℕ) where
   pub division-sound : checkDivision k t h f ≡ Sound → SoundTable k t × (isHalfRun t h ≡ true) × Legal k questionLimit f
   unfolding checkDivision firstOf checkHalf
   division-sound e =
-      let (p, a) = both-sound (checkPairs k) _ e in
+      let (p, a) = both-sound (checkLabels k) _ e in
       let (u, b) = both-sound (checkTable k t) _ a in
       let (v, c) = both-sound (checkFormula k questionLimit f) _ b in (
         sound-table k t u,
@@ -82,15 +81,15 @@ pub forwards-seen : (f : List ℕ) (room : ℕ) → length f ≤ room → (n : �
 unfolding surelyFits
 forwards-seen f room h n e = rw (le-leb (length f) room h, e)
 
-module _ (labels : Labels) (t h f : List ℕ) (run : isHalfRun t h ≡ true) (legal : Legal (labels .pairs) questionLimit f)
+module _ (labels : Labels) (t h f : List ℕ) (run : isHalfRun t h ≡ true) (legal : Legal labels questionLimit f)
   where
     -- the tree of the quotient
     pub tree : Formula
-    tree = quotient (pairs (labels .pairs)) (tableOf t) (treeOf f) (halfOf h)
+    tree = quotient (pairing labels) (tableOf t) (treeOf f) (halfOf h)
 
-    tree-is : quotientBy (labels .pairs) t (halfOf h) f ≡ some tree
+    tree-is : quotientBy labels t (halfOf h) f ≡ some tree
     unfolding quotientBy treeBy tree
-    tree-is = rw (legal-tree (labels .pairs) questionLimit f legal)
+    tree-is = rw (legal-tree labels questionLimit f legal)
 
     -- neither 17 nor 18 with so many bytes lent
     abbrev pub Fits : ℕ → Type 0
@@ -106,7 +105,7 @@ module _ (labels : Labels) (t h f : List ℕ) (run : isHalfRun t h ≡ true) (le
         (arith, nesting-forwards f (φ, [], s), eqb-true (forwardsIn f) _ none) in
         omega (
           arith,
-          quotient-size (pairs (labels .pairs)) (tableOf t) (treeOf f) (halfOf h) flat,
+          quotient-size (pairing labels) (tableOf t) (treeOf f) (halfOf h) flat,
           tree-some f (φ, [], s),
           formula-length f φ s,
           z,
@@ -121,15 +120,15 @@ module _ (labels : Labels) (t h f : List ℕ) (run : isHalfRun t h ≡ true) (le
           let a = accepted-half t h run in
           let n : length h ≤ 401 = omega (arith, a .counted, a .few, a .odd) in
           record {
-            part = legal-part (labels .pairs) questionLimit f legal sizes (omega (arith, z));
+            part = legal-part labels questionLimit f legal sizes (omega (arith, z));
             held = held-copied h xs (length h) (accepted-held t h run) (c ∙ sym (take-length h)) (omega (arith, n, w));
-            room = omega (arith, legal-nesting (labels .pairs) questionLimit f legal, n, w);
+            room = omega (arith, legal-nesting labels questionLimit f legal, n, w);
             size = w;
             slots = length-over f sizes ∙ z;
           }
 
       text-is : text labels t f (halfOf (take (length h) xs)) ≡ spell tree []
-      unfolding text pairing tree
+      unfolding text tree
       text-is = rw c
 
       text-size : length (text labels t f (halfOf (take (length h) xs))) ≡ 2 * size tree
@@ -139,8 +138,8 @@ module _ (labels : Labels) (t h f : List ℕ) (run : isHalfRun t h ≡ true) (le
       module _ (n : ℕ) (e : 2 * n ≡ min (length (text labels t f (halfOf (take (length h) xs)))) (2 * 4096 + 2)) where
         pub answer-large : (out : List ℕ) → 4096 < n
             → (answer.Refused QuotientTooLarge
-            ≡ answerOf Sound (quotientBy (labels .pairs) t (halfOf h) f) (length out))
-            × (out ≡ outputAfter Sound (quotientBy (labels .pairs) t (halfOf h) f) out)
+            ≡ answerOf Sound (quotientBy labels t (halfOf h) f) (length out))
+            × (out ≡ outputAfter Sound (quotientBy labels t (halfOf h) f) out)
         answer-large out h =
             rw tree-is (let a = too-large tree (omega (arith, e, text-size, h))
             (length out) in (sym a, refused-kept Sound (some tree) out QuotientTooLarge a))
@@ -151,8 +150,8 @@ module _ (labels : Labels) (t h f : List ℕ) (run : isHalfRun t h ≡ true) (le
 
           pub answer-short : (out : List ℕ) → length out < 2 * n
               → (answer.Refused OutputTooShort
-              ≡ answerOf Sound (quotientBy (labels .pairs) t (halfOf h) f) (length out))
-              × (out ≡ outputAfter Sound (quotientBy (labels .pairs) t (halfOf h) f) out)
+              ≡ answerOf Sound (quotientBy labels t (halfOf h) f) (length out))
+              × (out ≡ outputAfter Sound (quotientBy labels t (halfOf h) f) out)
           answer-short out h =
               rw tree-is (let a = too-short tree (omega (arith, counted-size, small)) (length out)
               (omega (arith, counted-size, h)) in (sym a, refused-kept Sound (some tree) out OutputTooShort a))
@@ -168,8 +167,8 @@ module _ (labels : Labels) (t h f : List ℕ) (run : isHalfRun t h ≡ true) (le
 
         pub answer-written : (m : ℕ) (zs : List ℕ) → m ≡ length (text labels t f (halfOf (take (length h) xs)))
             → zs ≡ inFront (text labels t f (halfOf (take (length h) xs))) out
-            → (answer.Written m ≡ answerOf Sound (quotientBy (labels .pairs) t (halfOf h) f) (length out))
-            × (zs ≡ outputAfter Sound (quotientBy (labels .pairs) t (halfOf h) f) out)
+            → (answer.Written m ≡ answerOf Sound (quotientBy labels t (halfOf h) f) (length out))
+            × (zs ≡ outputAfter Sound (quotientBy labels t (halfOf h) f) out)
         unfolding inFront
         answer-written m zs p q =
             let (s, r) = fits in

@@ -107,7 +107,7 @@ module _ (labels : Labels) (t f : List ℕ) (r : Run ℕ) where
   spelled-given false moves h = ends
 
   -- what is listed behind the first disjunct
-  spelled-others : (k a q : ℕ) → SoundTable k t
+  spelled-others : (k : Labels) (a q : ℕ) → SoundTable k t
       → Spelled (aloneIn a (tableOf t q) ++ given (same 0 a) (shakenIn (pairing labels) (tableOf t q)))
       (each (λ (n : ℕ × ℕ). only (same (n .0) a)
       (fwdIdle (quotient (pairing labels) (tableOf t) (treeOf f) (r ▸ move (n .0) (n .1))))) (tableOf t q)
@@ -122,26 +122,26 @@ module _ (labels : Labels) (t f : List ℕ) (r : Run ℕ) where
 
 -- so the texts of the listed disjuncts are the text of the whole: by a label, and by idle
 module _ (labels : Labels) (t sizes f : List ℕ) (p : Part sizes f) (r : Run ℕ) where
-  label-texts : SoundTable (labels .pairs) t → getD f 0 0 ≡ 5
+  label-texts : SoundTable labels t → getD f 0 0 ≡ 5
       → texts labels t (rest 2 f) r (disjunctsOf labels t (getD f 0 0) (getD f 1 0) (last r)) ≡ text labels t f r
   unfolding disjunctsOf text quotient spell stepOf
   label-texts s e = rw (e, operand-is sizes f p (fwd (getD f 1 0)) (at f (p .tree) 5 e), silent-same (getD f 1 0))
       (spelled-ors labels t (rest 2 f) r 5 (getD f 1 0) 255 (last r)
       (fwd (getD f 1 0) (quotient (pairing labels) (tableOf t) (treeOf (rest 2 f)) (r ▸ idle))) refl
-      (spelled-others labels t (rest 2 f) r (labels .pairs) (getD f 1 0) (last r) s))
+      (spelled-others labels t (rest 2 f) r labels (getD f 1 0) (last r) s))
 
   idle-texts : (q : ℕ) → getD f 0 0 ≡ 7
       → texts labels t (rest 2 f) r (disjunctsOf labels t (getD f 0 0) (getD f 1 0) q) ≡ text labels t f r
   unfolding disjunctsOf texts firstText text quotient spell stepOf
   idle-texts q e = rw (e, operand-is sizes f p fwdIdle (at f (p .tree) 7 e))
 
-  pub forward-texts : (q : ℕ) → SoundTable (labels .pairs) t → Forward (getD f 0 0) → last r ≡ q
+  pub forward-texts : (q : ℕ) → SoundTable labels t → Forward (getD f 0 0) → last r ≡ q
       → texts labels t (rest 2 f) r (disjunctsOf labels t (getD f 0 0) (getD f 1 0) q) ≡ text labels t f r
   forward-texts q s (inl e) z = rw (← z) (label-texts s e)
   forward-texts q s (inr e) z = idle-texts q e
 
 -- there is one at least, and its idle keeps the state
-pub forward-listed : (labels : Labels) (t : List ℕ) (o a q : ℕ) → SoundTable (labels .pairs) t
+pub forward-listed : (labels : Labels) (t : List ℕ) (o a q : ℕ) → SoundTable labels t
     → Listed q (disjunctsOf labels t o a q)
 unfolding disjunctsOf
 forward-listed labels t o a q s = go (eqb o 7)
@@ -153,7 +153,7 @@ forward-listed labels t o a q s = go (eqb o 7)
     go false =
         rw (silent-same a)
         (spelled-listed labels t [] (start q) q (λ z. refl)
-        (spelled-others labels t [] (start q) (labels .pairs) a q s))
+        (spelled-others labels t [] (start q) labels a q s))
 
 -- the first of some disjuncts, and those behind it
 module _ (q : ℕ) where

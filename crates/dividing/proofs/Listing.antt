@@ -102,12 +102,12 @@ module _ (labels : Labels) (t : List ℕ) (o a q : ℕ) (rows : List ℕ) (m : m
     silent-listed e = rw (ne-eqb o 7 n, e, m)
 
   -- they fit into 68 bytes
-  module _ (k room : ℕ) (s : SoundTable k t) (h : 68 ≤ room) where
+  module _ (k : Labels) (room : ℕ) (s : SoundTable k t) (h : 68 ≤ room) where
     pub alone-room : length ((5 ∷ a ∷ 255 ∷ q ∷ []) ++ aloneIn a (movesIn rows)) ≤ room
     alone-room = rw m (omega (arith, alone-short a (tableOf t q) (moves-few s q), h))
 
 -- and so do all disjuncts
-pub listed-fits : (labels : Labels) (t : List ℕ) (o a q k room : ℕ) → SoundTable k t → 68 ≤ room
+pub listed-fits : (labels : Labels) (t : List ℕ) (o a q : ℕ) (k : Labels) (room : ℕ) → SoundTable k t → 68 ≤ room
     → length (disjunctsOf labels t o a q) ≤ room
 unfolding disjunctsOf
 listed-fits labels t o a q k room s h = go (eqb o 7) (eqb a 0)

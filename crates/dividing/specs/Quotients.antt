@@ -10,12 +10,12 @@ use Rattle.hml.specs.System.{Run}
 use Rattle.hml.specs.Formula.{Formula, size}
 use Rattle.hml.specs.Spell.{spell}
 use Rattle.hml.specs.Quotient.{quotient}
-use Rattle.hml.specs.Labels.{pairs}
 use Rattle.labels.specs.Refusals.{refusedIf, firstOf, outputOf, Answer, refusedAs, giving}
-use Rattle.labels.specs.Labels.{checkPairs}
+use Rattle.labels.specs.Labels.{checkLabels, pairing}
 use Rattle.labels.specs.declared.refusal.Check.{Check}
 use Rattle.labels.specs.declared.refusal.Check.the-variants as check
 use Rattle.labels.specs.declared.refusal.Refusal.the-variants.{QuotientTooLarge, OutputTooShort}
+use Rattle.labels.specs.declared.label.Labels.{Labels}
 use Rattle.tables.specs.Tables.{tableOf, checkTable}
 use Rattle.halves.specs.Halves.{checkHalf}
 use Rattle.formulas.specs.Formulas.{formulaOf, questionLimit, quotientLimit, checkFormula}
@@ -27,8 +27,8 @@ unfoldable pub treeBy : (Formula → Formula) → Option Formula → Option Form
 treeBy g none = none
 treeBy g (some φ) = some (g φ)
 
-unfoldable pub quotientBy : ℕ → List ℕ → Run ℕ → List ℕ → Option Formula
-quotientBy k t r f = treeBy (λ φ. quotient (pairs k) (tableOf t) φ r) (formulaOf f)
+unfoldable pub quotientBy : Labels → List ℕ → Run ℕ → List ℕ → Option Formula
+quotientBy k t r f = treeBy (λ φ. quotient (pairing k) (tableOf t) φ r) (formulaOf f)
 
 -- its nodes, and its bytes; where there is no formula there are none
 unfoldable pub nodesOf : Option Formula → ℕ
@@ -67,5 +67,5 @@ unfoldable pub outputAfter : Check → Option Formula → List ℕ → List ℕ
 outputAfter parts tree out = outputOf (checkTree parts tree (length out)) (textOf tree) out
 
 -- what a call judges that takes one table and one half of it: the parts' numbers in record order, then 15
-unfoldable pub checkDivision : ℕ → List ℕ → List ℕ → List ℕ → Check
-checkDivision k t h f = firstOf (checkPairs k ∷ checkTable k t ∷ checkFormula k questionLimit f ∷ checkHalf t h ∷ [])
+unfoldable pub checkDivision : Labels → List ℕ → List ℕ → List ℕ → Check
+checkDivision k t h f = firstOf (checkLabels k ∷ checkTable k t ∷ checkFormula k questionLimit f ∷ checkHalf t h ∷ [])

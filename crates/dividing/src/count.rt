@@ -22,7 +22,7 @@ pub(crate) fn count_tree(
     f: &[u8],
     limit: usize,
 ) -> usize
-    requires { ⌜ SoundTable (labels .pairs) (now table) ⌝ }
+    requires { ⌜ SoundTable labels (now table) ⌝ }
     requires { ⌜ Ready (now sizes) (now run) len 0 (now f) ⌝ }
     requires { ⌜ limit ≤ 4096 ⌝ }
     ensures { λ r. ⌜ 2 * r ≡ min (length (text labels (now (table .entry)) (now (f .entry))
@@ -63,7 +63,7 @@ fn count_modal(
     f: &[u8],
     limit: usize,
 ) -> usize
-    requires { ⌜ SoundTable (labels .pairs) (now table) ⌝ }
+    requires { ⌜ SoundTable labels (now table) ⌝ }
     requires { ⌜ Ready (now sizes) (now run) len 0 (now f) ⌝ }
     requires { ⌜ (1 ≤ limit) × (limit ≤ 4096) × (5 ≤ getD (now f) 0 0) ⌝ }
     ensures { λ r. ⌜ 2 * r ≡ min (length (text labels (now (table .entry)) (now (f .entry))
@@ -97,7 +97,7 @@ fn count_forward(
     f: &[u8],
     limit: usize,
 ) -> usize
-    requires { ⌜ SoundTable (labels .pairs) (now table) ⌝ }
+    requires { ⌜ SoundTable labels (now table) ⌝ }
     requires { ⌜ Ready (now sizes) (now run) len 0 (now f) ⌝ }
     requires { ⌜ (limit ≤ 4096) × Forward (getD (now f) 0 0) ⌝ }
     ensures { λ r. ⌜ 2 * r ≡ min (length (text labels (now (table .entry)) (now (f .entry))
@@ -136,7 +136,7 @@ fn count_disjuncts(
     f: &[u8],
     limit: usize,
 ) -> usize
-    requires { ⌜ SoundTable (labels .pairs) (now table) ⌝ }
+    requires { ⌜ SoundTable labels (now table) ⌝ }
     requires { ⌜ Ready (now sizes) (now run) len 1 (now f) ⌝ }
     requires { ⌜ (limit ≤ 4096) × Listed (getD (now run) (len - 1) 0) (now disjuncts) ⌝ }
     ensures { λ r. ⌜ 2 * r ≡ min (length (texts labels (now (table .entry)) (now (f .entry))
@@ -178,7 +178,7 @@ fn count_disjunct(
     f: &[u8],
     limit: usize,
 ) -> usize
-    requires { ⌜ SoundTable (labels .pairs) (now table) ⌝ }
+    requires { ⌜ SoundTable labels (now table) ⌝ }
     requires { ⌜ Ready (now sizes) (now run) len 1 (now f) ⌝ }
     requires { ⌜ (limit ≤ 4096) × Listed (getD (now run) (len - 1) 0) (now disjuncts) ⌝ }
     ensures { λ r. ⌜ 2 * r ≡ min (length (firstText labels (now (table .entry)) (now (f .entry))

@@ -24,7 +24,7 @@ pub(crate) fn list_disjuncts(
     state: u8,
     out: &mut [u8],
 ) -> usize
-    requires { ⌜ SoundTable (labels .pairs) (now table) ⌝ }
+    requires { ⌜ SoundTable labels (now table) ⌝ }
     requires { ⌜ 68 ≤ length (now out) ⌝ }
     ensures { λ r. ⌜ r ≡ length (disjunctsOf labels (now (table .entry)) operator (label .0) state) ⌝ }
     ensures { λ r. ⌜ now (out .exit)

@@ -6,7 +6,6 @@ use formulas::forwards::count_forwards;
 use formulas::sizes::tree_sizes;
 use halves::half::check_half;
 use labels::label::Labels;
-use labels::label::check_pairs;
 use labels::refusal::Check;
 use labels::refusal::Refusal;
 use tables::check::check_table;
@@ -27,15 +26,22 @@ pub enum Quotient {
 }
 
 // Writes the quotient of a question by a half run of a table: 4, the table's numbers, 9 and 10, 15, then 17 and 18.
-pub fn divide(k: u8, table: &[u8], half: &[u8], question: &[u8], out: &mut [u8]) -> Quotient
-    ensures { λ r. ⌜ r ≡ answerOf (checkDivision k (now (table .entry)) (now (half .entry)) (now (question .entry)))
-        (quotientBy k (now (table .entry)) (halfOf (now (half .entry))) (now (question .entry)))
+pub fn divide(
+    labels: Labels,
+    table: &[u8],
+    half: &[u8],
+    question: &[u8],
+    out: &mut [u8],
+) -> Quotient
+    ensures { λ r.
+        ⌜ r ≡ answerOf (checkDivision labels (now (table .entry)) (now (half .entry)) (now (question .entry)))
+        (quotientBy labels (now (table .entry)) (halfOf (now (half .entry))) (now (question .entry)))
         (length (now (out .entry))) ⌝ }
     ensures { λ r. ⌜ now (out .exit)
-        ≡ outputAfter (checkDivision k (now (table .entry)) (now (half .entry)) (now (question .entry)))
-        (quotientBy k (now (table .entry)) (halfOf (now (half .entry))) (now (question .entry))) (now (out .entry)) ⌝ }
+        ≡ outputAfter (checkDivision labels (now (table .entry)) (now (half .entry)) (now (question .entry)))
+        (quotientBy labels (now (table .entry)) (halfOf (now (half .entry))) (now (question .entry)))
+        (now (out .entry)) ⌝ }
 {
-    let labels = Labels { pairs: k };
     match check_division(labels, table, half, question) {
         Check::Sound => {}
         Check::Refused(refusal) => return Quotient::Refused(refusal),
@@ -45,10 +51,10 @@ pub fn divide(k: u8, table: &[u8], half: &[u8], question: &[u8], out: &mut [u8])
 
 // What a division judges, in order. Where nothing is refused the table is judged once.
 fn check_division(labels: Labels, table: &[u8], half: &[u8], question: &[u8]) -> Check
-    ensures { λ r. ⌜ r ≡ checkDivision (labels .pairs) (now (table .entry)) (now (half .entry))
+    ensures { λ r. ⌜ r ≡ checkDivision labels (now (table .entry)) (now (half .entry))
         (now (question .entry)) ⌝ }
 {
-    match check_pairs(labels.pairs) {
+    match labels.check() {
         Check::Sound => {}
         Check::Refused(refusal) => return Check::Refused(refusal),
     }
@@ -68,15 +74,15 @@ fn write_quotient(
     question: &[u8],
     out: &mut [u8],
 ) -> Quotient
-    requires { ⌜ SoundTable (labels .pairs) (now table) ⌝ }
+    requires { ⌜ SoundTable labels (now table) ⌝ }
     requires { ⌜ isHalfRun (now table) (now half) ≡ true ⌝ }
-    requires { ⌜ Legal (labels .pairs) questionLimit (now question) ⌝ }
+    requires { ⌜ Legal labels questionLimit (now question) ⌝ }
     ensures { λ r. ⌜ r ≡ answerOf Sound
-        (quotientBy (labels .pairs) (now (table .entry)) (halfOf (now (half .entry))) (now (question .entry)))
+        (quotientBy labels (now (table .entry)) (halfOf (now (half .entry))) (now (question .entry)))
         (length (now (out .entry))) ⌝ }
     ensures { λ r. ⌜ now (out .exit)
         ≡ outputAfter Sound
-        (quotientBy (labels .pairs) (now (table .entry)) (halfOf (now (half .entry))) (now (question .entry)))
+        (quotientBy labels (now (table .entry)) (halfOf (now (half .entry))) (now (question .entry)))
         (now (out .entry)) ⌝ }
 {
     let len = half.len();

@@ -23,7 +23,7 @@ pub(crate) fn write_tree(
     f: &[u8],
     out: &mut [u8],
 ) -> usize
-    requires { ⌜ SoundTable (labels .pairs) (now table) ⌝ }
+    requires { ⌜ SoundTable labels (now table) ⌝ }
     requires { ⌜ Ready (now sizes) (now run) len 0 (now f) ⌝ }
     requires { ⌜ length (text labels (now table) (now f) (halfOf (take len (now run)))) ≤ length (now out) ⌝ }
     ensures { λ r. ⌜ r ≡ length (text labels (now (table .entry)) (now (f .entry))
@@ -62,7 +62,7 @@ fn write_modal(
     f: &[u8],
     out: &mut [u8],
 ) -> usize
-    requires { ⌜ SoundTable (labels .pairs) (now table) ⌝ }
+    requires { ⌜ SoundTable labels (now table) ⌝ }
     requires { ⌜ Ready (now sizes) (now run) len 0 (now f) ⌝ }
     requires { ⌜ 5 ≤ getD (now f) 0 0 ⌝ }
     requires { ⌜ length (text labels (now table) (now f) (halfOf (take len (now run)))) ≤ length (now out) ⌝ }
@@ -104,7 +104,7 @@ fn write_forward(
     f: &[u8],
     out: &mut [u8],
 ) -> usize
-    requires { ⌜ SoundTable (labels .pairs) (now table) ⌝ }
+    requires { ⌜ SoundTable labels (now table) ⌝ }
     requires { ⌜ Ready (now sizes) (now run) len 0 (now f) ⌝ }
     requires { ⌜ Forward (getD (now f) 0 0) ⌝ }
     requires { ⌜ length (text labels (now table) (now f) (halfOf (take len (now run)))) ≤ length (now out) ⌝ }
@@ -146,7 +146,7 @@ fn write_disjuncts(
     f: &[u8],
     out: &mut [u8],
 ) -> usize
-    requires { ⌜ SoundTable (labels .pairs) (now table) ⌝ }
+    requires { ⌜ SoundTable labels (now table) ⌝ }
     requires { ⌜ Ready (now sizes) (now run) len 1 (now f) ⌝ }
     requires { ⌜ Listed (getD (now run) (len - 1) 0) (now disjuncts) ⌝ }
     requires { ⌜ length (texts labels (now table) (now f) (halfOf (take len (now run))) (now disjuncts)) ≤ length
@@ -188,7 +188,7 @@ fn write_disjunct(
     f: &[u8],
     out: &mut [u8],
 ) -> usize
-    requires { ⌜ SoundTable (labels .pairs) (now table) ⌝ }
+    requires { ⌜ SoundTable labels (now table) ⌝ }
     requires { ⌜ Ready (now sizes) (now run) len 1 (now f) ⌝ }
     requires { ⌜ Listed (getD (now run) (len - 1) 0) (now disjuncts) ⌝ }
     requires { ⌜ length (firstText labels (now table) (now f) (halfOf (take len (now run))) (now disjuncts)) ≤ length

@@ -11,6 +11,7 @@ use lib.Dec.{eqb}
 use Rattle.labels.specs.Refusals.{Answer}
 use Rattle.labels.proofs.Answers.{Within, within-at}
 use Rattle.labels.proofs.Slices.{no-bytes}
+use Rattle.labels.specs.declared.label.Labels.{Labels}
 use Rattle.halves.specs.Cuts.{beyond, cutOf, knownOf, knownPart}
 use Rattle.halves.specs.declared.side.Side.{Side}
 use Rattle.halves.proofs.Cuts.{refused-empty}
@@ -74,39 +75,41 @@ casebook-read-apart s = apart nothing _ (omega arith)
 pub casebook-part-apart : (s : List ℕ) → Bytes s → (kind : ℕ) → Apart (placeIn kind) (readAnswer (readOf s))
 casebook-part-apart s bytes kind = apart (placeIn kind) _ (places-small kind _ (read-within s bytes))
 
-pub casebook-write-apart : (k : ℕ) (l r j q : List ℕ) (room : ℕ) → Apart only (writeAnswer (writeOf k l r j q room))
+pub casebook-write-apart : (k : Labels) (l r j q : List ℕ) (room : ℕ)
+    → Apart only (writeAnswer (writeOf k l r j q room))
 casebook-write-apart k l r j q room = only-apart _ (write-within k l r j q room) (omega arith)
 
 -- of verdicts
-pub joint-verdict-apart : (k : ℕ) (l r s f : List ℕ) (point : ℕ)
+pub joint-verdict-apart : (k : Labels) (l r s f : List ℕ) (point : ℕ)
     → Apart only (verdictAnswer (jointVerdict k l r s f point))
 joint-verdict-apart k l r s f point = only-apart _ (verdict-within _) (omega arith)
 
-pub half-verdict-apart : (k : ℕ) (t s f : List ℕ) (point : ℕ) → Apart only (verdictAnswer (halfVerdict k t s f point))
+pub half-verdict-apart : (k : Labels) (t s f : List ℕ) (point : ℕ)
+    → Apart only (verdictAnswer (halfVerdict k t s f point))
 half-verdict-apart k t s f point = only-apart _ (verdict-within _) (omega arith)
 
 -- of splittings and joins
-pub count-apart : (k : ℕ) (l r s : List ℕ) → Apart only (countAnswer (countOf k l r s))
+pub count-apart : (k : Labels) (l r s : List ℕ) → Apart only (countAnswer (countOf k l r s))
 unfolding splittingLimit
 count-apart k l r s = only-apart _ (count-within k l r s) (omega arith)
 
-pub split-apart : (k : ℕ) (l r s : List ℕ) (n a b : ℕ) → Apart only (splitAnswer (splitOf k l r s n a b))
+pub split-apart : (k : Labels) (l r s : List ℕ) (n a b : ℕ) → Apart only (splitAnswer (splitOf k l r s n a b))
 split-apart k l r s n a b = only-apart _ (split-within k l r s n a b) (omega arith)
 
-pub join-apart : (k : ℕ) (l r a b : List ℕ) (room : ℕ) → Apart only (joinAnswer (joiningOf k l r a b room))
+pub join-apart : (k : Labels) (l r a b : List ℕ) (room : ℕ) → Apart only (joinAnswer (joiningOf k l r a b room))
 join-apart k l r a b room = only-apart _ (join-within k l r a b room) (omega arith)
 
 -- of quotients, and the line office
-pub quotient-apart : (k : ℕ) (l r a b f : List ℕ) (side : Side) (point room : ℕ)
+pub quotient-apart : (k : Labels) (l r a b f : List ℕ) (side : Side) (point room : ℕ)
     → Apart only (quotientAnswer (byHalf k l r a b f side point room))
 quotient-apart k l r a b f side point room = only-apart _ (half-within k l r a b f side point room) (omega arith)
 
-pub quotient-of-splitting-apart : (k : ℕ) (l r s f : List ℕ) (n : ℕ) (side : Side) (point room : ℕ)
+pub quotient-of-splitting-apart : (k : Labels) (l r s f : List ℕ) (n : ℕ) (side : Side) (point room : ℕ)
     → Apart only (quotientAnswer (byNumber k l r s f n side point room))
 quotient-of-splitting-apart k l r s f n side point room =
     only-apart _ (number-within k l r s f n side point room) (omega arith)
 
-pub line-office-apart : (k : ℕ) (l r a b f : List ℕ) (side : Side) (point : ℕ)
+pub line-office-apart : (k : Labels) (l r a b f : List ℕ) (side : Side) (point : ℕ)
     → Apart twoBits (lineAnswer (officeOf k l r a b f side point))
 line-office-apart k l r a b f side point = bits-apart _ (line-within _)
 

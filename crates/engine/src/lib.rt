@@ -13,6 +13,7 @@ use halves::side::Side;
 use halves::side::cut;
 use joining::join::Joining;
 use joining::join::join;
+use labels::label::Labels;
 use labels::refusal::Refusal;
 use quotient::half::by_half;
 use quotient::line::LineOffice;
@@ -28,6 +29,7 @@ use verdict::joint::joint;
 ghost use mathlib.Core.Path.{_≡_};
 ghost use Prim.Native.Nat.{_+_, _*_, _≤_};
 ghost use lib.ListN.{length};
+ghost use Rattle.labels.specs.Labels.{ofPairs};
 ghost use Rattle.labels.specs.Refusals.{refusedAs};
 ghost use Rattle.halves.specs.Cuts.{cutOf};
 ghost use Rattle.casebook.specs.Reading.{readOf, readAnswer};
@@ -112,13 +114,14 @@ pub extern "C" fn yenuslap_casebook_write(
     out: &mut [u8],
 ) -> u64
     ensures { λ r. ⌜ r ≡ packed only (writeAnswer
-        (writeOf k (now (left .entry)) (now (right .entry)) (now (run .entry)) (now (question .entry))
+        (writeOf (ofPairs k) (now (left .entry)) (now (right .entry)) (now (run .entry)) (now (question .entry))
         (length (now (out .entry))))) ⌝ }
     ensures { λ r. ⌜ now (out .exit) ≡
-        writtenOf k (now (left .entry)) (now (right .entry)) (now (run .entry)) (now (question .entry))
+        writtenOf (ofPairs k) (now (left .entry)) (now (right .entry)) (now (run .entry)) (now (question .entry))
         (now (out .entry)) ⌝ }
 {
-    match write(k, left, right, run, question, out) {
+    let labels = Labels::of_pairs(k);
+    match write(labels, left, right, run, question, out) {
         Writing::Written(n) => n as u64,
         Writing::Refused(refusal) => refused(refusal),
     }
@@ -168,9 +171,11 @@ pub extern "C" fn yenuslap_joint_verdict(
     point: usize,
 ) -> u64
     ensures { λ r. ⌜ r ≡ packed only (verdictAnswer
-        (jointVerdict k (now (left .entry)) (now (right .entry)) (now (run .entry)) (now (formula .entry)) point)) ⌝ }
+        (jointVerdict (ofPairs k) (now (left .entry)) (now (right .entry)) (now (run .entry)) (now (formula .entry))
+        point)) ⌝ }
 {
-    verdict_value(joint(k, left, right, run, formula, point))
+    let labels = Labels::of_pairs(k);
+    verdict_value(joint(labels, left, right, run, formula, point))
 }
 
 // Judges a formula on a half run stopped at a point: value 1 holds, 0 fails.
@@ -183,18 +188,20 @@ pub extern "C" fn yenuslap_half_verdict(
     point: usize,
 ) -> u64
     ensures { λ r. ⌜ r ≡ packed only (verdictAnswer
-        (halfVerdict k (now (table .entry)) (now («half_run» .entry)) (now (formula .entry)) point)) ⌝ }
+        (halfVerdict (ofPairs k) (now (table .entry)) (now («half_run» .entry)) (now (formula .entry)) point)) ⌝ }
 {
-    verdict_value(half(k, table, half_run, formula, point))
+    let labels = Labels::of_pairs(k);
+    verdict_value(half(labels, table, half_run, formula, point))
 }
 
 // How many splittings a joint run has: value count.
 #[no_mangle]
 pub extern "C" fn yenuslap_count_splittings(k: u8, left: &[u8], right: &[u8], run: &[u8]) -> u64
     ensures { λ r. ⌜ r ≡ packed only (countAnswer
-        (countOf k (now (left .entry)) (now (right .entry)) (now (run .entry)))) ⌝ }
+        (countOf (ofPairs k) (now (left .entry)) (now (right .entry)) (now (run .entry)))) ⌝ }
 {
-    match count(k, left, right, run) {
+    let labels = Labels::of_pairs(k);
+    match count(labels, left, right, run) {
         Counted::Splittings(n) => n as u64,
         Counted::Refused(refusal) => refused(refusal),
     }
@@ -212,16 +219,17 @@ pub extern "C" fn yenuslap_split(
     right_out: &mut [u8],
 ) -> u64
     ensures { λ r. ⌜ r ≡ packed only (splitAnswer
-        (splitOf k (now (left .entry)) (now (right .entry)) (now (run .entry)) number
+        (splitOf (ofPairs k) (now (left .entry)) (now (right .entry)) (now (run .entry)) number
         (length (now («left_out» .entry))) (length (now («right_out» .entry))))) ⌝ }
     ensures { λ r. ⌜ now («left_out» .exit) ≡
-        leftOutput k (now (left .entry)) (now (right .entry)) (now (run .entry)) number
+        leftOutput (ofPairs k) (now (left .entry)) (now (right .entry)) (now (run .entry)) number
         (now («left_out» .entry)) (length (now («right_out» .entry))) ⌝ }
     ensures { λ r. ⌜ now («right_out» .exit) ≡
-        rightOutput k (now (left .entry)) (now (right .entry)) (now (run .entry)) number
+        rightOutput (ofPairs k) (now (left .entry)) (now (right .entry)) (now (run .entry)) number
         (length (now («left_out» .entry))) (now («right_out» .entry)) ⌝ }
 {
-    match split(k, left, right, run, number, left_out, right_out) {
+    let labels = Labels::of_pairs(k);
+    match split(labels, left, right, run, number, left_out, right_out) {
         Splitting::Halves(n) => n as u64,
         Splitting::Refused(refusal) => refused(refusal),
     }
@@ -238,13 +246,14 @@ pub extern "C" fn yenuslap_join(
     out: &mut [u8],
 ) -> u64
     ensures { λ r. ⌜ r ≡ packed only (joinAnswer
-        (joiningOf k (now (left .entry)) (now (right .entry))
+        (joiningOf (ofPairs k) (now (left .entry)) (now (right .entry))
         (now («left_half» .entry)) (now («right_half» .entry)) (length (now (out .entry))))) ⌝ }
     ensures { λ r. ⌜ now (out .exit) ≡
-        joinOutput k (now (left .entry)) (now (right .entry))
+        joinOutput (ofPairs k) (now (left .entry)) (now (right .entry))
         (now («left_half» .entry)) (now («right_half» .entry)) (now (out .entry)) ⌝ }
 {
-    match join(k, left, right, left_half, right_half, out) {
+    let labels = Labels::of_pairs(k);
+    match join(labels, left, right, left_half, right_half, out) {
         Joining::Joined(n) => n as u64,
         Joining::Refused(refusal) => refused(refusal),
     }
@@ -274,15 +283,18 @@ pub extern "C" fn yenuslap_quotient<'a>(
     out: &mut [u8],
 ) -> u64
     ensures { λ r. ⌜ r ≡ packed only (quotientAnswer
-        (byHalf k (now (left .entry)) (now (right .entry)) (now («left_half» .entry)) (now («right_half» .entry))
+        (byHalf (ofPairs k) (now (left .entry)) (now (right .entry)) (now («left_half» .entry))
+        (now («right_half» .entry))
         (now (question .entry)) (sideOf side) point (length (now (out .entry))))) ⌝ }
     ensures { λ r. ⌜ now (out .exit) ≡
-        byHalfOutput k (now (left .entry)) (now (right .entry)) (now («left_half» .entry)) (now («right_half» .entry))
+        byHalfOutput (ofPairs k) (now (left .entry)) (now (right .entry)) (now («left_half» .entry))
+        (now («right_half» .entry))
         (now (question .entry)) (sideOf side) point (now (out .entry)) ⌝ }
 {
+    let labels = Labels::of_pairs(k);
     let side = side_of(side);
     quotient_value(by_half(
-        k,
+        labels,
         left,
         right,
         left_half,
@@ -309,14 +321,16 @@ pub extern "C" fn yenuslap_quotient_of_splitting<'a>(
     out: &mut [u8],
 ) -> u64
     ensures { λ r. ⌜ r ≡ packed only (quotientAnswer
-        (byNumber k (now (left .entry)) (now (right .entry)) (now (run .entry)) (now (question .entry)) number
+        (byNumber (ofPairs k) (now (left .entry)) (now (right .entry)) (now (run .entry)) (now (question .entry)) number
         (sideOf side) point (length (now (out .entry))))) ⌝ }
     ensures { λ r. ⌜ now (out .exit) ≡
-        byNumberOutput k (now (left .entry)) (now (right .entry)) (now (run .entry)) (now (question .entry)) number
+        byNumberOutput (ofPairs k) (now (left .entry)) (now (right .entry)) (now (run .entry)) (now (question .entry))
+        number
         (sideOf side) point (now (out .entry)) ⌝ }
 {
+    let labels = Labels::of_pairs(k);
     let side = side_of(side);
-    quotient_value(by_number(k, left, right, run, question, number, side, point, out))
+    quotient_value(by_number(labels, left, right, run, question, number, side, point, out))
 }
 
 // A verdict as a bit.
@@ -342,11 +356,22 @@ pub extern "C" fn yenuslap_line_office<'a>(
     point: usize,
 ) -> u64
     ensures { λ r. ⌜ r ≡ packed twoBits (lineAnswer
-        (officeOf k (now (left .entry)) (now (right .entry)) (now («left_half» .entry)) (now («right_half» .entry))
+        (officeOf (ofPairs k) (now (left .entry)) (now (right .entry)) (now («left_half» .entry))
+        (now («right_half» .entry))
         (now (question .entry)) (sideOf side) point)) ⌝ }
 {
+    let labels = Labels::of_pairs(k);
     let side = side_of(side);
-    match line_office(k, left, right, left_half, right_half, question, side, point) {
+    match line_office(
+        labels,
+        left,
+        right,
+        left_half,
+        right_half,
+        question,
+        side,
+        point,
+    ) {
         LineOffice::Verdicts(line, machine) => 2 * bit(line) + bit(machine),
         LineOffice::Refused(refusal) => refused(refusal),
     }

@@ -11,13 +11,14 @@ use borrow.Author.Tests.{le-leb, lt-leb, leb-true}
 use Rattle.hml.proofs.Tests.{apart, both-true, decided-true}
 use Rattle.hml.specs.Lists.{present}
 use Rattle.hml.specs.Formula.{Formula, size, nesting, labelled}
-use Rattle.hml.specs.Labels.{count}
+use Rattle.labels.specs.Labels.{count}
 use Rattle.hml.specs.Spell.{spell, parse}
 use Rattle.hml.proofs.Spelling.{length-spell, parse-spell, parse-sound}
 use Rattle.labels.specs.Refusals.{firstOf, refusedIf}
 use Rattle.labels.specs.declared.refusal.Check.the-variants.{Sound, Refused}
 use Rattle.labels.specs.declared.refusal.Refusal.the-variants.{NotATree, NestedTooDeep}
 use Rattle.labels.proofs.Refusals.{Judges, judged-iff, judged-unless, judged-then, then-sound}
+use Rattle.labels.specs.declared.label.Labels.{Labels}
 use Rattle.formulas.specs.Formulas.{wholeOf, formulaOf, isFormula, nestsFit, checkFormula, Legal}
 use Rattle.formulas.specs.Working.{endOf, treeEnd, forwardsIn, Tree, treeOf, measureOf, labelsFit}
 use Rattle.formulas.specs.declared.tree.TreeEnd.the-variants as end
@@ -88,7 +89,7 @@ pub tree-of : (f : List ℕ) (φ : Formula) → f ≡ spell φ [] → Tree f
 unfolding Tree
 tree-of f φ e = (φ, [], e)
 
-module _ (k limit : ℕ) (f : List ℕ) where
+module _ (k : Labels) (limit : ℕ) (f : List ℕ) where
   pub over-limit : limit < length f / 2 → Refused NotATree ≡ checkFormula k limit f
   unfolding checkFormula firstOf isFormula
   over-limit h = rw (lt-leb (length f) (2 * limit) (omega (arith, h)))
@@ -136,7 +137,7 @@ module _ (k limit : ℕ) (f : List ℕ) where
           formula-sound h = shallow-sound (omega (arith, nesting-seen))
 
 -- 9 and 10: a formula is accepted exactly if its bytes spell one tree within the limits
-pub judged-formula : (k limit : ℕ) (f : List ℕ) → Judges (Legal k limit f) (checkFormula k limit f)
+pub judged-formula : (k : Labels) (limit : ℕ) (f : List ℕ) → Judges (Legal k limit f) (checkFormula k limit f)
 unfolding checkFormula firstOf isFormula nestsFit Legal
 judged-formula k limit f =
     judged-iff to from
@@ -168,6 +169,6 @@ judged-formula k limit f =
         ) (refl, refl)
 
 -- the reading of a legal formula is its first tree
-pub legal-tree : (k limit : ℕ) (f : List ℕ) → Legal k limit f → formulaOf f ≡ some (treeOf f)
+pub legal-tree : (k : Labels) (limit : ℕ) (f : List ℕ) → Legal k limit f → formulaOf f ≡ some (treeOf f)
 unfolding Legal
 legal-tree k limit f (φ, e, s, l, d) = ap formulaOf e ∙ formula-spell φ ∙ ap some (sym (ap treeOf e ∙ tree-spell φ []))

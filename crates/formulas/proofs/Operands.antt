@@ -8,9 +8,10 @@ use native.Mathlib.Omega.{arith}
 use lib.ListN.{length, getD, drop, length-drop}
 use lib.Seq.{drop-drop}
 use lib.Dec.{eqb}
-use Rattle.hml.specs.Labels.{count}
+use Rattle.labels.specs.Labels.{count}
 use Rattle.hml.specs.Formula.{Formula, and, or, size, nesting, labelled}
 use Rattle.labels.proofs.Slices.{rest, rest-of}
+use Rattle.labels.specs.declared.label.Labels.{Labels}
 use Rattle.formulas.specs.Working.{Tree, treeOf, Part, treeSize, sizesOver}
 use Rattle.formulas.specs.Formulas.{Legal}
 use Rattle.formulas.proofs.Measures.{size-some}
@@ -78,7 +79,7 @@ module _ (sizes f : List ℕ) (p : Part sizes f) where
       operands-are = rw (second-begins, rest-of 2 f) (two .is)
 
 -- a legal formula, with the sizes of its trees, is such a part, and looks ahead four steps at most
-module _ (k limit : ℕ) (f : List ℕ) (legal : Legal k limit f) where
+module _ (k : Labels) (limit : ℕ) (f : List ℕ) (legal : Legal k limit f) where
   pub legal-part : (sizes : List ℕ) → limit ≤ length sizes → Part (sizesOver f sizes) f
   unfolding Legal Tree
   legal-part sizes h =

@@ -10,10 +10,11 @@ use lib.Dec.{leb}
 use Rattle.hml.specs.Lists.{present}
 use Rattle.hml.specs.Formula.{Formula, size, nesting, labelled}
 use Rattle.hml.specs.Spell.{spell, parse}
-use Rattle.hml.specs.Labels.{count}
+use Rattle.labels.specs.Labels.{count}
 use Rattle.labels.specs.Refusals.{refusedIf, firstOf}
 use Rattle.labels.specs.declared.refusal.Check.{Check}
 use Rattle.labels.specs.declared.refusal.Refusal.the-variants.{NotATree, NestedTooDeep}
+use Rattle.labels.specs.declared.label.Labels.{Labels}
 
 -- the reading: the tree that the bytes spell, if they are one whole tree
 unfoldable pub wholeOf : Option (Formula × List ℕ) → Option Formula
@@ -32,13 +33,13 @@ abbrev pub quotientLimit : ℕ
 quotientLimit = 4096
 
 -- what it is for bytes to be a formula of a call: they spell one tree, of at most `limit` nodes, whose labels are those
--- of k pairs and whose forward modalities nest at most 4 deep
-unfoldable pub Legal : ℕ → ℕ → List ℕ → Type 0
+-- of the call and whose forward modalities nest at most 4 deep
+unfoldable pub Legal : Labels → ℕ → List ℕ → Type 0
 Legal k limit f = (φ : Formula) × (f ≡ spell φ []) × (size φ ≤ limit) × (labelled (count k) φ ≡ true) × (nesting φ ≤ 4)
 
 -- the same as two tests. 9: "formula not one whole tree, operator over 8, label over 2k, or a label byte set where none
 -- belongs", "9 also for an unfit length or over the node limit"
-unfoldable pub isFormula : ℕ → ℕ → List ℕ → Bool
+unfoldable pub isFormula : Labels → ℕ → List ℕ → Bool
 isFormula k limit f = leb (length f) (2 * limit) && present (labelled (count k)) (formulaOf f)
 
 -- 10: "forward nesting over 4"
@@ -46,6 +47,6 @@ unfoldable pub nestsFit : List ℕ → Bool
 nestsFit f = present (λ φ. leb (nesting φ) 4) (formulaOf f)
 
 -- "10: .. after 9"
-unfoldable pub checkFormula : ℕ → ℕ → List ℕ → Check
+unfoldable pub checkFormula : Labels → ℕ → List ℕ → Check
 checkFormula k limit f =
     firstOf (refusedIf (not (isFormula k limit f)) NotATree ∷ refusedIf (not (nestsFit f)) NestedTooDeep ∷ [])

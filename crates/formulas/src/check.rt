@@ -8,13 +8,13 @@ use labels::label::Labels;
 use labels::refusal::Check;
 use labels::refusal::Refusal;
 ghost use mathlib.Core.Path.{_≡_};
-ghost use Rattle.hml.specs.Labels.{count};
+ghost use Rattle.labels.specs.Labels.{count};
 ghost use Rattle.formulas.specs.Formulas.{checkFormula};
 ghost use Rattle.formulas.specs.Working.{labelsFit};
 
 // The check of a formula of at most `limit` nodes.
 pub fn check_formula(labels: Labels, limit: usize, f: &[u8]) -> Check
-    ensures { λ r. ⌜ r ≡ checkFormula (labels .pairs) limit (now (f .entry)) ⌝ }
+    ensures { λ r. ⌜ r ≡ checkFormula labels limit (now (f .entry)) ⌝ }
 {
     let n = f.len();
     if limit < n / 2 {
@@ -44,7 +44,7 @@ pub fn check_formula(labels: Labels, limit: usize, f: &[u8]) -> Check
 
 // Is each label byte a label of the call?
 fn labels_fit(labels: Labels, f: &[u8]) -> bool
-    ensures { λ r. ⌜ r ≡ labelsFit (count (labels .pairs)) (now (f .entry)) ⌝ }
+    ensures { λ r. ⌜ r ≡ labelsFit (count labels) (now (f .entry)) ⌝ }
 {
     let mut rest = f;
     while 2 <= rest.len() {

@@ -13,7 +13,6 @@ use halves::step::StepRead;
 use halves::step::step_at;
 use labels::label::Label;
 use labels::label::Labels;
-use labels::label::check_pairs;
 use labels::refusal::Check;
 use labels::refusal::Refusal;
 use tables::check::check_table;
@@ -23,9 +22,8 @@ use tables::row::Row;
 use tables::row::RowRead;
 use tables::row::row_at;
 
-// Is the label silent, an idle, its partner; then among the labels of k: the highest, is it one, its partner.
-pub(crate) fn put_label(line: &mut [u8], k: u8, label: Label) -> usize {
-    let labels = Labels { pairs: k };
+// Is the label silent, an idle, its partner; then among these labels: the highest, is it one, its partner.
+pub(crate) fn put_label(line: &mut [u8], labels: Labels, label: Label) -> usize {
     let silent = put_bool(line, 0, label.is_silent());
     let idle = put_bool(line, silent, label.is_idle());
     let partner = put_partner(line, idle, label.partner());
@@ -34,9 +32,8 @@ pub(crate) fn put_label(line: &mut [u8], k: u8, label: Label) -> usize {
     put_partner(line, has, labels.partner(label))
 }
 
-// The partner of each byte among the labels of k.
-pub(crate) fn put_partners(line: &mut [u8], k: u8) -> usize {
-    let labels = Labels { pairs: k };
+// The partner of each byte among these labels.
+pub(crate) fn put_partners(line: &mut [u8], labels: Labels) -> usize {
     let mut at = 0;
     let mut code: usize = 0;
     while code < 256 {
@@ -78,9 +75,9 @@ pub(crate) fn put_then(line: &mut [u8], x: u8, y: u8) -> usize {
     put_check(line, second, refusal_of(x).then(refusal_of(y)))
 }
 
-// A check's number where k is looked at first, as in a call that takes k; then the check's own number.
-pub(crate) fn put_call(line: &mut [u8], k: u8, check: Check) -> usize {
-    let at = put_check(line, 0, check_pairs(k).then(check));
+// A check's number where the labels are judged first, as in a call that takes them; then the check's own number.
+pub(crate) fn put_call(line: &mut [u8], labels: Labels, check: Check) -> usize {
+    let at = put_check(line, 0, labels.check().then(check));
     put_check(line, at, check)
 }
 
@@ -102,16 +99,16 @@ fn put_found(line: &mut [u8], row: Row) -> usize {
 }
 
 // The rows that leave a state of a sound table; R and its number for a refused one.
-pub(crate) fn put_leaving(line: &mut [u8], k: u8, table: &[u8], state: u8) -> usize {
-    match check_table(Labels { pairs: k }, table) {
+pub(crate) fn put_leaving(line: &mut [u8], labels: Labels, table: &[u8], state: u8) -> usize {
+    match check_table(labels, table) {
         Check::Sound => return put_bytes(line, rows_leaving(table, state)),
         Check::Refused(refusal) => return put_refused(line, refusal),
     }
 }
 
 // Whether a sound table has a row; R and its number for a refused one.
-pub(crate) fn put_has(line: &mut [u8], k: u8, table: &[u8], row: Row) -> usize {
-    match check_table(Labels { pairs: k }, table) {
+pub(crate) fn put_has(line: &mut [u8], labels: Labels, table: &[u8], row: Row) -> usize {
+    match check_table(labels, table) {
         Check::Sound => return put_bool(line, 0, has_row(table, row.from, row.label, row.to)),
         Check::Refused(refusal) => return put_refused(line, refusal),
     }

@@ -23,7 +23,6 @@ use halves::half::check_half;
 use halves::side::cut;
 use labels::label::Label;
 use labels::label::Labels;
-use labels::label::check_pairs;
 use libc::STDIN_FILENO;
 use libc::STDOUT_FILENO;
 use line::put_bytes;
@@ -36,11 +35,12 @@ use tables::row::Row;
 
 // The functions of labels, and the side: trials of numbers only.
 fn put_numbers(line: &mut [u8], trial: Trial) -> usize {
+    let labels = Labels::of_pairs(trial.k);
     let code = trial.code;
     match code {
-        0 => return put_check(line, 0, check_pairs(trial.k)),
-        1 => return put_label(line, trial.k, Label(trial.x)),
-        2 => return put_partners(line, trial.k),
+        0 => return put_check(line, 0, labels.check()),
+        1 => return put_label(line, labels, Label(trial.x)),
+        2 => return put_partners(line, labels),
         10 => return put_known(line, side_of(trial.x)),
         11 => return put_then(line, trial.x, trial.y),
         _ => return put_mark(line, 0, b'?'),
@@ -55,16 +55,16 @@ fn put_answer<'a>(
     right: &'a [u8],
     run: &[u8],
 ) -> usize {
-    let labels = Labels { pairs: trial.k };
+    let labels = Labels::of_pairs(trial.k);
     let i = number(trial.y, trial.z);
     let code = trial.code;
     match code {
-        3 => return put_call(line, trial.k, check_table(labels, left)),
+        3 => return put_call(line, labels, check_table(labels, left)),
         4 => return put_row(line, left, i),
-        5 => return put_leaving(line, trial.k, left, trial.x),
+        5 => return put_leaving(line, labels, left, trial.x),
         6 => return put_has(
             line,
-            trial.k,
+            labels,
             left,
             Row {
                 from: trial.x,
@@ -72,10 +72,10 @@ fn put_answer<'a>(
                 to: trial.z,
             },
         ),
-        7 => return put_call(line, trial.k, check_half(labels, left, run)),
+        7 => return put_call(line, labels, check_half(labels, left, run)),
         8 => return put_step(line, run, i),
         9 => return put_bytes(line, cut(left, right, side_of(trial.x), i)),
-        12 => return put_call(line, trial.k, check_joint(labels, left, right, run)),
+        12 => return put_call(line, labels, check_joint(labels, left, right, run)),
         _ => return put_numbers(line, trial),
     }
 }

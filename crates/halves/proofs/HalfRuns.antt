@@ -22,6 +22,7 @@ use Rattle.halves.specs.Halves.{checkTableAndHalf}
 use Rattle.labels.specs.Refusals.{firstOf}
 use Rattle.labels.specs.declared.refusal.Refusal.the-variants.{NotARun}
 use Rattle.labels.proofs.Refusals.{Judges, judged-unless, judged-next, then-sound}
+use Rattle.labels.specs.declared.label.Labels.{Labels}
 use Rattle.tables.proofs.SoundTables.{judged-table, no-idle-label}
 use Rattle.tables.proofs.Chunks.{Chunked, less, chunk, Chunks, chunks-take, chunks-read, chunks-append}
 use Rattle.tables.proofs.Rows.{hasMove-decides}
@@ -151,12 +152,13 @@ half-stopped t (p ∷ bs) n e =
 
 -- 15: beside a sound table, a half is accepted exactly if its bytes spell a run of the table, of at most 200 steps,
 -- from one of its states
-pub judged-half : (k : ℕ) (t s : List ℕ) → SoundTable k t → Judges (HalfRun t s) (checkHalf t s)
+pub judged-half : (k : Labels) (t s : List ℕ) → SoundTable k t → Judges (HalfRun t s) (checkHalf t s)
 unfolding checkHalf
 judged-half k t s sound = judged-unless NotARun (half-decides t s (no-idle-label sound))
 
 -- a table and a half of it are accepted exactly if each is sound
-pub judged-table-and-half : (k : ℕ) (t s : List ℕ) → Judges (SoundTable k t × HalfRun t s) (checkTableAndHalf k t s)
+pub judged-table-and-half : (k : Labels) (t s : List ℕ)
+    → Judges (SoundTable k t × HalfRun t s) (checkTableAndHalf k t s)
 unfolding checkTableAndHalf firstOf
 judged-table-and-half k t s =
     judged-next (judged-table k t) (λ sound. rw (then-sound (checkHalf t s)) (judged-half k t s sound))

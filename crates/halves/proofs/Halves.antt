@@ -25,6 +25,7 @@ use Rattle.halves.specs.Halves.{twos, stepFits, isHalfRun, checkHalf, ch
 use Rattle.labels.specs.declared.refusal.Refusal.{Refusal}
 use Rattle.labels.specs.declared.refusal.Refusal.the-variants.{NotARun}
 use Rattle.labels.specs.declared.refusal.Check.the-variants.{Sound, Refused}
+use Rattle.labels.specs.declared.label.Labels.{Labels}
 
 -- one step, as it is held
 module _ (M : System ℕ) (p q : ℕ) (x : Step) where
@@ -119,7 +120,7 @@ module _ (t s : List ℕ) where
                 ∙ passed (stepFits (tableOf t)) (getD s (2 * i) 0) (next-two s i there) w (fitsHere ∙ n)
 
 -- a table and a half of it
-module _ (k : ℕ) (t s : List ℕ) where
+module _ (k : Labels) (t s : List ℕ) where
   pub table-refused : (r : Refusal) → checkTable k t ≡ Refused r → Refused r ≡ checkTableAndHalf k t s
   unfolding checkTableAndHalf firstOf
   table-refused r e = rw e

@@ -12,6 +12,7 @@ use Rattle.tables.specs.Tables.{statesOf, tableOf, hasMove, checkTable}
 use Rattle.halves.specs.Runs.{written, lengthened, goOn}
 use Rattle.labels.specs.declared.refusal.Check.{Check}
 use Rattle.labels.specs.declared.refusal.Refusal.the-variants.{NotARun}
+use Rattle.labels.specs.declared.label.Labels.{Labels}
 
 -- a half run as bytes: "the state, then label and target for each step"
 unfoldable pub halfBytes : Run ℕ → List ℕ
@@ -47,5 +48,5 @@ unfoldable pub checkHalf : List ℕ → List ℕ → Check
 checkHalf t s = refusedIf (not (isHalfRun t s)) NotARun
 
 -- the check of a table and a half of it
-unfoldable pub checkTableAndHalf : ℕ → List ℕ → List ℕ → Check
+unfoldable pub checkTableAndHalf : Labels → List ℕ → List ℕ → Check
 checkTableAndHalf k t s = firstOf (checkTable k t ∷ checkHalf t s ∷ [])

@@ -15,7 +15,7 @@ ghost use Rattle.halves.specs.Working.{readFits};
 
 // The check of a table and of a half run of it: the table's numbers, then 15.
 pub fn check_half(labels: Labels, table: &[u8], half: &[u8]) -> Check
-    ensures { λ r. ⌜ r ≡ checkTableAndHalf (labels .pairs) (now (table .entry)) (now (half .entry)) ⌝ }
+    ensures { λ r. ⌜ r ≡ checkTableAndHalf labels (now (table .entry)) (now (half .entry)) ⌝ }
 {
     match check_table(labels, table) {
         Check::Sound => {}

@@ -9,7 +9,7 @@ use Rattle.hml.specs.System.{System, start}
 use Rattle.hml.specs.Formula.{top, fwd}
 use Rattle.hml.specs.Quotient.{quotient}
 use Rattle.hml.specs.Spell.{spell}
-use Rattle.hml.specs.Labels.{pairs, partnerAmong, partnerOf, count}
+use Rattle.hml.specs.Labels.{pairs, partnerAmong, partnerOf, highest}
 use Rattle.hml.specs.Machine.{machine}
 
 -- case A's right machine
@@ -19,5 +19,5 @@ rightA = machine ((0, 2, 1) ∷ (0, 4, 1) ∷ [])
 -- "point 0, forward by 0 over true: T, 04000500000004000501000005030000"
 forward0 : spell (quotient (pairs 2) rightA (fwd 0 top) (start 0)) []
     ≡ 4 ∷ 0 ∷ 5 ∷ 0 ∷ 0 ∷ 0 ∷ 4 ∷ 0 ∷ 5 ∷ 1 ∷ 0 ∷ 0 ∷ 5 ∷ 3 ∷ 0 ∷ 0 ∷ []
-unfolding spell quotient machine pairs partnerAmong partnerOf count only
+unfolding spell quotient machine pairs partnerAmong partnerOf highest only
 forward0 = refl

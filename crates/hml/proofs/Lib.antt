@@ -23,8 +23,7 @@ pub mod NewestSteps
 pub mod Line
 -- a machine beside one that never moves: the verdict on its run is the joint one
 pub mod Alone
--- formulas as bytes, labels
+-- formulas as bytes
 pub mod Spelling
-pub mod Labels
 -- the published case that stops an edit which no theorem here stops
 pub mod Cases

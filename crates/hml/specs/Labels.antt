@@ -12,8 +12,8 @@ use borrow.Author.Tests.{eq-eqb, ne-eqb, eqb-true, eqb-false, le-leb, leb-true}
 use Rattle.hml.specs.System.{Pairing}
 
 -- the highest label of k pairs. 255 marks an idle and is never a label, so there is none above 254, whatever k is
-unfoldable pub count : ℕ → ℕ
-count k = min (2 * k) 254
+unfoldable pub highest : ℕ → ℕ
+highest k = min (2 * k) 254
 
 -- the partner of a label: of an odd one the next number, of an even one (from 2) the number before, of 0 nobody
 unfoldable pub partnerOf : ℕ → Option ℕ
@@ -21,11 +21,11 @@ partnerOf a = cond (eqb a 0) none (some (cond (eqb (a % 2) 1) (a + 1) (a - 1)))
 
 -- the partner among the labels of k pairs: what is no label of theirs has none
 unfoldable pub partnerAmong : ℕ → ℕ → Option ℕ
-partnerAmong k a = cond (leb a (count k)) (partnerOf a) none
+partnerAmong k a = cond (leb a (highest k)) (partnerOf a) none
 
 pub silent-alone : (k : ℕ) → partnerAmong k 0 ≡ none
 unfolding partnerAmong partnerOf
-silent-alone k = rw (le-leb 0 (count k) (omega arith))
+silent-alone k = rw (le-leb 0 (highest k) (omega arith))
 
 -- what it means for a number that a test of it failed
 pub positive : (a : ℕ) → (a ≡ 0 → ⊥) → 1 ≤ a
@@ -40,36 +40,36 @@ even-of a n = go (a % 2) (omega arith) n
     go (suc zero) h n = absurd (n refl)
     go (suc (suc m)) h n = absurd (omega (arith, h))
 
-even-count : (k : ℕ) → count k % 2 ≡ 0
-unfolding count
-even-count k = omega arith
+even-highest : (k : ℕ) → highest k % 2 ≡ 0
+unfolding highest
+even-highest k = omega arith
 
 no-partner : {b : ℕ} → none ≡ some b → ⊥
 no-partner e = let z : _≡_ {A = ℕ} 0 1 = cc in omega arith
 
 -- a label and its partner are labels of the k pairs, from 1 on, and have each other
 pub partners : (k a b : ℕ) → partnerAmong k a ≡ some b
-    → (1 ≤ a) × (a ≤ count k) × (1 ≤ b) × (b ≤ count k) × (partnerAmong k b ≡ some a)
+    → (1 ≤ a) × (a ≤ highest k) × (1 ≤ b) × (b ≤ highest k) × (partnerAmong k b ≡ some a)
 unfolding partnerAmong partnerOf
-partners k a b e = go (leb a (count k)) (eqb a 0) (eqb (a % 2) 1) refl refl refl e
+partners k a b e = go (leb a (highest k)) (eqb a 0) (eqb (a % 2) 1) refl refl refl e
   where
-    go : (t z o : Bool) → leb a (count k) ≡ t → eqb a 0 ≡ z → eqb (a % 2) 1 ≡ o
+    go : (t z o : Bool) → leb a (highest k) ≡ t → eqb a 0 ≡ z → eqb (a % 2) 1 ≡ o
         → cond t (cond z none (some (cond o (a + 1) (a - 1)))) none ≡ some b
-        → (1 ≤ a) × (a ≤ count k) × (1 ≤ b) × (b ≤ count k) × (partnerAmong k b ≡ some a)
+        → (1 ≤ a) × (a ≤ highest k) × (1 ≤ b) × (b ≤ highest k) × (partnerAmong k b ≡ some a)
     go false z o h n p e = absurd (no-partner e)
     go true true o h n p e = absurd (no-partner e)
     go true false true h n p e =
         let q : a + 1 ≡ b = cc in
-        let l = leb-true a (count k) h in
+        let l = leb-true a (highest k) h in
         let m = eqb-true (a % 2) 1 p in
-        let c : a + 1 ≤ count k = omega (arith, l, m, even-count k) in
+        let c : a + 1 ≤ highest k = omega (arith, l, m, even-highest k) in
         rw (← q) (
           omega (arith, m),
           l,
           omega arith,
           c,
           rw (
-            le-leb (a + 1) (count k) c,
+            le-leb (a + 1) (highest k) c,
             ne-eqb (a + 1) 0 (λ z. omega (arith, z)),
             ne-eqb ((a + 1) % 2) 1 (λ z. omega (arith, m, z)),
           )
@@ -77,17 +77,17 @@ partners k a b e = go (leb a (count k)) (eqb a 0) (eqb (a % 2) 1) refl refl refl
         )
     go true false false h n p e =
         let q : a - 1 ≡ b = cc in
-        let l = leb-true a (count k) h in
+        let l = leb-true a (highest k) h in
         let o = positive a (eqb-false a 0 n) in
         let m = even-of a (eqb-false (a % 2) 1 p) in
-        let c : a - 1 ≤ count k = omega (arith, l) in
+        let c : a - 1 ≤ highest k = omega (arith, l) in
         rw (← q) (
           o,
           l,
           omega (arith, o, m),
           c,
           rw (
-            le-leb (a - 1) (count k) c,
+            le-leb (a - 1) (highest k) c,
             ne-eqb (a - 1) 0 (λ z. omega (arith, o, m, z)),
             eq-eqb ((a - 1) % 2) 1 (omega (arith, o, m)),
           )

@@ -9,12 +9,13 @@ use borrow.Author.Tests.{lt-ltb, le-ltb}
 use Rattle.hml.proofs.Tests.{apart}
 use Rattle.hml.specs.System.{last}
 use Rattle.labels.specs.Refusals.{thenOf, firstOf, refusedIf, inFront}
-use Rattle.labels.specs.Labels.{checkPairs}
+use Rattle.labels.specs.Labels.{checkLabels}
 use Rattle.labels.specs.declared.refusal.Refusal.{Refusal}
 use Rattle.labels.specs.declared.refusal.Refusal.the-variants.{HalvesDoNotMatch, OutputTooShort}
 use Rattle.labels.specs.declared.refusal.Check.{Check}
 use Rattle.labels.specs.declared.refusal.Check.the-variants.{Sound, Refused}
 use Rattle.labels.proofs.Refusals.{then-sound, both-sound, passed}
+use Rattle.labels.specs.declared.label.Labels.{Labels}
 use Rattle.tables.specs.Tables.{checkTable}
 use Rattle.halves.specs.Halves.{isHalfRun, checkHalf, checkTableAndHalf}
 use Rattle.halves.proofs.HalfBuffers.{accepted-held}
@@ -23,7 +24,7 @@ use Rattle.joining.specs.Working.{HalfBytes, checkRuns}
 use Rattle.joining.specs.declared.join.Joining.the-variants as joining
 use Rattle.joining.proofs.Joined.{join-length}
 
-module _ (k : ℕ) (l r a b : List ℕ) where
+module _ (k : Labels) (l r a b : List ℕ) where
   -- both tables and both halves: the left half is sound with its table, or decides after both tables
   pub runs-sound : checkTableAndHalf k l a ≡ Sound → {x : Check} → x ≡ checkTableAndHalf k r b → x ≡ checkRuns k l r a b
   unfolding checkTableAndHalf checkRuns firstOf
@@ -58,10 +59,10 @@ module _ (k : ℕ) (l r a b : List ℕ) where
 
   -- the checks of halves, as the code groups them
   halves-regroup : checkHalves k l r a b
-      ≡ thenOf (checkPairs k) (thenOf (checkRuns k l r a b) (refusedIf (not (halvesMatch k a b)) HalvesDoNotMatch))
+      ≡ thenOf (checkLabels k) (thenOf (checkRuns k l r a b) (refusedIf (not (halvesMatch k a b)) HalvesDoNotMatch))
   unfolding checkHalves checkRuns firstOf
   halves-regroup =
-      go (checkPairs k) (checkTable k l) (checkTable k r) (checkHalf l a) (checkHalf r b)
+      go (checkLabels k) (checkTable k l) (checkTable k r) (checkHalf l a) (checkHalf r b)
       (refusedIf (not (halvesMatch k a b)) HalvesDoNotMatch)
     where
       go : (c l r a b m : Check)
@@ -74,10 +75,10 @@ module _ (k : ℕ) (l r a b : List ℕ) where
       go Sound Sound Sound Sound (Refused x) m = refl
       go Sound Sound Sound Sound Sound m = then-sound m
 
-  pub pairs-refuse : (x : Refusal) → checkPairs k ≡ Refused x → Refused x ≡ checkHalves k l r a b
-  pairs-refuse x e = rw (halves-regroup, e)
+  pub labels-refuse : (x : Refusal) → checkLabels k ≡ Refused x → Refused x ≡ checkHalves k l r a b
+  labels-refuse x e = rw (halves-regroup, e)
 
-  module _ (p : checkPairs k ≡ Sound) where
+  module _ (p : checkLabels k ≡ Sound) where
     pub runs-refuse : (x : Refusal) → checkRuns k l r a b ≡ Refused x → Refused x ≡ checkHalves k l r a b
     runs-refuse x e = rw (halves-regroup, p, e)
 
@@ -96,7 +97,7 @@ module _ (k : ℕ) (l r a b : List ℕ) where
 
   pub halves-call : checkHalves k l r a b ≡ Sound → Halves
   halves-call e =
-      let (_, c) = both-sound (checkPairs k) _ (sym halves-regroup ∙ e) in
+      let (_, c) = both-sound (checkLabels k) _ (sym halves-regroup ∙ e) in
       let (s, m) = both-sound (checkRuns k l r a b) _ c in
       let (x, y) = runs-bytes s in
       record { left = x; right = y; match = passed (halvesMatch k a b) _ m }

@@ -18,7 +18,7 @@ use Rattle.hml.specs.Compose.{shakes, paired}
 use Rattle.hml.proofs.Composition.{decided-shakes, starts, last-join}
 use Rattle.hml.specs.Joining.{joinStep, extend, join}
 use Rattle.hml.proofs.Joins.{join-sound, join-steps}
-use Rattle.hml.specs.Labels.{pairs}
+use Rattle.labels.specs.Labels.{pairing}
 use Rattle.labels.specs.Labels.{partnerFound}
 use Rattle.labels.specs.Refusals.{inFront}
 use Rattle.labels.specs.declared.label.Label.{Label}
@@ -42,6 +42,7 @@ use Rattle.machines.proofs.JointRuns.{stateBytes}
 use Rattle.machines.proofs.Buffers.{length-put}
 use Rattle.machines.specs.Working.{put}
 use Rattle.labels.proofs.Labels.{found-some, found-none}
+use Rattle.labels.specs.declared.label.Labels.{Labels}
 use Rattle.joining.specs.Joinings.{joinOf, halvesMatch, runBytes, joinBytes}
 use Rattle.joining.specs.Working.{HalfBytes, shakenLabel, jointLabel, labelFound, labelRead}
 use Rattle.joining.specs.declared.join.JointLabel.{JointLabel}
@@ -118,13 +119,13 @@ label-none (some x) e = absurd (apart cc)
 abbrev heldAt : List ℕ → ℕ → held.Step
 heldAt a i = stepStruct (stepOf (getD a (2 * i + 1) 0) (getD a (2 * i + 2) 0))
 
-abbrev pub labelHere : ℕ → List ℕ → List ℕ → ℕ → Option ℕ
-labelHere k a b i = jointLabel (pairs k) (heldAt a i) (heldAt b i)
+abbrev pub labelHere : Labels → List ℕ → List ℕ → ℕ → Option ℕ
+labelHere k a b i = jointLabel (pairing k) (heldAt a i) (heldAt b i)
 
 -- what a label tells that is found at i
-module _ (k : ℕ) (a b : List ℕ) (i : ℕ) where
+module _ (k : Labels) (a b : List ℕ) (i : ℕ) where
   abbrev pub foundHere : JointLabel
-  foundHere = labelRead (pairs k) (stepRead a i) (stepRead b i)
+  foundHere = labelRead (pairing k) (stepRead a i) (stepRead b i)
 
   pub record Labelled (c : Label) : Type 0 where
     pub left : i < length a / 2
@@ -135,14 +136,15 @@ module _ (k : ℕ) (a b : List ℕ) (i : ℕ) where
   unfolding labelRead
   labelled-here c e = go (stepRead a i) (stepRead b i) refl refl e
     where
-      go : (s t : StepRead) → stepRead a i ≡ s → stepRead b i ≡ t → joint.Label c ≡ labelRead (pairs k) s t → Labelled c
+      go : (s t : StepRead) → stepRead a i ≡ s → stepRead b i ≡ t → joint.Label c ≡ labelRead (pairing k) s t
+          → Labelled c
       go (read.Step x) (read.Step y) f g e =
           let left = step-found a i x (sym f) in
           let right = step-found b i y (sym g) in
           record {
             left = left .within;
             right = right .within;
-            here = rw (← left .here, ← right .here) (label-some (jointLabel (pairs k) x y) c e);
+            here = rw (← left .here, ← right .here) (label-some (jointLabel (pairing k) x y) c e);
           }
       go (read.Step x) read.NoSuchStep f g e = absurd (apart cc)
       go read.NoSuchStep (read.Step y) f g e = absurd (apart cc)
@@ -154,12 +156,17 @@ module _ (k : ℕ) (a b : List ℕ) (i : ℕ) where
   unfolding labelRead
   unlabelled-here o p e = go (stepRead a i) (stepRead b i) refl refl e
     where
-      go : (s t : StepRead) → stepRead a i ≡ s → stepRead b i ≡ t → joint.NoMatch ≡ labelRead (pairs k) s t
+      go : (s t : StepRead) → stepRead a i ≡ s → stepRead b i ≡ t → joint.NoMatch ≡ labelRead (pairing k) s t
           → ((i < length a / 2) × (i < length b / 2) × (labelHere k a b i ≡ none)) ⊎ (length a ≡ length b → ⊥)
       go (read.Step x) (read.Step y) f g e =
           let left = step-found a i x (sym f) in
           let right = step-found b i y (sym g) in
-          inl (left .within, right .within, rw (← left .here, ← right .here) (label-none (jointLabel (pairs k) x y) e))
+          inl (
+            left .within,
+            right .within,
+            rw (← left .here, ← right .here)
+                (label-none (jointLabel (pairing k) x y) e),
+          )
       go (read.Step x) read.NoSuchStep f g e =
           let left = step-found a i x (sym f) .within in
           let right = none-found b i p (sym g) in
@@ -179,9 +186,9 @@ module _ (k : ℕ) (a b : List ℕ) (i : ℕ) where
       matches none e = apart cc
       matches (some c) e = apart cc
 
-      go : (s t : StepRead) → stepRead a i ≡ s → stepRead b i ≡ t → joint.Ended ≡ labelRead (pairs k) s t
+      go : (s t : StepRead) → stepRead a i ≡ s → stepRead b i ≡ t → joint.Ended ≡ labelRead (pairing k) s t
           → (length a / 2 ≤ i) × (length b / 2 ≤ i)
-      go (read.Step x) (read.Step y) f g e = absurd (matches (jointLabel (pairs k) x y) e)
+      go (read.Step x) (read.Step y) f g e = absurd (matches (jointLabel (pairing k) x y) e)
       go (read.Step x) read.NoSuchStep f g e = absurd (apart cc)
       go read.NoSuchStep (read.Step y) f g e = absurd (apart cc)
       go read.NoSuchStep read.NoSuchStep f g e = (none-found a i o (sym f), none-found b i p (sym g))
@@ -258,29 +265,29 @@ matched-more P none u e = e
 matched-more P (some j) u e = refl
 
 -- the joint run of the first i steps, if they match
-abbrev pub joinedTo : ℕ → List ℕ → List ℕ → ℕ → Option (Run (ℕ × ℕ))
-joinedTo k a b i = join (pairs k) paired (upTo a i) (upTo b i)
+abbrev pub joinedTo : Labels → List ℕ → List ℕ → ℕ → Option (Run (ℕ × ℕ))
+joinedTo k a b i = join (pairing k) paired (upTo a i) (upTo b i)
 
 -- the steps before step i match
-pub record Matching (k : ℕ) (a b : List ℕ) (i : ℕ) : Type 0 where
+pub record Matching (k : Labels) (a b : List ℕ) (i : ℕ) : Type 0 where
   pub left : i ≤ length a / 2
   pub right : i ≤ length b / 2
   pub run : matched (joinedTo k a b i) ≡ true
 
-module _ (k : ℕ) (a b : List ℕ) (x : HalfBytes a) (y : HalfBytes b) where
+module _ (k : Labels) (a b : List ℕ) (x : HalfBytes a) (y : HalfBytes b) where
   joined-start : joinedTo k a b 0 ≡ some (start (getD a 0 0, getD b 0 0))
   unfolding join
   joined-start = rw (half-first a (omega (arith, x .odd)), half-first b (omega (arith, y .odd)))
 
   -- the next joint step
   joined-next : (i : ℕ) → 2 * i + 2 < length a → 2 * i + 2 < length b
-      → joinedTo k a b (i + 1) ≡ extend (pairs k) paired (joinedTo k a b i)
+      → joinedTo k a b (i + 1) ≡ extend (pairing k) paired (joinedTo k a b i)
       (labelled (labelHere k a b i) (getD a (2 * i + 2) 0, getD b (2 * i + 2) 0))
   unfolding join
   joined-next i h g = rw (
     half-next a i h,
     half-next b i g,
-    step-joined (pairs k) (upTo a i) (upTo b i) (getD a (2 * i + 1) 0) (getD a (2 * i + 2) 0) (getD b (2 * i + 1) 0)
+    step-joined (pairing k) (upTo a i) (upTo b i) (getD a (2 * i + 1) 0) (getD a (2 * i + 2) 0) (getD b (2 * i + 1) 0)
         (getD b (2 * i + 2) 0) (half-ends a x i h) (half-ends b y i g),
   )
 
@@ -292,18 +299,19 @@ module _ (k : ℕ) (a b : List ℕ) (x : HalfBytes a) (y : HalfBytes b) where
       let s : i + suc n ≡ i + n + 1 = omega arith in
       let u = labelled (labelHere k a b (i + n)) (getD a (2 * (i + n) + 2) 0, getD b (2 * (i + n) + 2) 0) in
       matched-before n i (omega arith) (omega arith)
-      (matched-more (pairs k) (joinedTo k a b (i + n)) u (rw (s, joined-next (i + n) (omega arith) (omega arith)) at e))
+      (matched-more (pairing k) (joinedTo k a b (i + n)) u (rw (s, joined-next (i + n) (omega arith) (omega arith)) at
+      e))
 
   -- halves that match are equally long
   equally-long : matched (joinOf k a b) ≡ true → length a ≡ length b
   unfolding joinOf
-  equally-long m = go (join (pairs k) paired (halfOf a) (halfOf b)) refl m
+  equally-long m = go (join (pairing k) paired (halfOf a) (halfOf b)) refl m
     where
-      go : (o : Option (Run (ℕ × ℕ))) → join (pairs k) paired (halfOf a) (halfOf b) ≡ o → matched o ≡ true
+      go : (o : Option (Run (ℕ × ℕ))) → join (pairing k) paired (halfOf a) (halfOf b) ≡ o → matched o ≡ true
           → length a ≡ length b
       go none e m = absurd (false≢true m)
       go (some j) e m =
-          let (u, v) = join-steps (pairs k) paired (join-sound (pairs k) paired (halfOf a) (halfOf b) j e) in omega
+          let (u, v) = join-steps (pairing k) paired (join-sound (pairing k) paired (halfOf a) (halfOf b) j e) in omega
           (arith, u, v, half-steps a (x .odd), half-steps b (y .odd), x .odd, y .odd)
 
   -- 16 for halves that are not
@@ -331,7 +339,7 @@ module _ (k : ℕ) (a b : List ℕ) (x : HalfBytes a) (y : HalfBytes b) where
     unfolding halvesMatch
     match-stop-long i h f = go (matched (joinOf k a b)) refl
       where
-        stopped : (o : Option (Run (ℕ × ℕ))) → matched (extend (pairs k) paired o none) ≡ true → ⊥
+        stopped : (o : Option (Run (ℕ × ℕ))) → matched (extend (pairing k) paired o none) ≡ true → ⊥
         stopped none e = false≢true e
         stopped (some j) e = false≢true e
 
@@ -374,7 +382,7 @@ module _ (k : ℕ) (a b : List ℕ) (x : HalfBytes a) (y : HalfBytes b) where
         }
       where
         go : (o : Option (Run (ℕ × ℕ))) (u : Step (ℕ × ℕ)) → matched o ≡ true
-            → matched (extend (pairs k) paired o (some u)) ≡ true
+            → matched (extend (pairing k) paired o (some u)) ≡ true
         go none u e = e
         go (some j) u e = refl
 
@@ -412,13 +420,13 @@ abbrev pub begunBy : List ℕ → List ℕ → List ℕ → List ℕ
 begunBy a b out = set (set out 0 (getD a 0 0)) 1 (getD b 0 0)
 
 -- the loop has written the joint run of the first i steps over what it began with
-pub record Joining (k : ℕ) (a b begun out : List ℕ) (i : ℕ) : Type 0 where
+pub record Joining (k : Labels) (a b begun out : List ℕ) (i : ℕ) : Type 0 where
   pub within : i ≤ length a / 2
   pub kept : length out ≡ length begun
   pub same : out ≡ runBytes (joinedTo k a b i) ++ drop (3 * i + 2) begun
 
 -- halves that match
-module _ (k : ℕ) (a b : List ℕ) (x : HalfBytes a) (y : HalfBytes b) (m : halvesMatch k a b ≡ true) where
+module _ (k : Labels) (a b : List ℕ) (x : HalfBytes a) (y : HalfBytes b) (m : halvesMatch k a b ≡ true) where
   -- they are equally long
   pub match-long : length a ≡ length b
   unfolding halvesMatch
@@ -443,7 +451,7 @@ module _ (k : ℕ) (a b : List ℕ) (x : HalfBytes a) (y : HalfBytes b) (m : hal
           → (j : Run (ℕ × ℕ)) × (o ≡ some j) × (length (jointBytes j) ≡ 3 * i + 2)
       go none e t = absurd (false≢true t)
       go (some j) e t =
-          let (u, v) = join-steps (pairs k) paired (join-sound (pairs k) paired (upTo a i) (upTo b i) j e) in
+          let (u, v) = join-steps (pairing k) paired (join-sound (pairing k) paired (upTo a i) (upTo b i) j e) in
           (j, refl, omega (arith, bytes-length j, u, up-to-steps a i (omega (arith, x .odd))))
 
   -- the whole run
@@ -475,11 +483,11 @@ module _ (k : ℕ) (a b : List ℕ) (x : HalfBytes a) (y : HalfBytes b) (m : hal
       ends : (j′ : Run (ℕ × ℕ)) → joinedTo k a b (i + 1) ≡ some j′ → last j′ ≡ (p, q)
       ends j′ e =
           let s : 2 * (i + 1) ≡ 2 * i + 2 = omega arith in
-          let t = last-join (pairs k) paired (join-sound (pairs k) paired (upTo a (i + 1)) (upTo b (i + 1)) j′ e) in
+          let t = last-join (pairing k) paired (join-sound (pairing k) paired (upTo a (i + 1)) (upTo b (i + 1)) j′ e) in
           rw (x .kept (i + 1) (omega (arith, x .odd)), y .kept (i + 1) (omega (arith, x .odd, match-long)), s) at t
 
       go : (o : Option ℕ) (j j′ : Run (ℕ × ℕ)) → joinedTo k a b i ≡ some j → joinedTo k a b (i + 1) ≡ some j′
-          → joinedTo k a b (i + 1) ≡ extend (pairs k) paired (joinedTo k a b i) (labelled o (p, q))
+          → joinedTo k a b (i + 1) ≡ extend (pairing k) paired (joinedTo k a b i) (labelled o (p, q))
           → (c : ℕ) × (o ≡ some c) × (runBytes (joinedTo k a b (i + 1)) ≡ runBytes (joinedTo k a b i) ++ c ∷ p ∷ q ∷ [])
       go none j j′ e e′ f = absurd (let g = rw (e, e′) at f in apart cc)
       go (some c) j j′ e e′ f =

@@ -6,11 +6,12 @@ use mathlib.Core.List.{List}
 use native.Mathlib.Omega.{arith}
 use lib.ListN.{length}
 use Rattle.labels.specs.Refusals.{firstOf}
-use Rattle.labels.specs.Labels.{checkPairs}
+use Rattle.labels.specs.Labels.{checkLabels}
 use Rattle.labels.specs.declared.refusal.Check.{Check}
 use Rattle.labels.specs.declared.refusal.Check.the-variants.{Sound, Refused}
 use Rattle.labels.proofs.Refusals.{both-sound, passed}
 use Rattle.labels.proofs.Answers.{Within, none, next}
+use Rattle.labels.specs.declared.label.Labels.{Labels}
 use Rattle.tables.specs.Tables.{checkTable}
 use Rattle.halves.specs.Halves.{isHalfRun, checkHalf}
 use Rattle.halves.proofs.HalfRuns.{accepted-half}
@@ -18,11 +19,11 @@ use Rattle.joining.specs.Joinings.{joinBytes, checkHalves, checkJoin, jo
 use Rattle.joining.proofs.Joined.{join-length}
 use Rattle.joining.proofs.JoinCalls.{halves-call}
 
-module _ (k : ℕ) (l r a b : List ℕ) where
+module _ (k : Labels) (l r a b : List ℕ) where
   left-run : checkHalves k l r a b ≡ Sound → isHalfRun l a ≡ true
   unfolding checkHalves checkHalf firstOf
   left-run e =
-      let (_, c) = both-sound (checkPairs k) _ e in
+      let (_, c) = both-sound (checkLabels k) _ e in
       let (_, d) = both-sound (checkTable k l) _ c in
       let (_, f) = both-sound (checkTable k r) _ d in
       passed (isHalfRun l a) _ (both-sound (checkHalf l a) _ f .0)

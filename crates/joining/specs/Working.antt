@@ -8,6 +8,7 @@ use Rattle.hml.specs.System.{Pairing}
 use Rattle.hml.specs.Compose.{shakes}
 use Rattle.labels.specs.Refusals.{firstOf}
 use Rattle.labels.specs.declared.refusal.Check.{Check}
+use Rattle.labels.specs.declared.label.Labels.{Labels}
 use Rattle.tables.specs.Tables.{checkTable}
 use Rattle.halves.specs.Halves.{checkHalf}
 use Rattle.halves.specs.Working.{HeldHalf}
@@ -19,7 +20,7 @@ use Rattle.joining.specs.declared.join.JointLabel.{JointLabel}
 use Rattle.joining.specs.declared.join.JointLabel.the-variants as joint
 
 -- the tables' and the halves' numbers
-unfoldable pub checkRuns : ℕ → List ℕ → List ℕ → List ℕ → List ℕ → Check
+unfoldable pub checkRuns : Labels → List ℕ → List ℕ → List ℕ → List ℕ → Check
 checkRuns k l r a b = firstOf (checkTable k l ∷ checkTable k r ∷ checkHalf l a ∷ checkHalf r b ∷ [])
 
 -- bytes of a half run of some table: whole steps, and at each point the run ends in the state that is written there

@@ -6,7 +6,6 @@ use halves::step::step_at;
 use labels::label::Label;
 use labels::label::Labels;
 use labels::label::Partner;
-use labels::label::check_pairs;
 use labels::refusal::Check;
 use labels::refusal::Refusal;
 use tables::check::check_table;
@@ -14,7 +13,6 @@ ghost use mathlib.Core.Path.{_≡_};
 ghost use mathlib.Core.Bool.{true};
 ghost use Prim.Native.Nat.{_+_, _*_, _≤_, _<_};
 ghost use lib.ListN.{length};
-ghost use Rattle.hml.specs.Labels.{pairs};
 ghost use Rattle.labels.specs.Labels.{pairing};
 ghost use Rattle.labels.specs.Refusals.{inFront};
 ghost use Rattle.halves.specs.Steps.{stepRead};
@@ -37,19 +35,19 @@ pub enum Joining {
 
 // Writes the joint run that two halves give: 4, the tables' numbers, then 15, 16 and 18.
 pub fn join(
-    k: u8,
+    labels: Labels,
     left: &[u8],
     right: &[u8],
     left_half: &[u8],
     right_half: &[u8],
     out: &mut [u8],
 ) -> Joining
-    ensures { λ r. ⌜ r ≡ joiningOf k (now (left .entry)) (now (right .entry)) (now («left_half» .entry))
+    ensures { λ r. ⌜ r ≡ joiningOf labels (now (left .entry)) (now (right .entry)) (now («left_half» .entry))
         (now («right_half» .entry)) (length (now (out .entry))) ⌝ }
-    ensures { λ r. ⌜ now (out .exit) ≡ joinOutput k (now (left .entry)) (now (right .entry)) (now («left_half» .entry))
+    ensures { λ r. ⌜ now (out .exit) ≡ joinOutput labels (now (left .entry)) (now (right .entry))
+        (now («left_half» .entry))
         (now («right_half» .entry)) (now (out .entry)) ⌝ }
 {
-    let labels = Labels { pairs: k };
     match check_halves(labels, left, right, left_half, right_half) {
         Check::Sound => {}
         Check::Refused(refusal) => return Joining::Refused(refusal),
@@ -71,10 +69,10 @@ pub fn check_halves(
     left_half: &[u8],
     right_half: &[u8],
 ) -> Check
-    ensures { λ r. ⌜ r ≡ checkHalves (labels .pairs) (now (left .entry)) (now (right .entry)) (now («left_half» .entry))
+    ensures { λ r. ⌜ r ≡ checkHalves labels (now (left .entry)) (now (right .entry)) (now («left_half» .entry))
         (now («right_half» .entry)) ⌝ }
 {
-    match check_pairs(labels.pairs) {
+    match labels.check() {
         Check::Sound => {}
         Check::Refused(refusal) => return Check::Refused(refusal),
     }
@@ -96,7 +94,7 @@ fn check_runs(
     left_half: &[u8],
     right_half: &[u8],
 ) -> Check
-    ensures { λ r. ⌜ r ≡ checkRuns (labels .pairs) (now (left .entry)) (now (right .entry)) (now («left_half» .entry))
+    ensures { λ r. ⌜ r ≡ checkRuns labels (now (left .entry)) (now (right .entry)) (now («left_half» .entry))
         (now («right_half» .entry)) ⌝ }
 {
     match check_half(labels, left, left_half) {
@@ -110,7 +108,7 @@ fn check_runs(
 // 16: are the halves equally long, and does each step match?
 fn halves_match(labels: Labels, left: &[u8], right: &[u8]) -> bool
     requires { ⌜ HalfBytes (now left) × HalfBytes (now right) ⌝ }
-    ensures { λ r. ⌜ r ≡ halvesMatch (labels .pairs) (now (left .entry)) (now (right .entry)) ⌝ }
+    ensures { λ r. ⌜ r ≡ halvesMatch labels (now (left .entry)) (now (right .entry)) ⌝ }
 {
     let mut i: usize = 0;
     loop {
@@ -132,7 +130,7 @@ enum JointLabel {
 
 // The label of joint step i. A step that the other half has none for matches nothing.
 fn label_at(labels: Labels, left: &[u8], right: &[u8], i: usize) -> JointLabel
-    ensures { λ r. ⌜ r ≡ labelRead (pairs (labels .pairs)) (stepRead (now (left .entry)) i)
+    ensures { λ r. ⌜ r ≡ labelRead (pairing labels) (stepRead (now (left .entry)) i)
         (stepRead (now (right .entry)) i) ⌝ }
 {
     match step_at(left, i) {
@@ -187,9 +185,9 @@ fn shaken_label(labels: Labels, left: Label, right: Label) -> JointLabel
 // Writes the joint run of halves that match.
 fn write_run(labels: Labels, left: &[u8], right: &[u8], out: &mut [u8])
     requires { ⌜ HalfBytes (now left) × HalfBytes (now right) ⌝ }
-    requires { ⌜ halvesMatch (labels .pairs) (now left) (now right) ≡ true ⌝ }
-    requires { ⌜ length (joinBytes (labels .pairs) (now left) (now right)) ≤ length (now out) ⌝ }
-    ensures { λ r. ⌜ now (out .exit) ≡ inFront (joinBytes (labels .pairs) (now (left .entry)) (now (right .entry)))
+    requires { ⌜ halvesMatch labels (now left) (now right) ≡ true ⌝ }
+    requires { ⌜ length (joinBytes labels (now left) (now right)) ≤ length (now out) ⌝ }
+    ensures { λ r. ⌜ now (out .exit) ≡ inFront (joinBytes labels (now (left .entry)) (now (right .entry)))
         (now (out .entry)) ⌝ }
 {
     out[0] = left[0];

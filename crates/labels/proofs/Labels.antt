@@ -6,9 +6,9 @@ use native.Mathlib.Omega.{arith}
 use lib.Dec.{leb}
 use mathlib.Core.Bool.{true, false}
 use borrow.Author.Tests.{eq-eqb, ne-eqb, le-leb, leb-true}
-use Rattle.hml.specs.Labels.{count, partnerOf, partnerAmong, pairs, silent-alone}
+use Rattle.hml.specs.Labels.{highest, partnerOf, partnerAmong, pairs, silent-alone, partners}
 use Rattle.hml.proofs.Tests.{apart, decided-lt}
-use Rattle.labels.specs.Labels.{checkPairs, anyPartner, partnerFound, pairing}
+use Rattle.labels.specs.Labels.{count, pairing, checkLabels, anyPartner, partnerFound}
 use Rattle.labels.specs.declared.refusal.Refusal.the-variants.{TooManyPairs}
 use Rattle.labels.proofs.Refusals.{Judges, judged-iff, judged-fault}
 use Rattle.labels.specs.declared.label.Label.{Label}
@@ -20,7 +20,7 @@ unfolding anyPartner partnerFound
 silent-found a e = rw (e, silent-alone 127)
 
 pub idle-found : (a : ℕ) → a ≡ 255 → partner.Nobody ≡ partnerFound (anyPartner a)
-unfolding anyPartner partnerFound partnerAmong count
+unfolding anyPartner partnerFound partnerAmong highest
 idle-found a e = rw e
 
 no-idle : (a : ℕ) → a < 256 → (a ≡ 255 → ⊥) → a ≤ 254
@@ -28,33 +28,46 @@ no-idle a h n = omega (arith, h, n)
 
 pub odd-found : (a b : ℕ) → a < 256 → (a ≡ 255 → ⊥) → (a ≡ 0 → ⊥) → a % 2 ≡ 1 → b ≡ a + 1
     → partner.Label (record { 0 = b }) ≡ partnerFound (anyPartner a)
-unfolding anyPartner partnerFound partnerAmong partnerOf count
+unfolding anyPartner partnerFound partnerAmong partnerOf highest
 odd-found a b h m n o e = rw (e, le-leb a 254 (no-idle a h m), ne-eqb a 0 n, eq-eqb (a % 2) 1 o)
 
 pub even-found : (a b : ℕ) → a < 256 → (a ≡ 255 → ⊥) → (a ≡ 0 → ⊥) → (a % 2 ≡ 1 → ⊥) → b ≡ a - 1
     → partner.Label (record { 0 = b }) ≡ partnerFound (anyPartner a)
-unfolding anyPartner partnerFound partnerAmong partnerOf count
+unfolding anyPartner partnerFound partnerAmong partnerOf highest
 even-found a b h m n o e = rw (e, le-leb a 254 (no-idle a h m), ne-eqb a 0 n, ne-eqb (a % 2) 1 o)
 
-count-most : (k a : ℕ) → a ≤ count k → a ≤ count 127
-unfolding count
-count-most k a h = omega (arith, h)
+-- no label is above 254: 255 marks an idle
+pub count-most : (labels : Labels) → count labels ≤ 254
+unfolding count highest
+count-most labels = omega arith
+
+below-all : (a : ℕ) {n : ℕ} → n ≤ 254 → a ≤ n → a ≤ highest 127
+unfolding highest
+below-all a m h = omega (arith, m, h)
 
 -- among the labels of a call the partner is that of the label as such, since a partner is never above the highest label
-pub inside-found : (labels : Labels) (a : ℕ) → leb a (count (labels .pairs)) ≡ true
+pub inside-found : (labels : Labels) (a : ℕ) → leb a (count labels) ≡ true
     → partnerFound (anyPartner a) ≡ partnerFound (pairing labels .partner a)
-unfolding anyPartner pairing pairs partnerAmong
-inside-found labels a h =
-    rw (h, le-leb a (count 127) (count-most (labels .pairs) a (leb-true a (count (labels .pairs)) h)))
+unfolding anyPartner pairing pairs partnerAmong count
+inside-found labels a h = rw (h, le-leb a (highest 127) (below-all a (count-most labels) (leb-true a (count labels) h)))
 
-pub outside-found : (labels : Labels) (a : ℕ) → leb a (count (labels .pairs)) ≡ false
+pub outside-found : (labels : Labels) (a : ℕ) → leb a (count labels) ≡ false
     → partner.Nobody ≡ partnerFound (pairing labels .partner a)
-unfolding pairing pairs partnerAmong partnerFound
+unfolding pairing pairs partnerAmong partnerFound count
 outside-found labels a h = rw h
 
+-- a label and its partner are handshake labels of the call
+pub partner-ranged : (labels : Labels) (a b : ℕ) → pairing labels .partner a ≡ some b
+    → (1 ≤ a) × (a ≤ count labels) × (1 ≤ b) × (b ≤ count labels)
+unfolding pairing pairs count
+partner-ranged labels a b e = let t = partners (labels .pairs) a b e in (t .0, t .1, t .2, t .3)
+
 -- 4: k is accepted exactly if it is at most 15
-pub judged-pairs : (k : ℕ) → Judges (k ≤ 15) (checkPairs k)
-judged-pairs k = judged-iff (λ n. small k n) (λ h n. omega (arith, h, n)) (judged-fault TooManyPairs (decided-lt 15 k))
+pub judged-labels : (labels : Labels) → Judges (labels .pairs ≤ 15) (checkLabels labels)
+unfolding checkLabels
+judged-labels labels =
+    judged-iff (λ n. small (labels .pairs) n) (λ h n. omega (arith, h, n))
+    (judged-fault TooManyPairs (decided-lt 15 (labels .pairs)))
   where
     small : (k : ℕ) → (15 < k → ⊥) → k ≤ 15
     small k n = omega (arith, n)

@@ -3,8 +3,7 @@ use crate::refusal::Check;
 use crate::refusal::Refusal;
 ghost use mathlib.Core.Path.{_≡_};
 ghost use lib.Dec.{eqb, leb};
-ghost use Rattle.hml.specs.Labels.{count};
-ghost use Rattle.labels.specs.Labels.{checkPairs, anyPartner, partnerFound, pairing};
+ghost use Rattle.labels.specs.Labels.{ofPairs, count, pairing, checkLabels, anyPartner, partnerFound};
 
 // A label by its number.
 pub struct Label(pub u8);
@@ -53,15 +52,22 @@ impl Label {
     }
 }
 
-// The labels of one call, read off k, its number of handshake pairs.
+// The labels of one call, held as k, their number of handshake pairs.
 pub struct Labels {
     pub pairs: u8,
 }
 
 impl Labels {
+    // The labels of k pairs, whatever k is: a call that takes them judges k.
+    pub fn of_pairs(k: u8) -> Labels
+        ensures { λ r. ⌜ r ≡ ofPairs k ⌝ }
+    {
+        Labels { pairs: k }
+    }
+
     // The highest label: they are 0 to 2k. A byte's labels end at 254, since 255 marks an idle.
     pub fn count(self) -> u8
-        ensures { λ r. ⌜ r ≡ count (self .pairs) ⌝ }
+        ensures { λ r. ⌜ r ≡ count self ⌝ }
     {
         let pairs = self.pairs;
         if 127 < pairs {
@@ -72,7 +78,7 @@ impl Labels {
 
     // Is this one of the labels?
     pub fn has(self, label: Label) -> bool
-        ensures { λ r. ⌜ r ≡ leb (label .0) (count (self .pairs)) ⌝ }
+        ensures { λ r. ⌜ r ≡ leb (label .0) (count self) ⌝ }
     {
         label.0 <= self.count()
     }
@@ -86,14 +92,14 @@ impl Labels {
         }
         Partner::Nobody
     }
-}
 
-// k over 15 is 4.
-pub fn check_pairs(k: u8) -> Check
-    ensures { λ r. ⌜ r ≡ checkPairs k ⌝ }
-{
-    if 15 < k {
-        return Check::Refused(Refusal::TooManyPairs);
+    // k over 15 is 4.
+    pub fn check(self) -> Check
+        ensures { λ r. ⌜ r ≡ checkLabels self ⌝ }
+    {
+        if 15 < self.pairs {
+            return Check::Refused(Refusal::TooManyPairs);
+        }
+        Check::Sound
     }
-    Check::Sound
 }

@@ -11,6 +11,7 @@ use lib.Seq.{take-suc, getD-take}
 use lib.Dec.{leb}
 use borrow.Author.Tests.{leb-true, leb-false}
 use Rattle.hml.specs.System.{start, _▸_, last}
+use Rattle.labels.specs.declared.label.Labels.{Labels}
 use Rattle.tables.specs.Tables.{threes, tableOf}
 use Rattle.halves.specs.Runs.{stepOf, lengthened}
 use Rattle.halves.proofs.Runs.{NoIdleLabel, ends-in}
@@ -19,7 +20,7 @@ use Rattle.machines.proofs.JointRuns.{accepted-joint, joint-more, joint
 use Rattle.machines.specs.Working.{Held, put}
 
 -- an accepted joint run is so held in its own bytes
-pub accepted-held : (k : ℕ) (l r : List ℕ) → NoIdleLabel (tableOf l) → NoIdleLabel (tableOf r) → (s : List ℕ)
+pub accepted-held : (k : Labels) (l r : List ℕ) → NoIdleLabel (tableOf l) → NoIdleLabel (tableOf r) → (s : List ℕ)
     → fitJoint s ≡ true → isJointRun k l r s ≡ true → Held s (length s)
 accepted-held k l r fl fr s fit real =
     record { whole = accepted-joint k l r fl fr s fit real .whole; within = omega arith; kept = kept }

@@ -15,6 +15,7 @@ use Rattle.hml.proofs.NewestSteps.{behind, last-behind, first-behind, steps-fro
 use Rattle.labels.specs.Refusals.{firstOf}
 use Rattle.labels.specs.declared.refusal.Check.the-variants.{Sound}
 use Rattle.labels.proofs.Refusals.{judges}
+use Rattle.labels.specs.declared.label.Labels.{Labels}
 use Rattle.tables.specs.Tables.{statesOf, tableOf}
 use Rattle.tables.proofs.SoundTables.{no-idle-label, move-ranged}
 use Rattle.halves.specs.Runs.{written}
@@ -51,7 +52,7 @@ bytes-behind (suc n) (j ▸ idle) h =
     rw (last-behind n j) (more-behind n j (255, last j) (bytes-behind n j (omega arith)))
 
 -- an accepted joint run of two sound tables
-module _ (k : ℕ) (l r : List ℕ) (tables : Tables k l r) (s : List ℕ) (sound : checkJoint k l r s ≡ Sound) where
+module _ (k : Labels) (l r : List ℕ) (tables : Tables k l r) (s : List ℕ) (sound : checkJoint k l r s ≡ Sound) where
   abbrev free : NoIdleLabel (tableOf l) × NoIdleLabel (tableOf r)
   free = (no-idle-label (tables .left), no-idle-label (tables .right))
 

@@ -16,7 +16,7 @@ use Rattle.hml.proofs.Lists.{decided-any, decided-present, length-each}
 use Rattle.hml.specs.System.{System, Run, start, _▸_, first, last, steps, stop, RunOf, Pairing}
 use Rattle.hml.specs.Compose.{beside, left, right, both}
 use Rattle.hml.proofs.Real.{Real, real-rows}
-use Rattle.hml.specs.Labels.{pairs}
+use Rattle.labels.specs.Labels.{pairing}
 use Rattle.tables.specs.Tables.{statesOf, threes, tableOf, SoundTable}
 use Rattle.halves.specs.Runs.{written, stepOf, lengthened, goOn}
 use Rattle.machines.specs.Joints.{jointBytes, jointSteps, jointOf, JointRun, isLeftAlone, isRightAlone, shakesTo}
@@ -27,6 +27,7 @@ use Rattle.halves.proofs.Runs.{stop-lengthened, goOn-take, run-keeps, run-goOn,
 use Rattle.labels.specs.Refusals.{firstOf, refusedIf}
 use Rattle.labels.specs.declared.refusal.Refusal.the-variants.{WrongLength, NotReal}
 use Rattle.labels.proofs.Refusals.{Judges, judged-iff, judged-unless, judged-next, judged-then, then-sound}
+use Rattle.labels.specs.declared.label.Labels.{Labels}
 use Rattle.tables.proofs.SoundTables.{judged-table, no-idle-label}
 use Rattle.tables.proofs.Chunks.{Chunks, chunks-map, threes-chunks, chunks-take, chunks-read, chunks-append}
 use Rattle.tables.proofs.Rows.{hasMove-decides}
@@ -107,11 +108,11 @@ unfolding jointSteps
 steps-chunks =
     chunks-map (λ b. (b .0, (b .1, b .2))) (λ e. (e .0, e .1 .0, e .1 .1)) (λ b. refl) (λ e. refl) threes-chunks
 
-abbrev realFits : ℕ → List ℕ → List ℕ → ℕ × ℕ → ℕ → ℕ × ℕ → Bool
-realFits k l r = isRealStep (pairs k) (tableOf l) (tableOf r)
+abbrev realFits : Labels → List ℕ → List ℕ → ℕ × ℕ → ℕ → ℕ × ℕ → Bool
+realFits k l r = isRealStep (pairing k) (tableOf l) (tableOf r)
 
 -- the parts of the test: whole steps, at most 200 of them, a start state of each table, and steps that go on from them
-joint-tested : (k : ℕ) (l r : List ℕ) (p q : ℕ) (bs : List ℕ)
+joint-tested : (k : Labels) (l r : List ℕ) (p q : ℕ) (bs : List ℕ)
     → Decides ((length bs % 3 ≡ 0) × (length bs ≤ 600) × (p < statesOf l) × (q < statesOf r)
     × (goOn (realFits k l r) (p, q) (jointSteps bs) ≡ true))
     (fitJoint (p ∷ q ∷ bs) && isJointRun k l r (p ∷ q ∷ bs))
@@ -142,7 +143,7 @@ joint-more (x ∷ y ∷ bs) c p q o =
     (lengthened-more (start (x, y)) (jointSteps bs) c (p, q))
 
 -- an accepted joint run stopped at one of its points is accepted
-pub joint-stopped : (k : ℕ) (l r s : List ℕ) (n : ℕ) → fitJoint s ≡ true → isJointRun k l r s ≡ true
+pub joint-stopped : (k : Labels) (l r s : List ℕ) (n : ℕ) → fitJoint s ≡ true → isJointRun k l r s ≡ true
     → (fitJoint (take (3 * n + 2) s) ≡ true) × (isJointRun k l r (take (3 * n + 2) s) ≡ true)
 unfolding fitJoint
 joint-stopped k l r [] n f e = absurd (false≢true f)
@@ -158,14 +159,14 @@ joint-stopped k l r (p ∷ q ∷ bs) n f e =
       rw (chunks-take steps-chunks bs n) (goOn-take (realFits k l r) (p, q) n (jointSteps bs) g),
     )))
 
-module _ (k : ℕ) (l r : List ℕ) (fl : NoIdleLabel (tableOf l)) (fr : NoIdleLabel (tableOf r)) where
+module _ (k : Labels) (l r : List ℕ) (fl : NoIdleLabel (tableOf l)) (fr : NoIdleLabel (tableOf r)) where
   real-decides : (u : ℕ × ℕ) (c : ℕ) (v : ℕ × ℕ) → Decides (Fit (tablesOf k l r) u c v) (realFits k l r u c v)
-  real-decides = isReal-decides (pairs k) (tableOf l) (tableOf r) fl fr
+  real-decides = isReal-decides (pairing k) (tableOf l) (tableOf r) fl fr
 
   goes-on : {j : Run (ℕ × ℕ)} → RunOf (tablesOf k l r) j
       → (goOn (realFits k l r) (first j) (written j) ≡ true) × (lengthened (start (first j)) (written j) ≡ j)
   goes-on x =
-      run-goOn (tablesOf k l r) (realFits k l r) real-decides (beside-free (pairs k) (tableOf l) (tableOf r) fl fr) x
+      run-goOn (tablesOf k l r) (realFits k l r) real-decides (beside-free (pairing k) (tableOf l) (tableOf r) fl fr) x
 
   -- what the test accepts is the spelling of a run of the two tables beside each other: its reading
   pub accepted-joint : (s : List ℕ) → fitJoint s ≡ true → isJointRun k l r s ≡ true → AcceptedJoint k l r s
@@ -226,17 +227,17 @@ module _ (k : ℕ) (l r : List ℕ) (fl : NoIdleLabel (tableOf l)) (fr : NoIdleL
       In : ℕ × ℕ → Type 0
       In u = (u .0 < statesOf l) × (u .1 < statesOf r)
 
-      kept : (u : ℕ × ℕ) (c : ℕ × (ℕ × ℕ)) → In u → Real (pairs k) (tableOf l) (tableOf r) (u .0) (u .1) c → In (c .1)
+      kept : (u : ℕ × ℕ) (c : ℕ × (ℕ × ℕ)) → In u → Real (pairing k) (tableOf l) (tableOf r) (u .0) (u .1) c → In (c .1)
       kept u c i (left a p, o, e) = rw (← e) (il (u .0) a p o, i .1)
       kept u c i (right b q, o, e) = rw (← e) (i .0, ir (u .1) b q o)
       kept u c i (both a p b q, o, e) = rw (← e) (il (u .0) a p (o .0), ir (u .1) b q (o .1))
 
       keeps : (u : ℕ × ℕ) (c : ℕ) (v : ℕ × ℕ) → In u → (c, v) ∈ tablesOf k l r u → In v
-      keeps u c v i m = kept u (c, v) i (real-rows (pairs k) (tableOf l) (tableOf r) (u .0) (u .1) (c, v) .0 m)
+      keeps u c v i m = kept u (c, v) i (real-rows (pairing k) (tableOf l) (tableOf r) (u .0) (u .1) (c, v) .0 m)
 
 -- 3 and 8: beside two sound tables, a joint run is accepted exactly if its bytes spell a run, of at most 200 steps, of
 -- the two systems beside each other, from a state of each
-pub judged-joint : (k : ℕ) (l r s : List ℕ) → SoundTable k l → SoundTable k r
+pub judged-joint : (k : Labels) (l r s : List ℕ) → SoundTable k l → SoundTable k r
     → Judges (JointRun k l r s) (checkJoint k l r s)
 unfolding checkJoint firstOf
 judged-joint k l r s sl sr = judged-iff
@@ -247,7 +248,7 @@ judged-joint k l r s sl sr = judged-iff
     (judged-unless NotReal (decided-true (isJointRun k l r s)))))
 
 -- two tables and a joint run of them are accepted exactly if each is sound
-pub judged-tables-and-joint : (k : ℕ) (l r s : List ℕ)
+pub judged-tables-and-joint : (k : Labels) (l r s : List ℕ)
     → Judges (SoundTable k l × (SoundTable k r × JointRun k l r s)) (checkTablesAndJoint k l r s)
 unfolding checkTablesAndJoint firstOf
 judged-tables-and-joint k l r s =

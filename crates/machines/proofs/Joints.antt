@@ -12,9 +12,8 @@ use borrow.Author.Tests.{eq-eqb, ne-eqb, lt-ltb, le-ltb, le-leb, lt-leb}
 use Rattle.hml.specs.Lists.{any, present, guard}
 use Rattle.hml.proofs.Lists.{any-cong}
 use Rattle.hml.specs.System.{System, Pairing}
-use Rattle.hml.specs.Labels.{pairs}
 use Rattle.labels.specs.Refusals.{firstOf, thenOf}
-use Rattle.labels.specs.Labels.{partnerFound}
+use Rattle.labels.specs.Labels.{partnerFound, pairing}
 use Rattle.tables.specs.Tables.{statesOf, tableOf, threes, among, hasMove, checkTable}
 use Rattle.tables.specs.Working.{Ready}
 use Rattle.halves.specs.Runs.{goOn}
@@ -33,6 +32,7 @@ use Rattle.labels.specs.declared.refusal.Refusal.the-variants.{WrongLength, Not
 use Rattle.labels.specs.declared.refusal.Check.{Check}
 use Rattle.labels.specs.declared.refusal.Check.the-variants.{Sound, Refused}
 use Rattle.labels.proofs.Refusals.{then-assoc, both-sound}
+use Rattle.labels.specs.declared.label.Labels.{Labels}
 use Rattle.tables.proofs.SoundTables.{ready}
 use Rattle.halves.proofs.Runs.{ended, stopped, passed}
 
@@ -155,9 +155,9 @@ module _ (s : List ℕ) (i : ℕ) where
   unfolding jointSteps threes
   no-three h = rw (drop-of-length-le s {i = 3 * i + 2} h)
 
-module _ (k : ℕ) (l r s : List ℕ) where
+module _ (k : Labels) (l r s : List ℕ) where
   abbrev fitsHere : ℕ × ℕ → ℕ → ℕ × ℕ → Bool
-  fitsHere = isRealStep (pairs k) (tableOf l) (tableOf r)
+  fitsHere = isRealStep (pairing k) (tableOf l) (tableOf r)
 
   -- the steps before step i are real, and those from it on decide
   unfoldable pub Walked : ℕ → Type 0
@@ -198,7 +198,7 @@ module _ (k : ℕ) (l r s : List ℕ) where
           there : 3 * i + 4 < length s
           there = omega (arith, found .fit, found .within)
 
-          realHere : isRealStep (pairs k) (tableOf l) (tableOf r)
+          realHere : isRealStep (pairing k) (tableOf l) (tableOf r)
               (getD s (3 * i) 0, getD s (3 * i + 1) 0) (getD s (3 * i + 2) 0)
               (getD s (3 * i + 3) 0, getD s (3 * i + 4) 0) ≡ b
           unfolding jointStepAt
@@ -217,7 +217,7 @@ module _ (k : ℕ) (l r s : List ℕ) where
               ∙ passed fitsHere _ (next-three s i there) w (realHere ∙ n)
 
 -- the two tables' checks as the code has them
-module _ (k : ℕ) (l r : List ℕ) where
+module _ (k : Labels) (l r : List ℕ) where
   pub tables-judged : {x y a b : Check} → x ≡ thenOf a b → a ≡ checkTable k l → b ≡ checkTable k r → x ≡ y
       → thenOf (checkTable k l) (checkTable k r) ≡ y
   tables-judged e f g h = rw (← f, ← g, ← e) h
@@ -226,7 +226,7 @@ module _ (k : ℕ) (l r : List ℕ) where
   tables-ready e = let b = both-sound (checkTable k l) (checkTable k r) e in (ready k l (b .0), ready k r (b .1))
 
 -- two tables and a joint run of them
-module _ (k : ℕ) (l r s : List ℕ) where
+module _ (k : Labels) (l r s : List ℕ) where
   pub tables-refused : (x : Refusal) → thenOf (checkTable k l) (checkTable k r) ≡ Refused x
       → Refused x ≡ checkTablesAndJoint k l r s
   unfolding checkTablesAndJoint firstOf

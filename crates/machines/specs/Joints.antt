@@ -9,12 +9,13 @@ use lib.Dec.{eqb, leb, ltb}
 use Rattle.hml.specs.Lists.{same, any, present, each}
 use Rattle.hml.specs.System.{System, Run, start, steps, first, RunOf, Pairing}
 use Rattle.hml.specs.Compose.{beside}
-use Rattle.hml.specs.Labels.{pairs}
+use Rattle.labels.specs.Labels.{pairing}
 use Rattle.labels.specs.Refusals.{refusedIf, firstOf}
 use Rattle.tables.specs.Tables.{statesOf, threes, tableOf, hasMove, checkTable}
 use Rattle.halves.specs.Runs.{written, lengthened, goOn}
 use Rattle.labels.specs.declared.refusal.Check.{Check}
 use Rattle.labels.specs.declared.refusal.Refusal.the-variants.{WrongLength, NotReal}
+use Rattle.labels.specs.declared.label.Labels.{Labels}
 
 -- a joint run as bytes; a joint idle is 255 and both states kept
 unfoldable pub jointBytes : Run (ℕ × ℕ) → List ℕ
@@ -31,8 +32,8 @@ jointOf (p ∷ q ∷ bytes) = lengthened (start (p, q)) (jointSteps bytes)
 
 -- what it is for bytes to be a joint run of two tables: they spell a run, of at most 200 steps, of the two systems
 -- beside each other that starts in a state of each
-unfoldable pub JointRun : ℕ → List ℕ → List ℕ → List ℕ → Type 0
-JointRun k l r s = (j : Run (ℕ × ℕ)) × (s ≡ jointBytes j) × RunOf (beside (pairs k) (tableOf l) (tableOf r)) j
+unfoldable pub JointRun : Labels → List ℕ → List ℕ → List ℕ → Type 0
+JointRun k l r s = (j : Run (ℕ × ℕ)) × (s ≡ jointBytes j) × RunOf (beside (pairing k) (tableOf l) (tableOf r)) j
     × (first j .0 < statesOf l) × (first j .1 < statesOf r) × (steps j ≤ 200)
 
 -- the same as a test: the four ways that make a step from (p, q) to (p′, q′) real
@@ -70,14 +71,14 @@ unfoldable pub fitJoint : List ℕ → Bool
 fitJoint s = eqb (length s % 3) 2 && leb (length s) 602
 
 -- 8: "a start state out of range, or a step not real"
-unfoldable pub isJointRun : ℕ → List ℕ → List ℕ → List ℕ → Bool
+unfoldable pub isJointRun : Labels → List ℕ → List ℕ → List ℕ → Bool
 isJointRun k l r s = ltb (getD s 0 0) (statesOf l) && (ltb (getD s 1 0) (statesOf r)
-    && goOn (isRealStep (pairs k) (tableOf l) (tableOf r)) (getD s 0 0, getD s 1 0) (jointSteps (drop 2 s)))
+    && goOn (isRealStep (pairing k) (tableOf l) (tableOf r)) (getD s 0 0, getD s 1 0) (jointSteps (drop 2 s)))
 
-unfoldable pub checkJoint : ℕ → List ℕ → List ℕ → List ℕ → Check
+unfoldable pub checkJoint : Labels → List ℕ → List ℕ → List ℕ → Check
 checkJoint k l r s =
     firstOf (refusedIf (not (fitJoint s)) WrongLength ∷ refusedIf (not (isJointRun k l r s)) NotReal ∷ [])
 
 -- the check of two tables and a joint run of them, in record order
-unfoldable pub checkTablesAndJoint : ℕ → List ℕ → List ℕ → List ℕ → Check
+unfoldable pub checkTablesAndJoint : Labels → List ℕ → List ℕ → List ℕ → Check
 checkTablesAndJoint k l r s = firstOf (checkTable k l ∷ checkTable k r ∷ checkJoint k l r s ∷ [])

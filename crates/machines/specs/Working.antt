@@ -7,7 +7,8 @@ use mathlib.Core.List.{List}
 use Rattle.hml.specs.System.{Pairing, System, first, last, steps, RunOf}
 use Rattle.tables.specs.Tables.{among, tableOf, SoundTable, statesOf}
 use Rattle.hml.specs.Compose.{beside}
-use Rattle.hml.specs.Labels.{pairs}
+use Rattle.labels.specs.Labels.{pairing}
+use Rattle.labels.specs.declared.label.Labels.{Labels}
 use mathlib.Core.Path.{_≡_}
 use lib.ListN.{length, getD, take, set}
 use Rattle.machines.specs.Joints.{jointBytes, jointOf}
@@ -22,16 +23,16 @@ unfoldable pub answerTo : Pairing → List (ℕ × ℕ) → ℕ → ℕ → ℕ 
 answerTo P answers p′ q′ m = cond (same (m .1) p′) (kept (λ b. among answers b q′) (P .partner (m .0))) none
 
 -- the two tables beside each other
-abbrev pub tablesOf : ℕ → List ℕ → List ℕ → System (ℕ × ℕ)
-tablesOf k l r = beside (pairs k) (tableOf l) (tableOf r)
+abbrev pub tablesOf : Labels → List ℕ → List ℕ → System (ℕ × ℕ)
+tablesOf k l r = beside (pairing k) (tableOf l) (tableOf r)
 
 -- two tables that no check refuses
-pub record Tables (k : ℕ) (l r : List ℕ) : Type 0 where
+pub record Tables (k : Labels) (l r : List ℕ) : Type 0 where
   pub left : SoundTable k l
   pub right : SoundTable k r
 
 -- what an accepted joint run is
-pub record AcceptedJoint (k : ℕ) (l r s : List ℕ) : Type 0 where
+pub record AcceptedJoint (k : Labels) (l r s : List ℕ) : Type 0 where
   pub run : RunOf (tablesOf k l r) (jointOf s)
   pub spelled : jointBytes (jointOf s) ≡ s
   pub beginsLeft : first (jointOf s) .0 < statesOf l

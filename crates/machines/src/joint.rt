@@ -16,7 +16,6 @@ ghost use Prim.Native.Nat.{_%_};
 ghost use mathlib.Core.Bool.{_&&_};
 ghost use lib.Dec.{eqb};
 ghost use lib.ListN.{length};
-ghost use Rattle.hml.specs.Labels.{pairs};
 ghost use Rattle.labels.specs.Labels.{pairing};
 ghost use Rattle.tables.specs.Tables.{rowsOf, tableOf, hasMove, Rising};
 ghost use Rattle.tables.specs.Working.{Ready};
@@ -24,7 +23,7 @@ ghost use Rattle.machines.specs.Joints.{isHandshake, isJointIdle, isReal
 
 // The check of two tables and of a joint run of them: the tables' numbers, then 3 and 8.
 pub fn check_joint(labels: Labels, left: &[u8], right: &[u8], run: &[u8]) -> Check
-    ensures { λ r. ⌜ r ≡ checkTablesAndJoint (labels .pairs) (now (left .entry)) (now (right .entry))
+    ensures { λ r. ⌜ r ≡ checkTablesAndJoint labels (now (left .entry)) (now (right .entry))
         (now (run .entry)) ⌝ }
 {
     match check_table(labels, left).then(check_table(labels, right)) {
@@ -48,7 +47,7 @@ pub fn check_joint(labels: Labels, left: &[u8], right: &[u8], run: &[u8]) -> Che
 fn is_joint_run(labels: Labels, left: &[u8], right: &[u8], run: &[u8]) -> bool
     requires { ⌜ Ready (now left) × Ready (now right) ⌝ }
     requires { ⌜ length (now run) % 3 ≡ 2 ⌝ }
-    ensures { λ r. ⌜ r ≡ isJointRun (labels .pairs) (now (left .entry)) (now (right .entry)) (now (run .entry)) ⌝ }
+    ensures { λ r. ⌜ r ≡ isJointRun labels (now (left .entry)) (now (right .entry)) (now (run .entry)) ⌝ }
 {
     if left[0] <= run[0] {
         return false;

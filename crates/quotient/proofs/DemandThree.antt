@@ -9,10 +9,11 @@ use lib.ListN.{length, take, drop}
 use Rattle.hml.specs.System.{steps, stop}
 use Rattle.hml.specs.Formula.{Formula, size, holds}
 use Rattle.hml.specs.Compose.{beside}
-use Rattle.hml.specs.Labels.{pairs}
+use Rattle.labels.specs.Labels.{pairing}
 use Rattle.hml.specs.Spell.{spell}
 use Rattle.hml.specs.Quotient.{quotient}
 use Rattle.labels.specs.declared.refusal.Check.the-variants.{Sound}
+use Rattle.labels.specs.declared.label.Labels.{Labels}
 use Rattle.tables.specs.Tables.{tableOf}
 use Rattle.halves.specs.Halves.{halfOf}
 use Rattle.halves.specs.Cuts.{knownOf, knownPart, otherPart, cutOf}
@@ -35,13 +36,13 @@ use Rattle.quotient.proofs.GivenVerdicts.{joint-given, half-given}
 use Rattle.quotient.specs.Demand.{DemandThree, Given, Decomposed, Demand}
 
 -- one splitting of a sound log and a legal question φ: a call whose checks pass does what the demand says
-module _ (k : ℕ) (l r s a b f : List ℕ) (side : Side) (point : ℕ) (log : LogParts k l r s)
+module _ (k : Labels) (l r s a b f : List ℕ) (side : Side) (point : ℕ) (log : LogParts k l r s)
     (within : point ≤ steps (jointOf s)) (split : SplitRun k l r s a b point) (φ : Formula) (asked : f ≡ spell φ [])
   where
     -- the tree of the quotient by the known half stopped at the point
     abbrev ψ : Formula
     ψ =
-        quotient (pairs k) (tableOf (knownPart l r (knownOf side))) φ
+        quotient (pairing k) (tableOf (knownPart l r (knownOf side))) φ
         (stop point (halfOf (knownPart a b (knownOf side))))
 
     tree-is : treeByHalf k l r a b f side point ≡ some ψ
@@ -54,7 +55,7 @@ module _ (k : ℕ) (l r s a b f : List ℕ) (side : Side) (point : ℕ) (log : L
 
     module _ (legal : checkFormula k questionLimit f ≡ Sound) where
       log-verdict : jointVerdict k l r s f point
-          ≡ verdictOf (holds (beside (pairs k) (tableOf l) (tableOf r)) φ (stop point (jointOf s)))
+          ≡ verdictOf (holds (beside (pairing k) (tableOf l) (tableOf r)) φ (stop point (jointOf s)))
       log-verdict =
           joint-given k f φ asked point l r s (joint-call-sound k l r s log point within f (question-fits k f legal))
 

@@ -5,9 +5,10 @@ use mathlib.Core.List.{List, []}
 use Rattle.hml.specs.System.{stop}
 use Rattle.hml.specs.Formula.{Formula, holds}
 use Rattle.hml.specs.Compose.{beside}
-use Rattle.hml.specs.Labels.{pairs}
+use Rattle.labels.specs.Labels.{pairing}
 use Rattle.hml.specs.Spell.{spell}
 use Rattle.labels.specs.declared.refusal.Check.the-variants.{Sound}
+use Rattle.labels.specs.declared.label.Labels.{Labels}
 use Rattle.tables.specs.Tables.{tableOf}
 use Rattle.halves.specs.Halves.{halfOf}
 use Rattle.machines.specs.Joints.{jointOf}
@@ -15,16 +16,16 @@ use Rattle.formulas.proofs.Checking.{formula-spell}
 use Rattle.verdict.specs.Verdicts.{jointHolds, halfHolds, checkJointCall, checkHalfCall, verdictOf, answered}
 use Rattle.verdict.specs.Verdicts.{jointVerdict, halfVerdict}
 
-module _ (k : ℕ) (f : List ℕ) (φ : Formula) (spelled : f ≡ spell φ []) (point : ℕ) where
+module _ (k : Labels) (f : List ℕ) (φ : Formula) (spelled : f ≡ spell φ []) (point : ℕ) where
   -- on a joint run
   pub joint-holds : (l r s : List ℕ)
-      → jointHolds k l r s f point ≡ holds (beside (pairs k) (tableOf l) (tableOf r)) φ (stop point (jointOf s))
+      → jointHolds k l r s f point ≡ holds (beside (pairing k) (tableOf l) (tableOf r)) φ (stop point (jointOf s))
   unfolding jointHolds
   joint-holds l r s = rw (spelled, formula-spell φ)
 
   pub joint-given : (l r s : List ℕ) → checkJointCall k l r s f point ≡ Sound
       → jointVerdict k l r s f point ≡ verdictOf
-      (holds (beside (pairs k) (tableOf l) (tableOf r)) φ (stop point (jointOf s)))
+      (holds (beside (pairing k) (tableOf l) (tableOf r)) φ (stop point (jointOf s)))
   unfolding jointVerdict answered
   joint-given l r s e = rw (e, joint-holds l r s)
 

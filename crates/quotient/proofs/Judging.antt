@@ -6,7 +6,7 @@ use mathlib.Core.List.{List}
 use lib.ListN.{length}
 use borrow.Author.Tests.{lt-ltb, le-ltb}
 use Rattle.labels.specs.Refusals.{thenOf, firstOf, refusedIf}
-use Rattle.labels.specs.Labels.{checkPairs}
+use Rattle.labels.specs.Labels.{checkLabels}
 use Rattle.labels.specs.declared.refusal.Refusal.{Refusal}
 use Rattle.labels.specs.declared.refusal.Refusal.the-variants.{PointBeyond, HalvesDoNotMatch}
 use Rattle.labels.specs.declared.refusal.Check.{Check}
@@ -18,13 +18,14 @@ use Rattle.halves.specs.Cuts.{knownOf, knownPart, beyond, cutOf}
 use Rattle.halves.specs.declared.side.Side.{Side}
 use Rattle.halves.proofs.Cuts.{refused-empty}
 use Rattle.labels.proofs.Slices.{no-bytes}
+use Rattle.labels.specs.declared.label.Labels.{Labels}
 use Rattle.formulas.specs.Formulas.{questionLimit, checkFormula}
 use Rattle.joining.specs.Joinings.{halvesMatch, checkHalves}
 use Rattle.splitting.specs.Splittings.{checkLog}
 use Rattle.quotient.specs.Calls.{checkByHalf}
 use Rattle.quotient.specs.Working.{checkAsked, checkAskedRun, checkAskedLog}
 
-module _ (k : ℕ) (a b f : List ℕ) (side : Side) (point : ℕ) where
+module _ (k : Labels) (a b f : List ℕ) (side : Side) (point : ℕ) where
   -- what is asked of two halves
   pub question-refused : (x : Refusal) → checkFormula k questionLimit f ≡ Refused x
       → Refused x ≡ checkAsked k a b f side point
@@ -46,14 +47,14 @@ module _ (k : ℕ) (a b f : List ℕ) (side : Side) (point : ℕ) where
 
   -- what a call judges that takes halves, with what is asked as one
   by-half-regroup : (l r : List ℕ) → checkByHalf k l r a b f side point
-      ≡ thenOf (checkPairs k)
+      ≡ thenOf (checkLabels k)
       (thenOf (checkTable k l)
       (thenOf (checkTable k r)
       (thenOf (checkAsked k a b f side point)
       (thenOf (checkHalf l a) (thenOf (checkHalf r b) (refusedIf (not (halvesMatch k a b)) HalvesDoNotMatch))))))
   unfolding checkByHalf checkAsked firstOf
   by-half-regroup l r =
-      go (checkPairs k) (checkTable k l) (checkTable k r) (checkFormula k questionLimit f)
+      go (checkLabels k) (checkTable k l) (checkTable k r) (checkFormula k questionLimit f)
       (refusedIf (beyond (knownPart a b (knownOf side)) point) PointBeyond) (checkHalf l a) (checkHalf r b)
     where
       m : Check
@@ -79,19 +80,19 @@ module _ (k : ℕ) (a b f : List ℕ) (side : Side) (point : ℕ) where
     halves-decide e d =
         d ∙ rw (by-half-regroup l r, e, then-sound (refusedIf (not (halvesMatch k a b)) HalvesDoNotMatch))
 
-    pub pairs-decide : (x : Refusal) → checkPairs k ≡ Refused x → Refused x ≡ checkByHalf k l r a b f side point
+    pub labels-decide : (x : Refusal) → checkLabels k ≡ Refused x → Refused x ≡ checkByHalf k l r a b f side point
     unfolding checkByHalf firstOf
-    pairs-decide x e = rw e
+    labels-decide x e = rw e
 
     -- else the tables are judged first
-    pub asked-decides : checkPairs k ≡ Sound → (x : Refusal) → checkAsked k a b f side point ≡ Refused x
+    pub asked-decides : checkLabels k ≡ Sound → (x : Refusal) → checkAsked k a b f side point ≡ Refused x
         → {t u c d : Check} → t ≡ checkTable k l → u ≡ checkTable k r → c ≡ thenOf t u → d ≡ thenOf c (Refused x)
         → d ≡ checkByHalf k l r a b f side point
     asked-decides e x h t u c d =
         d ∙ rw (c, t, u, by-half-regroup l r, e, h) (then-assoc (checkTable k l) (checkTable k r) (Refused x))
 
 -- what is asked of a joint run
-module _ (k : ℕ) (s f : List ℕ) (point : ℕ) where
+module _ (k : Labels) (s f : List ℕ) (point : ℕ) where
   pub run-question-refused : (x : Refusal) → checkFormula k questionLimit f ≡ Refused x
       → Refused x ≡ checkAskedRun k s f point
   unfolding checkAskedRun firstOf

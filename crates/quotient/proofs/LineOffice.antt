@@ -15,13 +15,14 @@ use Rattle.hml.specs.Compose.{paired}
 use Rattle.hml.proofs.Composition.{Join}
 use Rattle.hml.specs.Spell.{spell}
 use Rattle.hml.proofs.Joins.{join-steps}
-use Rattle.hml.specs.Labels.{pairs}
+use Rattle.labels.specs.Labels.{pairing}
 use Rattle.labels.specs.Refusals.{thenOf, firstOf, refusedIf}
 use Rattle.labels.specs.declared.refusal.Refusal.{Refusal}
 use Rattle.labels.specs.declared.refusal.Refusal.the-variants.{QuotientTooLarge, OutputTooShort}
 use Rattle.labels.specs.declared.refusal.Check.{Check}
 use Rattle.labels.specs.declared.refusal.Check.the-variants.{Sound, Refused}
 use Rattle.labels.proofs.Refusals.{both-sound, passed, unrefused}
+use Rattle.labels.specs.declared.label.Labels.{Labels}
 use Rattle.halves.specs.Halves.{halfOf, isHalfRun, checkHalf}
 use Rattle.halves.specs.Cuts.{knownOf, knownPart, otherPart}
 use Rattle.halves.specs.declared.side.Side.{Side}
@@ -74,7 +75,7 @@ unfolding verdictOf
 both-given true = refl
 both-given false = refl
 
-module _ (k : ℕ) (l r a b f : List ℕ) (side : Side) (point : ℕ) where
+module _ (k : Labels) (l r a b f : List ℕ) (side : Side) (point : ℕ) where
   -- the log that the halves join to
   abbrev log : List ℕ
   log = joinBytes k a b
@@ -96,7 +97,7 @@ module _ (k : ℕ) (l r a b f : List ℕ) (side : Side) (point : ℕ) where
     point-within =
         let parts = by-half-checked k l r a b f side point parts-sound .0 in
         let halves = sound-halves k l r a b halves-sound in
-        let (m, n) = join-steps (pairs k) paired (halves-join halves .0) in
+        let (m, n) = join-steps (pairing k) paired (halves-join halves .0) in
         let h = passed (isHalfRun (knownPart l r (knownOf side)) (knownPart a b (knownOf side))) _ (parts .half) in
         let i = ltb-false _ _
         (sym (cut-points (knownPart a b (knownOf side)) point (knownPart l r (knownOf side)) h) ∙ parts .within) in
@@ -130,7 +131,7 @@ module _ (k : ℕ) (l r a b f : List ℕ) (side : Side) (point : ℕ) where
     unfolding lineHolds machineHolds textOf
     verdicts-same =
         let halves = sound-halves k l r a b halves-sound in
-        let join : Join (pairs k) paired (halfOf a) (halfOf b) (jointOf log) = rw (joined-read halves)
+        let join : Join (pairing k) paired (halfOf a) (halfOf b) (jointOf log) = rw (joined-read halves)
         (halves-join halves .0) in
         joint-holds k f (demand .question) (demand .asked) point l r log
         ∙ verdict-kept k l r a b (knownOf side) (demand .question) (jointOf log) point join

@@ -11,13 +11,14 @@ use borrow.Author.Tests.{le-ltb, ltb-false, leb-false}
 use Rattle.hml.proofs.Tests.{apart}
 use Rattle.hml.specs.System.{steps}
 use Rattle.labels.specs.Refusals.{thenOf, firstOf, refusedIf, inFront}
-use Rattle.labels.specs.Labels.{checkPairs}
+use Rattle.labels.specs.Labels.{checkLabels}
 use Rattle.labels.specs.declared.refusal.Refusal.{Refusal}
 use Rattle.labels.specs.declared.refusal.Refusal.the-variants.{PointBeyond, TooManySplittings, NoSuchSplitting}
 use Rattle.labels.specs.declared.refusal.Refusal.the-variants.{OutputTooShort}
 use Rattle.labels.specs.declared.refusal.Check.{Check}
 use Rattle.labels.specs.declared.refusal.Check.the-variants.{Sound, Refused}
 use Rattle.labels.proofs.Refusals.{both-sound, passed, unrefused}
+use Rattle.labels.specs.declared.label.Labels.{Labels}
 use Rattle.tables.specs.Tables.{checkTable}
 use Rattle.halves.specs.Halves.{halfOf, isHalfRun, checkHalf}
 use Rattle.halves.specs.Cuts.{knownOf, knownPart, beyond, cutOf}
@@ -45,15 +46,15 @@ use Rattle.quotient.specs.Working.{checkAskedRun, logFirst, checkAskedLo
 use Rattle.quotient.proofs.SplitRuns.{log-parts, split-run, known-within}
 
 -- the known table, the known half of it and the question, that no check refuses, at a point of the half
-pub record KnownParts (k : ℕ) (l r a b f : List ℕ) (side : Side) (point : ℕ) : Type 0 where
-  pub pairs : checkPairs k ≡ Sound
+pub record KnownParts (k : Labels) (l r a b f : List ℕ) (side : Side) (point : ℕ) : Type 0 where
+  pub labels : checkLabels k ≡ Sound
   pub table : checkTable k (knownPart l r (knownOf side)) ≡ Sound
   pub half : checkHalf (knownPart l r (knownOf side)) (knownPart a b (knownOf side)) ≡ Sound
   pub question : checkFormula k questionLimit f ≡ Sound
   pub within : beyond (knownPart a b (knownOf side)) point ≡ false
 
 -- the known one of two sound tables, and of two sound halves
-known-table : (k : ℕ) (l r : List ℕ) (known : Known) → checkTable k l ≡ Sound → checkTable k r ≡ Sound
+known-table : (k : Labels) (l r : List ℕ) (known : Known) → checkTable k l ≡ Sound → checkTable k r ≡ Sound
     → checkTable k (knownPart l r known) ≡ Sound
 known-table k l r known.Left e f = e
 known-table k l r known.Right e f = f
@@ -65,7 +66,7 @@ known-half l r a b known.Right e f = f
 
 -- the division by the known half, cut at the point: it refuses nothing but 17 and 18, and its tree is the quotient by
 -- the known half stopped at the point
-module _ (k : ℕ) (l r a b f : List ℕ) (side : Side) (point : ℕ) (parts : KnownParts k l r a b f side point)
+module _ (k : Labels) (l r a b f : List ℕ) (side : Side) (point : ℕ) (parts : KnownParts k l r a b f side point)
     (t h : List ℕ) (u : t ≡ knownPart l r (knownOf side)) (v : h ≡ cutOf a b side point) where
   division-sound : checkDivision k t h f ≡ Sound
   unfolding checkDivision firstOf cutOf checkHalf
@@ -73,7 +74,7 @@ module _ (k : ℕ) (l r a b f : List ℕ) (side : Side) (point : ℕ) (parts : K
       rw (
         u,
         v,
-        parts .pairs,
+        parts .labels,
         parts .table,
         parts .question,
         cut-accepted (knownPart a b (knownOf side)) point (knownPart l r (knownOf side))
@@ -95,7 +96,7 @@ module _ (k : ℕ) (l r a b f : List ℕ) (side : Side) (point : ℕ) (parts : K
   divided-output out e = rw (← division-sound, ← division-tree) e
 
 -- the quotient by a half
-module _ (k : ℕ) (l r a b f : List ℕ) (side : Side) (point : ℕ) where
+module _ (k : Labels) (l r a b f : List ℕ) (side : Side) (point : ℕ) where
   pub by-half-refused : (x : Refusal) → checkByHalf k l r a b f side point ≡ Refused x → (out : List ℕ)
       → (answer.Refused x ≡ byHalf k l r a b f side point (length out))
       × (out ≡ byHalfOutput k l r a b f side point out)
@@ -107,7 +108,7 @@ module _ (k : ℕ) (l r a b f : List ℕ) (side : Side) (point : ℕ) where
     pub by-half-checked : KnownParts k l r a b f side point × (checkHalves k l r a b ≡ Sound)
     unfolding checkByHalf checkHalves firstOf
     by-half-checked =
-        let (pairs, c) = both-sound (checkPairs k) _ e in
+        let (labels, c) = both-sound (checkLabels k) _ e in
         let (left, d) = both-sound (checkTable k l) _ c in
         let (right, g) = both-sound (checkTable k r) _ d in
         let (question, h) = both-sound (checkFormula k questionLimit f) _ g in
@@ -115,13 +116,13 @@ module _ (k : ℕ) (l r a b f : List ℕ) (side : Side) (point : ℕ) where
         let (x, j) = both-sound (checkHalf l a) _ i in
         let (y, m) = both-sound (checkHalf r b) _ j in (
           record {
-            pairs = pairs;
+            labels = labels;
             table = known-table k l r (knownOf side) left right;
             half = known-half l r a b (knownOf side) x y;
             question = question;
             within = unrefused _ _ point;
           },
-          rw (pairs, left, right, x, y) m,
+          rw (labels, left, right, x, y) m,
         )
 
     pub by-half-divided : (t h out x : List ℕ) (q : Quotient) → t ≡ knownPart l r (knownOf side)
@@ -151,7 +152,7 @@ grouped Sound Sound Sound Sound Sound Sound (Refused x) n = refl
 grouped Sound Sound Sound Sound Sound Sound Sound n = refl
 
 -- what the check of a number lets through
-number-checked : (k : ℕ) (l r s : List ℕ) (n : ℕ) → checkNumber k l r s n ≡ Sound
+number-checked : (k : Labels) (l r s : List ℕ) (n : ℕ) → checkNumber k l r s n ≡ Sound
     → (checkLog k l r s ≡ Sound) × (length (splittingsOf k l r s) ≤ 65535) × (n < length (splittingsOf k l r s))
 unfolding checkNumber checkCount firstOf splittingLimit
 number-checked k l r s n e =
@@ -167,7 +168,7 @@ halved-refused Sound m x e = absurd (apart cc)
 halved-refused (Refused y) m x e = let z : y ≡ x = cc in ap Refused z
 
 -- the quotient by the splitting of a number
-module _ (k : ℕ) (l r s f : List ℕ) (n point : ℕ) where
+module _ (k : Labels) (l r s f : List ℕ) (n point : ℕ) where
   -- where the log is sound it has as many steps as threes of bytes
   same-points : (c d : Check)
       → thenOf (checkLog k l r s)
@@ -187,7 +188,7 @@ module _ (k : ℕ) (l r s f : List ℕ) (n point : ℕ) where
       ≡ thenOf (checkLog k l r s) (thenOf (checkAskedRun k s f point) (checkNumber k l r s n))
   unfolding checkByNumber checkNumber checkCount checkLog checkAskedRun firstOf
   number-regroup =
-      grouped (checkPairs k) (checkTable k l) (checkTable k r) (checkJoint k l r s) (checkFormula k questionLimit f)
+      grouped (checkLabels k) (checkTable k l) (checkTable k r) (checkJoint k l r s) (checkFormula k questionLimit f)
       (refusedIf (ltb (steps (jointOf s)) point) PointBeyond)
       (refusedIf (ltb splittingLimit (length (splittingsOf k l r s))) TooManySplittings)
       (refusedIf (leb (length (splittingsOf k l r s)) n) NoSuchSplitting)
@@ -204,11 +205,11 @@ module _ (k : ℕ) (l r s f : List ℕ) (n point : ℕ) where
       go Sound e = absurd (apart cc)
       go (Refused y) e = e
 
-  pub pairs-refuse : (x : Refusal) → checkPairs k ≡ Refused x → (side : Side) (out : List ℕ)
+  pub labels-refuse : (x : Refusal) → checkLabels k ≡ Refused x → (side : Side) (out : List ℕ)
       → (answer.Refused x ≡ byNumber k l r s f n side point (length out))
       × (out ≡ byNumberOutput k l r s f n side point out)
   unfolding byNumber byNumberOutput checkByNumber firstOf
-  pairs-refuse x e side out = part-refused (checkByNumber k l r s f n point) _ out x (rw e)
+  labels-refuse x e side out = part-refused (checkByNumber k l r s f n point) _ out x (rw e)
 
   pub asked-log-refuses : (x : Refusal) → checkAskedLog k l r s f point ≡ Refused x → (side : Side) (out : List ℕ)
       → (answer.Refused x ≡ byNumber k l r s f n side point (length out))
@@ -289,7 +290,7 @@ module _ (k : ℕ) (l r s f : List ℕ) (n point : ℕ) where
           let split = split-run k l r s _ _ point e j
           (omega (arith, sound-log k l r s log .run .counted, ltb-false (length s / 3) point (unrefused _ _ within))) in
           record {
-            pairs = parts .machines .pairs;
+            labels = parts .machines .labels;
             table = known-table k l r (knownOf side) (parts .machines .left) (parts .machines .right);
             half = known-half l r _ _ (knownOf side) (split .left) (split .right);
             question = question;

@@ -10,11 +10,11 @@ use Rattle.hml.specs.System.{steps}
 use Rattle.hml.specs.Compose.{paired}
 use Rattle.hml.proofs.Composition.{Join}
 use Rattle.hml.proofs.Joins.{join-steps}
-use Rattle.hml.specs.Labels.{pairs}
 use Rattle.labels.specs.Refusals.{firstOf, refusedIf}
-use Rattle.labels.specs.Labels.{checkPairs}
+use Rattle.labels.specs.Labels.{checkLabels, pairing}
 use Rattle.labels.specs.declared.refusal.Check.the-variants.{Sound}
 use Rattle.labels.proofs.Refusals.{both-sound, passed}
+use Rattle.labels.specs.declared.label.Labels.{Labels}
 use Rattle.tables.specs.Tables.{checkTable}
 use Rattle.halves.specs.Halves.{halfOf, isHalfRun, checkHalf}
 use Rattle.halves.specs.Cuts.{knownOf, knownPart, otherPart, beyond}
@@ -31,23 +31,23 @@ use Rattle.splitting.proofs.LogRuns.{SoundMachines, sound-log, sound-halves, ha
 use Rattle.quotient.specs.Calls.{checkByHalf, checkByNumber}
 
 -- the parts of a log that no check refuses, each by its check
-pub record LogParts (k : ℕ) (l r s : List ℕ) : Type 0 where
+pub record LogParts (k : Labels) (l r s : List ℕ) : Type 0 where
   pub machines : SoundMachines k l r
   pub run : checkJoint k l r s ≡ Sound
 
-pub log-parts : (k : ℕ) (l r s : List ℕ) → checkLog k l r s ≡ Sound → LogParts k l r s
+pub log-parts : (k : Labels) (l r s : List ℕ) → checkLog k l r s ≡ Sound → LogParts k l r s
 unfolding checkLog firstOf
 log-parts k l r s e =
     let machines = sound-log k l r s e .machines in
-    let behind = rw (machines .pairs, machines .left, machines .right) at e in
+    let behind = rw (machines .labels, machines .left, machines .right) at e in
     record { machines = machines; run = both-sound (checkJoint k l r s) Sound behind .0 }
 
 -- halves that no check refuses and that join to the log, at a point of it
-pub record SplitRun (k : ℕ) (l r s a b : List ℕ) (point : ℕ) : Type 0 where
+pub record SplitRun (k : Labels) (l r s a b : List ℕ) (point : ℕ) : Type 0 where
   pub left : checkHalf l a ≡ Sound
   pub right : checkHalf r b ≡ Sound
   pub match : halvesMatch k a b ≡ true
-  pub join : Join (pairs k) paired (halfOf a) (halfOf b) (jointOf s)
+  pub join : Join (pairing k) paired (halfOf a) (halfOf b) (jointOf s)
   pub leftWithin : beyond a point ≡ false
   pub rightWithin : beyond b point ≡ false
 
@@ -56,20 +56,20 @@ within-half : (t a : List ℕ) (point : ℕ) → checkHalf t a ≡ Sound → poi
 unfolding checkHalf
 within-half t a point e h = cut-points a point t (passed (isHalfRun t a) _ e) ∙ le-ltb (steps (halfOf a)) point h
 
-pub split-run : (k : ℕ) (l r s a b : List ℕ) (point : ℕ) → checkHalves k l r a b ≡ Sound → joinBytes k a b ≡ s
+pub split-run : (k : Labels) (l r s a b : List ℕ) (point : ℕ) → checkHalves k l r a b ≡ Sound → joinBytes k a b ≡ s
     → point ≤ steps (jointOf s) → SplitRun k l r s a b point
 unfolding checkHalves firstOf
 split-run k l r s a b point e j h =
-    let (_, u) = both-sound (checkPairs k) _ e in
+    let (_, u) = both-sound (checkLabels k) _ e in
     let (_, v) = both-sound (checkTable k l) _ u in
     let (_, w) = both-sound (checkTable k r) _ v in
     let (x, p) = both-sound (checkHalf l a) _ w in
     let (y, q) = both-sound (checkHalf r b) _ p in
     let (m, _) = both-sound (refusedIf (not (halvesMatch k a b)) _) _ q in
     let halves = sound-halves k l r a b e in
-    let join : Join (pairs k) paired (halfOf a) (halfOf b) (jointOf s) = rw (← j, joined-read halves)
+    let join : Join (pairing k) paired (halfOf a) (halfOf b) (jointOf s) = rw (← j, joined-read halves)
     (halves-join halves .0) in
-    let (f, g) = join-steps (pairs k) paired join in
+    let (f, g) = join-steps (pairing k) paired join in
     record {
       left = x;
       right = y;
@@ -80,19 +80,20 @@ split-run k l r s a b point e j h =
     }
 
 -- either half has the point
-pub known-within : (k : ℕ) (l r s a b : List ℕ) (point : ℕ) → SplitRun k l r s a b point → (known : Known)
+pub known-within : (k : Labels) (l r s a b : List ℕ) (point : ℕ) → SplitRun k l r s a b point → (known : Known)
     → beyond (knownPart a b known) point ≡ false
 known-within k l r s a b point split known.Left = split .leftWithin
 known-within k l r s a b point split known.Right = split .rightWithin
 
-module _ (k : ℕ) (l r s : List ℕ) (log : LogParts k l r s) (point : ℕ) (within : point ≤ steps (jointOf s)) (f : List ℕ)
+module _ (k : Labels) (l r s : List ℕ) (log : LogParts k l r s) (point : ℕ) (within : point ≤ steps (jointOf s))
+    (f : List ℕ)
   where
     -- the verdict on the log refuses nothing
     pub joint-call-sound : checkFormula k quotientLimit f ≡ Sound → checkJointCall k l r s f point ≡ Sound
     unfolding checkJointCall firstOf
     joint-call-sound e =
         rw (
-          log .machines .pairs,
+          log .machines .labels,
           log .machines .left,
           log .machines .right,
           log .run,
@@ -106,7 +107,7 @@ module _ (k : ℕ) (l r s : List ℕ) (log : LogParts k l r s) (point : ℕ) (wi
     unfolding checkByNumber firstOf splittingLimit
     by-number-sound e n h i =
         rw (
-          log .machines .pairs,
+          log .machines .labels,
           log .machines .left,
           log .machines .right,
           log .run,
@@ -123,7 +124,7 @@ module _ (k : ℕ) (l r s : List ℕ) (log : LogParts k l r s) (point : ℕ) (wi
       unfolding checkByHalf firstOf
       by-half-sound e side =
           rw (
-            log .machines .pairs,
+            log .machines .labels,
             log .machines .left,
             log .machines .right,
             e,
@@ -138,5 +139,5 @@ module _ (k : ℕ) (l r s : List ℕ) (log : LogParts k l r s) (point : ℕ) (wi
           → checkHalfCall k (otherPart l r known) (otherPart a b known) f point ≡ Sound
       unfolding checkHalfCall firstOf
       half-call-sound e known.Left =
-          rw (log .machines .pairs, log .machines .right, e, split .rightWithin, split .right)
-      half-call-sound e known.Right = rw (log .machines .pairs, log .machines .left, e, split .leftWithin, split .left)
+          rw (log .machines .labels, log .machines .right, e, split .rightWithin, split .right)
+      half-call-sound e known.Right = rw (log .machines .labels, log .machines .left, e, split .leftWithin, split .left)

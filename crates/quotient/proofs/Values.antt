@@ -2,6 +2,7 @@
 use Prim.Native.Nat.{ℕ, _*_}
 use mathlib.Core.List.{List}
 use Rattle.labels.proofs.Answers.{Within, none, next}
+use Rattle.labels.specs.declared.label.Labels.{Labels}
 use Rattle.halves.specs.declared.side.Side.{Side}
 use Rattle.formulas.specs.Formulas.{quotientLimit}
 use Rattle.verdict.proofs.Values.{bit-small}
@@ -12,12 +13,12 @@ use Rattle.quotient.specs.declared.line.LineOffice.{LineOffice}
 use Rattle.quotient.specs.declared.line.LineOffice.the-variants as line
 
 -- of a quotient: at most 8,192
-pub half-within : (k : ℕ) (l r a b f : List ℕ) (side : Side) (point room : ℕ)
+pub half-within : (k : Labels) (l r a b f : List ℕ) (side : Side) (point room : ℕ)
     → Within (2 * quotientLimit) (quotientAnswer (byHalf k l r a b f side point room) .values)
 unfolding byHalf
 half-within k l r a b f side point room = quotient-within _ _ room
 
-pub number-within : (k : ℕ) (l r s f : List ℕ) (n : ℕ) (side : Side) (point room : ℕ)
+pub number-within : (k : Labels) (l r s f : List ℕ) (n : ℕ) (side : Side) (point room : ℕ)
     → Within (2 * quotientLimit) (quotientAnswer (byNumber k l r s f n side point room) .values)
 unfolding byNumber
 number-within k l r s f n side point room = quotient-within _ _ room

@@ -10,11 +10,12 @@ use lib.Dec.{leb, ltb}
 use Rattle.hml.specs.System.{steps, stop}
 use Rattle.hml.specs.Formula.{Formula}
 use Rattle.labels.specs.Refusals.{refusedIf, firstOf, Answer, refusedAs, giving}
-use Rattle.labels.specs.Labels.{checkPairs}
+use Rattle.labels.specs.Labels.{checkLabels}
 use Rattle.labels.specs.declared.refusal.Check.{Check}
 use Rattle.labels.specs.declared.refusal.Check.the-variants as check
 use Rattle.labels.specs.declared.refusal.Refusal.the-variants.{PointBeyond, TooManySplittings, NoSuchSplitting}
 use Rattle.labels.specs.declared.refusal.Refusal.the-variants.{HalvesDoNotMatch}
+use Rattle.labels.specs.declared.label.Labels.{Labels}
 use Rattle.tables.specs.Tables.{checkTable}
 use Rattle.halves.specs.Halves.{halfOf, checkHalf}
 use Rattle.halves.specs.Cuts.{knownOf, knownPart, otherPart, beyond}
@@ -31,15 +32,15 @@ use Rattle.quotient.specs.declared.line.LineOffice.the-variants as line
 
 -- the quotient of a question by the known half stopped at a point: by the right half from the right table, "by the left
 -- half everything is mirrored"
-unfoldable pub treeByHalf : ℕ → List ℕ → List ℕ → List ℕ → List ℕ → List ℕ → Side → ℕ → Option Formula
+unfoldable pub treeByHalf : Labels → List ℕ → List ℕ → List ℕ → List ℕ → List ℕ → Side → ℕ → Option Formula
 treeByHalf k l r a b f side point =
     quotientBy k (knownPart l r (knownOf side)) (stop point (halfOf (knownPart a b (knownOf side)))) f
 
 -- what a call judges that takes halves, in order: the parts' numbers; 12 on the known half alone; 15 for either half;
 -- 16
-unfoldable pub checkByHalf : ℕ → List ℕ → List ℕ → List ℕ → List ℕ → List ℕ → Side → ℕ → Check
+unfoldable pub checkByHalf : Labels → List ℕ → List ℕ → List ℕ → List ℕ → List ℕ → Side → ℕ → Check
 checkByHalf k l r a b f side point = firstOf
-    (checkPairs k
+    (checkLabels k
     ∷ checkTable k l
     ∷ checkTable k r
     ∷ checkFormula k questionLimit f
@@ -50,22 +51,22 @@ checkByHalf k l r a b f side point = firstOf
     ∷ [])
 
 -- the answer, with so many bytes lent, and the lent output afterwards; 17 and 18 come last
-unfoldable pub byHalf : ℕ → List ℕ → List ℕ → List ℕ → List ℕ → List ℕ → Side → ℕ → ℕ → Quotient
+unfoldable pub byHalf : Labels → List ℕ → List ℕ → List ℕ → List ℕ → List ℕ → Side → ℕ → ℕ → Quotient
 byHalf k l r a b f side point room =
     answerOf (checkByHalf k l r a b f side point) (treeByHalf k l r a b f side point) room
 
-unfoldable pub byHalfOutput : ℕ → List ℕ → List ℕ → List ℕ → List ℕ → List ℕ → Side → ℕ → List ℕ → List ℕ
+unfoldable pub byHalfOutput : Labels → List ℕ → List ℕ → List ℕ → List ℕ → List ℕ → Side → ℕ → List ℕ → List ℕ
 byHalfOutput k l r a b f side point out =
     outputAfter (checkByHalf k l r a b f side point) (treeByHalf k l r a b f side point) out
 
 -- the quotient by the known half of the splitting of a number
-unfoldable pub treeByNumber : ℕ → List ℕ → List ℕ → List ℕ → List ℕ → ℕ → Side → ℕ → Option Formula
+unfoldable pub treeByNumber : Labels → List ℕ → List ℕ → List ℕ → List ℕ → ℕ → Side → ℕ → Option Formula
 treeByNumber k l r s f n side point = treeByHalf k l r (leftHalf k l r s n) (rightHalf k l r s n) f side point
 
 -- what a call judges that names a splitting by its number: the parts' numbers; 12 on the joint run; 13; 14
-unfoldable pub checkByNumber : ℕ → List ℕ → List ℕ → List ℕ → List ℕ → ℕ → ℕ → Check
+unfoldable pub checkByNumber : Labels → List ℕ → List ℕ → List ℕ → List ℕ → ℕ → ℕ → Check
 checkByNumber k l r s f n point = firstOf
-    (checkPairs k
+    (checkLabels k
     ∷ checkTable k l
     ∷ checkTable k r
     ∷ checkJoint k l r s
@@ -75,26 +76,26 @@ checkByNumber k l r s f n point = firstOf
     ∷ refusedIf (leb (length (splittingsOf k l r s)) n) NoSuchSplitting
     ∷ [])
 
-unfoldable pub byNumber : ℕ → List ℕ → List ℕ → List ℕ → List ℕ → ℕ → Side → ℕ → ℕ → Quotient
+unfoldable pub byNumber : Labels → List ℕ → List ℕ → List ℕ → List ℕ → ℕ → Side → ℕ → ℕ → Quotient
 byNumber k l r s f n side point room =
     answerOf (checkByNumber k l r s f n point) (treeByNumber k l r s f n side point) room
 
-unfoldable pub byNumberOutput : ℕ → List ℕ → List ℕ → List ℕ → List ℕ → ℕ → Side → ℕ → List ℕ → List ℕ
+unfoldable pub byNumberOutput : Labels → List ℕ → List ℕ → List ℕ → List ℕ → ℕ → Side → ℕ → List ℕ → List ℕ
 byNumberOutput k l r s f n side point out =
     outputAfter (checkByNumber k l r s f n point) (treeByNumber k l r s f n side point) out
 
 -- the line office: one statement put to the whole line, stopped at the point
-unfoldable pub lineHolds : ℕ → List ℕ → List ℕ → List ℕ → List ℕ → List ℕ → ℕ → Bool
+unfoldable pub lineHolds : Labels → List ℕ → List ℕ → List ℕ → List ℕ → List ℕ → ℕ → Bool
 lineHolds k l r a b f point = jointHolds k l r (joinBytes k a b) f point
 
 -- and to one machine: the quotient's bytes on the other half, stopped at the point
-unfoldable pub machineHolds : ℕ → List ℕ → List ℕ → List ℕ → List ℕ → List ℕ → Side → ℕ → Bool
+unfoldable pub machineHolds : Labels → List ℕ → List ℕ → List ℕ → List ℕ → List ℕ → Side → ℕ → Bool
 machineHolds k l r a b f side point =
     halfHolds (otherPart l r (knownOf side)) (otherPart a b (knownOf side)) (textOf (treeByHalf k l r a b f side point))
     point
 
 -- judged as a quotient given halves is, without 18
-unfoldable pub checkLine : ℕ → List ℕ → List ℕ → List ℕ → List ℕ → List ℕ → Side → ℕ → Check
+unfoldable pub checkLine : Labels → List ℕ → List ℕ → List ℕ → List ℕ → List ℕ → Side → ℕ → Check
 checkLine k l r a b f side point =
     firstOf (checkByHalf k l r a b f side point ∷ checkSize (treeByHalf k l r a b f side point) ∷ [])
 
@@ -103,7 +104,7 @@ abbrev pub verdictsOf : Check → Bool → Bool → LineOffice
 verdictsOf check.Sound j h = line.Verdicts j h
 verdictsOf (check.Refused x) j h = line.Refused x
 
-unfoldable pub officeOf : ℕ → List ℕ → List ℕ → List ℕ → List ℕ → List ℕ → Side → ℕ → LineOffice
+unfoldable pub officeOf : Labels → List ℕ → List ℕ → List ℕ → List ℕ → List ℕ → Side → ℕ → LineOffice
 officeOf k l r a b f side point =
     verdictsOf (checkLine k l r a b f side point) (lineHolds k l r a b f point) (machineHolds k l r a b f side point)
 

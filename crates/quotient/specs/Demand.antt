@@ -14,7 +14,7 @@ use mathlib.Core.Logic.{_↔_}
 use mathlib.Core.Option.{some}
 use Rattle.hml.specs.System.{steps, stop}
 use Rattle.hml.specs.Compose.{beside}
-use Rattle.hml.specs.Labels.{pairs}
+use Rattle.labels.specs.Labels.{pairing}
 use Rattle.hml.specs.Quotient.{quotient}
 use Rattle.labels.specs.declared.refusal.Refusal.{Refusal}
 use Rattle.labels.specs.declared.refusal.Refusal.the-variants.{QuotientTooLarge, OutputTooShort}
@@ -24,12 +24,13 @@ use Rattle.machines.specs.Joints.{jointOf}
 use Rattle.formulas.specs.Formulas.{questionLimit, quotientLimit, checkFormula}
 use Rattle.quotient.specs.Calls.{treeByHalf, byHalf, byHalfOutput, byNumber, byNumberOutput}
 use Rattle.labels.specs.declared.refusal.Check.the-variants.{Sound}
+use Rattle.labels.specs.declared.label.Labels.{Labels}
 use Rattle.joining.specs.Joinings.{joinBytes, checkHalves}
 use Rattle.splitting.specs.Splittings.{checkLog, splittingsOf, splittingLimit, leftHalf, rightHalf}
 
 -- A call is given by what it answers if so many bytes are lent (`answer`) and by what it leaves in a lent output
 -- (`output`). Where there is room for a tree ψ: its bytes, and under them the other half's verdict is that on the log
-pub record Given (k : ℕ) (l r s a b f : List ℕ) (side : Side) (point : ℕ) (answer : ℕ → Quotient)
+pub record Given (k : Labels) (l r s a b f : List ℕ) (side : Side) (point : ℕ) (answer : ℕ → Quotient)
     (output : List ℕ → List ℕ) (ψ : Formula) (out : List ℕ) : Type 0 where
   -- the answer is the number of the bytes written: two a node
   pub written : answer (length out) ≡ Written (2 * size ψ)
@@ -44,21 +45,21 @@ pub record Given (k : ℕ) (l r s a b f : List ℕ) (side : Side) (point : ℕ) 
       ≡ jointVerdict k l r s f point
 
 -- what demand 3 says of a splitting with the halves a and b, at a point, with one side known
-pub record Decomposed (k : ℕ) (l r s a b f : List ℕ) (side : Side) (point : ℕ) (answer : ℕ → Quotient)
+pub record Decomposed (k : Labels) (l r s a b f : List ℕ) (side : Side) (point : ℕ) (answer : ℕ → Quotient)
     (output : List ℕ → List ℕ) : Type 0 where
   -- the question is the formula that its bytes spell
   pub question : Formula
   pub asked : f ≡ spell question []
   -- the tree is that of table 1, by the known half stopped at the point
   pub tree : Formula
-  pub divided : tree ≡ quotient (pairs k) (tableOf (knownPart l r (knownOf side))) question
+  pub divided : tree ≡ quotient (pairing k) (tableOf (knownPart l r (knownOf side))) question
       (stop point (halfOf (knownPart a b (knownOf side))))
   pub found : treeByHalf k l r a b f side point ≡ some tree
   -- the known half stopped at the point is what the cut gives
   pub cut : halfOf (cutOf a b side point) ≡ stop point (halfOf (knownPart a b (knownOf side)))
   -- the verdict on the log is given, and is that of the question on the run stopped at the point
   pub verdict : jointVerdict k l r s f point
-      ≡ verdictOf (holds (beside (pairs k) (tableOf l) (tableOf r)) question (stop point (jointOf s)))
+      ≡ verdictOf (holds (beside (pairing k) (tableOf l) (tableOf r)) question (stop point (jointOf s)))
   -- "17 comes exactly when the tree by the rules above has over 4,096 nodes, whatever output is lent"
   pub tooLarge : (room : ℕ) → (answer room ≡ Refused QuotientTooLarge) ↔ (quotientLimit < size tree)
   -- "otherwise only an output under two bytes a node is refused"
@@ -70,7 +71,7 @@ pub record Decomposed (k : ℕ) (l r s a b f : List ℕ) (side : Side) (point : 
       → Given k l r s a b f side point answer output tree out
 
 -- the claim as a whole, for one log, one question, one known side and one point
-pub record Demand (k : ℕ) (l r s f : List ℕ) (side : Side) (point : ℕ) : Type 0 where
+pub record Demand (k : Labels) (l r s f : List ℕ) (side : Side) (point : ℕ) : Type 0 where
   -- every splitting, given by its halves: two halves that no check refuses and that join to the log. However many
   -- splittings the log has
   pub byHalves : (a b : List ℕ) → checkHalves k l r a b ≡ Sound → joinBytes k a b ≡ s
@@ -88,7 +89,7 @@ pub record Demand (k : ℕ) (l r s f : List ℕ) (side : Side) (point : ℕ) : T
 -- the whole: every accepted log and question, every known side, every point of the log
 abbrev pub DemandThree : Type 0
 DemandThree =
-    (k : ℕ) (l r s f : List ℕ) (side : Side) (point : ℕ)
+    (k : Labels) (l r s f : List ℕ) (side : Side) (point : ℕ)
     -- the log is accepted: k (4), its tables (3, 5 to 7) and the joint run (3, 8)
     → checkLog k l r s ≡ Sound
     -- and so is the question (9, 10)

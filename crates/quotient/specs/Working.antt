@@ -8,6 +8,7 @@ use Rattle.labels.specs.Refusals.{thenOf, refusedIf, firstOf}
 use Rattle.labels.specs.declared.refusal.Check.{Check}
 use Rattle.labels.specs.declared.refusal.Check.the-variants as check
 use Rattle.labels.specs.declared.refusal.Refusal.the-variants.{PointBeyond}
+use Rattle.labels.specs.declared.label.Labels.{Labels}
 use Rattle.halves.specs.Cuts.{knownOf, knownPart, beyond}
 use Rattle.halves.specs.declared.side.Side.{Side}
 use Rattle.formulas.specs.Formulas.{questionLimit, checkFormula}
@@ -26,12 +27,12 @@ unfoldable pub restOf : List ℕ → ℕ → List ℕ
 restOf s p = drop (3 * p) s
 
 -- what is asked, of two halves: the question, then the point on the known half alone
-unfoldable pub checkAsked : ℕ → List ℕ → List ℕ → List ℕ → Side → ℕ → Check
+unfoldable pub checkAsked : Labels → List ℕ → List ℕ → List ℕ → Side → ℕ → Check
 checkAsked k a b f side point =
     firstOf (checkFormula k questionLimit f ∷ refusedIf (beyond (knownPart a b (knownOf side)) point) PointBeyond ∷ [])
 
 -- what is asked, of a joint run of fit length: the question, then the point
-unfoldable pub checkAskedRun : ℕ → List ℕ → List ℕ → ℕ → Check
+unfoldable pub checkAskedRun : Labels → List ℕ → List ℕ → ℕ → Check
 checkAskedRun k s f point =
     firstOf (checkFormula k questionLimit f ∷ refusedIf (ltb (length s / 3) point) PointBeyond ∷ [])
 
@@ -41,7 +42,7 @@ abbrev pub logFirst : Check → Check → Check
 logFirst log check.Sound = check.Sound
 logFirst log (check.Refused x) = thenOf log (check.Refused x)
 
-unfoldable pub checkAskedLog : ℕ → List ℕ → List ℕ → List ℕ → List ℕ → ℕ → Check
+unfoldable pub checkAskedLog : Labels → List ℕ → List ℕ → List ℕ → List ℕ → ℕ → Check
 checkAskedLog k l r s f point = logFirst (checkLog k l r s) (checkAskedRun k s f point)
 
 -- the verdict on the machine as the line office answers both

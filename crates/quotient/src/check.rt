@@ -4,7 +4,6 @@ use halves::side::Side;
 use halves::side::cut;
 use joining::join::check_halves;
 use labels::label::Labels;
-use labels::label::check_pairs;
 use labels::refusal::Check;
 use labels::refusal::Refusal;
 use splitting::count::check_log;
@@ -24,10 +23,10 @@ pub(crate) fn check_by_half<'a>(
     side: Side,
     point: usize,
 ) -> Check
-    ensures { λ r. ⌜ r ≡ checkByHalf (labels .pairs) (now (left .entry)) (now (right .entry)) (now («left_half» .entry))
+    ensures { λ r. ⌜ r ≡ checkByHalf labels (now (left .entry)) (now (right .entry)) (now («left_half» .entry))
         (now («right_half» .entry)) (now (question .entry)) side point ⌝ }
 {
-    match check_pairs(labels.pairs) {
+    match labels.check() {
         Check::Sound => {}
         Check::Refused(refusal) => return Check::Refused(refusal),
     }
@@ -48,7 +47,7 @@ fn check_asked<'a>(
     side: Side,
     point: usize,
 ) -> Check
-    ensures { λ r. ⌜ r ≡ checkAsked (labels .pairs) (now («left_half» .entry)) (now («right_half» .entry))
+    ensures { λ r. ⌜ r ≡ checkAsked labels (now («left_half» .entry)) (now («right_half» .entry))
         (now (question .entry)) side point ⌝ }
 {
     match check_formula(labels, 64, question) {
@@ -72,7 +71,7 @@ pub(crate) fn check_asked_log(
     question: &[u8],
     point: usize,
 ) -> Check
-    ensures { λ r. ⌜ r ≡ checkAskedLog (labels .pairs) (now (left .entry)) (now (right .entry)) (now (run .entry))
+    ensures { λ r. ⌜ r ≡ checkAskedLog labels (now (left .entry)) (now (right .entry)) (now (run .entry))
         (now (question .entry)) point ⌝ }
 {
     match check_asked_run(labels, run, question, point) {
@@ -85,7 +84,7 @@ pub(crate) fn check_asked_log(
 
 // The question (9, 10), then the point (12).
 fn check_asked_run(labels: Labels, run: &[u8], question: &[u8], point: usize) -> Check
-    ensures { λ r. ⌜ r ≡ checkAskedRun (labels .pairs) (now (run .entry)) (now (question .entry)) point ⌝ }
+    ensures { λ r. ⌜ r ≡ checkAskedRun labels (now (run .entry)) (now (question .entry)) point ⌝ }
 {
     match check_formula(labels, 64, question) {
         Check::Sound => {}

@@ -13,7 +13,7 @@ ghost use Rattle.quotient.specs.Calls.{byHalf, byHalfOutput};
 
 // Writes the quotient by the known half stopped at the point: the parts' numbers, 12, 15, 16, 17, 18.
 pub fn by_half<'a>(
-    k: u8,
+    labels: Labels,
     left: &'a [u8],
     right: &'a [u8],
     left_half: &'a [u8],
@@ -23,13 +23,13 @@ pub fn by_half<'a>(
     point: usize,
     out: &mut [u8],
 ) -> Quotient
-    ensures { λ r. ⌜ r ≡ byHalf k (now (left .entry)) (now (right .entry)) (now («left_half» .entry))
+    ensures { λ r. ⌜ r ≡ byHalf labels (now (left .entry)) (now (right .entry)) (now («left_half» .entry))
         (now («right_half» .entry)) (now (question .entry)) side point (length (now (out .entry))) ⌝ }
     ensures { λ r. ⌜ now (out .exit)
-        ≡ byHalfOutput k (now (left .entry)) (now (right .entry)) (now («left_half» .entry)) (now («right_half» .entry))
+        ≡ byHalfOutput labels (now (left .entry)) (now (right .entry)) (now («left_half» .entry))
+        (now («right_half» .entry))
         (now (question .entry)) side point (now (out .entry)) ⌝ }
 {
-    let labels = Labels { pairs: k };
     match check_by_half(
         labels,
         left,
@@ -45,5 +45,5 @@ pub fn by_half<'a>(
     }
     let table = known_part(left, right, side);
     let known = cut(left_half, right_half, side, point);
-    divide(k, table, known, question, out)
+    divide(labels, table, known, question, out)
 }

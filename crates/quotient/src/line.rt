@@ -3,6 +3,7 @@ use crate::half::by_half;
 use crate::part::other_part;
 use dividing::divide::Quotient;
 use halves::side::Side;
+use labels::label::Labels;
 use labels::refusal::Refusal;
 use verdict::answer::Verdict;
 use verdict::half::half;
@@ -19,7 +20,7 @@ pub enum LineOffice {
 // One statement put to the whole line and to the machine whose half is not known: as in the quotient by a half, without
 // 18. Whenever both answers are given they are the same.
 pub fn line_office<'a>(
-    k: u8,
+    labels: Labels,
     left: &'a [u8],
     right: &'a [u8],
     left_half: &'a [u8],
@@ -28,13 +29,13 @@ pub fn line_office<'a>(
     side: Side,
     point: usize,
 ) -> LineOffice
-    ensures { λ r. ⌜ r ≡ officeOf k (now (left .entry)) (now (right .entry)) (now («left_half» .entry))
+    ensures { λ r. ⌜ r ≡ officeOf labels (now (left .entry)) (now (right .entry)) (now («left_half» .entry))
         (now («right_half» .entry)) (now (question .entry)) side point ⌝ }
     ensures same { λ r. ⌜ Same r ⌝ }
 {
     let mut text = [0u8; 8192];
     match by_half(
-        k,
+        labels,
         left,
         right,
         left_half,
@@ -47,7 +48,7 @@ pub fn line_office<'a>(
         Quotient::Written(n) => {
             let table = other_part(left, right, side);
             let other = other_part(left_half, right_half, side);
-            both(half(k, table, other, &text[..n], point))
+            both(half(labels, table, other, &text[..n], point))
         }
         Quotient::Refused(refusal) => LineOffice::Refused(refusal),
     }

@@ -6,7 +6,6 @@ use dividing::divide::divide;
 use halves::side::Side;
 use halves::side::cut;
 use labels::label::Labels;
-use labels::label::check_pairs;
 use labels::refusal::Check;
 use splitting::split::Splitting;
 use splitting::split::split;
@@ -17,7 +16,7 @@ ghost use Rattle.quotient.specs.Calls.{byNumber, byNumberOutput};
 // Writes the quotient by the known half, stopped at the point, of the splitting of a number: the parts' numbers, 12,
 // 13, 14, 17, 18.
 pub fn by_number<'a>(
-    k: u8,
+    labels: Labels,
     left: &'a [u8],
     right: &'a [u8],
     run: &[u8],
@@ -27,28 +26,37 @@ pub fn by_number<'a>(
     point: usize,
     out: &mut [u8],
 ) -> Quotient
-    ensures { λ r. ⌜ r ≡ byNumber k (now (left .entry)) (now (right .entry)) (now (run .entry)) (now (question .entry))
+    ensures { λ r. ⌜ r ≡ byNumber labels (now (left .entry)) (now (right .entry)) (now (run .entry))
+        (now (question .entry))
         number side point (length (now (out .entry))) ⌝ }
     ensures { λ r. ⌜ now (out .exit)
-        ≡ byNumberOutput k (now (left .entry)) (now (right .entry)) (now (run .entry)) (now (question .entry)) number
+        ≡ byNumberOutput labels (now (left .entry)) (now (right .entry)) (now (run .entry)) (now (question .entry))
+        number
         side point (now (out .entry)) ⌝ }
 {
-    match check_pairs(k) {
+    match labels.check() {
         Check::Sound => {}
         Check::Refused(refusal) => return Quotient::Refused(refusal),
     }
-    let labels = Labels { pairs: k };
     match check_asked_log(labels, left, right, run, question, point) {
         Check::Sound => {}
         Check::Refused(refusal) => return Quotient::Refused(refusal),
     }
     let mut left_half = [0u8; 401];
     let mut right_half = [0u8; 401];
-    match split(k, left, right, run, number, &mut left_half, &mut right_half) {
+    match split(
+        labels,
+        left,
+        right,
+        run,
+        number,
+        &mut left_half,
+        &mut right_half,
+    ) {
         Splitting::Halves(n) => {
             let table = known_part(left, right, side);
             let known = cut(&left_half[..n], &right_half[..n], side, point);
-            divide(k, table, known, question, out)
+            divide(labels, table, known, question, out)
         }
         Splitting::Refused(refusal) => Quotient::Refused(refusal),
     }

@@ -16,6 +16,7 @@ use Rattle.labels.specs.declared.refusal.Refusal.the-variants.{OutputTooShort}
 use Rattle.labels.specs.declared.refusal.Check.{Check}
 use Rattle.labels.specs.declared.refusal.Check.the-variants as check
 use Rattle.labels.proofs.Refusals.{both-sound, unrefused}
+use Rattle.labels.specs.declared.label.Labels.{Labels}
 use Rattle.halves.specs.declared.side.Side.the-variants as side
 use Rattle.dividing.specs.Quotients.{nodesOf, textOf, checkSize, checkTree, written, answerOf, outputAfter}
 use Rattle.dividing.specs.declared.divide.Quotient.{Quotient}
@@ -59,7 +60,7 @@ module _ (parts : Check) (tree : Option Formula) (out : List ℕ) where
       go (check.Refused x) s w = absurd (apart cc)
 
 -- the call for a quotient, at the end of a window
-module _ (k : ℕ) (l r w f : List ℕ) (letter t : ℕ) where
+module _ (k : Labels) (l r w f : List ℕ) (letter t : ℕ) where
   abbrev q : ℕ
   q = length w / 3
 
@@ -108,7 +109,7 @@ length-refusal x = (
 )
 
 -- what is then written to a buffer is the ending
-module _ (k : ℕ) (l r w f : List ℕ) (letter t : ℕ) (text : List ℕ) (size : length text ≡ 8192) (xs ys : List ℕ)
+module _ (k : Labels) (l r w f : List ℕ) (letter t : ℕ) (text : List ℕ) (size : length text ≡ 8192) (xs ys : List ℕ)
     (room : length xs ≡ 16387) (m : ℕ) where
   abbrev Ending : Type 0
   Ending = (m ≡ length (endingIn k l r w f letter t)) × (take m ys ≡ endingIn k l r w f letter t) × (m ≤ 16387)
@@ -134,7 +135,7 @@ module _ (k : ℕ) (l r w f : List ℕ) (letter t : ℕ) (text : List ℕ) (size
       (omega (arith, p, few)) q
 
 -- an ending is short: 4,096 nodes of four digits each, and three bytes
-pub any-ending-short : (k : ℕ) (l r s f : List ℕ) (point n letter : ℕ)
+pub any-ending-short : (k : Labels) (l r s f : List ℕ) (point n letter : ℕ)
     → length (endingOf (quotientAt k l r s f point n) (textAt k l r s f point n) letter) ≤ 16387
 unfolding quotientAt textAt byNumber endingOf
 any-ending-short k l r s f point n letter = go (byNumber k l r s f n side.Right point textRoom) refl
@@ -155,6 +156,6 @@ any-ending-short k l r s f point n letter = go (byNumber k l r s f n side.Right 
         omega (arith, length-fields (textOf tree) letter, b, c, size)
     go (quotient.Refused x) e = let (d, few) = length-refusal x in omega (arith, d, few)
 
-pub ending-short : (k : ℕ) (l r w f : List ℕ) (letter t : ℕ) → length (endingIn k l r w f letter t) ≤ 16387
+pub ending-short : (k : Labels) (l r w f : List ℕ) (letter t : ℕ) → length (endingIn k l r w f letter t) ≤ 16387
 unfolding endingIn
 ending-short k l r w f letter t = any-ending-short k l r w f (length w / 3) t letter

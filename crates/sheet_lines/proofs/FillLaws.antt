@@ -9,6 +9,7 @@ use native.Mathlib.Nat.{mul-add-mod-self-right, div-eq-of-lt, mod-eq-of-lt}
 use lib.ListN.{length}
 use lib.Dec.{leb}
 use Rattle.hml.specs.System.{steps}
+use Rattle.labels.specs.declared.label.Labels.{Labels}
 use Rattle.machines.specs.Joints.{jointOf}
 use Rattle.splitting.specs.Splittings.{splittingsOf, splittingLimit}
 use Rattle.splitting.proofs.LogRuns.{sound-log}
@@ -27,7 +28,7 @@ fitting-few room (x ∷ xs) = go (leb (length x) room) refl (fitting-few (room -
     go true e h = rw e (omega (arith, h))
     go false e h = rw e (omega arith)
 
-module _ (k : ℕ) (l r s f : List ℕ) (c : ℕ) (numbered : Numbered k l r s f c) (first due : ℕ)
+module _ (k : Labels) (l r s f : List ℕ) (c : ℕ) (numbered : Numbered k l r s f c) (first due : ℕ)
     (bound : first + due ≤ suc (steps (jointOf s)) * c) where
   abbrev g : ℕ → List ℕ
   g = numberedLine k l r s f c
@@ -111,7 +112,8 @@ module _ (k : ℕ) (l r s f : List ℕ) (c : ℕ) (numbered : Numbered k l r s f
       all-filled xs ys at j (filled-end g xs 0 first end ys at j filled (omega (arith, h, filled .due)))
 
 -- a sheet has few lines: 201 points at most, and 65,535 splittings
-pub sheet-small : (k : ℕ) (l r s f : List ℕ) (c : ℕ) → Numbered k l r s f c → suc (steps (jointOf s)) * c ≤ 13172535
+pub sheet-small : (k : Labels) (l r s f : List ℕ) (c : ℕ) → Numbered k l r s f c
+    → suc (steps (jointOf s)) * c ≤ 13172535
 unfolding splittingLimit
 sheet-small k l r s f c n =
     let a = sound-log k l r s (n .asked .log) .run .few in

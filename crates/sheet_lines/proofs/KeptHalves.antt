@@ -15,9 +15,10 @@ use Rattle.hml.specs.Compose.{paired}
 use Rattle.hml.proofs.Joins.{join-steps}
 use Rattle.hml.proofs.Window.{Alike, alike-last, ends, begins, steps as alike-steps}
 use Rattle.hml.proofs.NewestSteps.{behind, steps-from, count-parts, fewer-undone, fewer-behind, nth-undone, nth-alike}
-use Rattle.hml.specs.Labels.{pairs}
+use Rattle.labels.specs.Labels.{pairing}
 use Rattle.labels.specs.Refusals.{firstOf}
 use Rattle.labels.specs.declared.refusal.Check.the-variants.{Sound}
+use Rattle.labels.specs.declared.label.Labels.{Labels}
 use Rattle.tables.specs.Tables.{tableOf}
 use Rattle.halves.specs.Runs.{written}
 use Rattle.halves.specs.Halves.{halfBytes}
@@ -68,7 +69,7 @@ bytes-alike n x y d h =
     ∙ ap (first (undo n x) ∷_) (each-append g (written (undo n x)) (written y))
 
 -- what the two parts of a window give
-pub record Cut (k : ℕ) (l r w : List ℕ) (m : ℕ) : Type 0 where
+pub record Cut (k : Labels) (l r w : List ℕ) (m : ℕ) : Type 0 where
   -- they are logs that no check refuses
   pub older : checkLog k l r (olderPart w m) ≡ Sound
   pub newer : checkLog k l r (newerPart w m) ≡ Sound
@@ -87,7 +88,7 @@ pub record Cut (k : ℕ) (l r w : List ℕ) (m : ℕ) : Type 0 where
       ++ drop 1 (rightHalf k l r (newerPart w m) (t % length (splittingsOf k l r (newerPart w m))))
 
 -- an accepted window, cut behind its first m steps
-module _ (k : ℕ) (l r w : List ℕ) (m : ℕ) (sound : checkLog k l r w ≡ Sound) (within : m ≤ length w / 3) where
+module _ (k : Labels) (l r w : List ℕ) (m : ℕ) (sound : checkLog k l r w ≡ Sound) (within : m ≤ length w / 3) where
   parts : LogParts k l r w
   parts = log-parts k l r w sound
 
@@ -108,7 +109,7 @@ module _ (k : ℕ) (l r w : List ℕ) (m : ℕ) (sound : checkLog k l r w ≡ So
   unfolding checkLog firstOf olderPart
   older-sound =
       rw (
-        parts .machines .pairs,
+        parts .machines .labels,
         parts .machines .left,
         parts .machines .right,
         joint-until k l r tables w (parts .run) m,
@@ -118,7 +119,7 @@ module _ (k : ℕ) (l r w : List ℕ) (m : ℕ) (sound : checkLog k l r w ≡ So
   unfolding checkLog firstOf newerPart
   newer-sound =
       rw (
-        parts .machines .pairs,
+        parts .machines .labels,
         parts .machines .left,
         parts .machines .right,
         joint-from k l r tables w (parts .run) m inside,
@@ -145,11 +146,11 @@ module _ (k : ℕ) (l r w : List ℕ) (m : ℕ) (sound : checkLog k l r w ≡ So
 
   few-older : length (splittingsOf k l r (olderPart w m)) ≤ length (splittingsOf k l r w)
   unfolding splittingsOf
-  few-older = rw older-read (fewer-undone (pairs k) tested-ℕ tested-ℕ (tableOf l) (tableOf r) c run)
+  few-older = rw older-read (fewer-undone (pairing k) tested-ℕ tested-ℕ (tableOf l) (tableOf r) c run)
 
   few-newer : length (splittingsOf k l r (newerPart w m)) ≤ length (splittingsOf k l r w)
   unfolding splittingsOf
-  few-newer = rw newer-read (fewer-behind (pairs k) tested-ℕ tested-ℕ (tableOf l) (tableOf r) c run)
+  few-newer = rw newer-read (fewer-behind (pairing k) tested-ℕ tested-ℕ (tableOf l) (tableOf r) c run)
 
   some-newer : 0 < length (splittingsOf k l r (newerPart w m))
   some-newer = count-some k l r (newerPart w m) newer-sound
@@ -158,7 +159,7 @@ module _ (k : ℕ) (l r w : List ℕ) (m : ℕ) (sound : checkLog k l r w ≡ So
   pub counts : length (splittingsOf k l r w)
       ≡ length (splittingsOf k l r (olderPart w m)) * length (splittingsOf k l r (newerPart w m))
   unfolding splittingsOf
-  counts = rw (older-read, newer-read) (count-parts (pairs k) tested-ℕ tested-ℕ (tableOf l) (tableOf r) c (jointOf w))
+  counts = rw (older-read, newer-read) (count-parts (pairing k) tested-ℕ tested-ℕ (tableOf l) (tableOf r) c (jointOf w))
 
   module _ (t : ℕ) (below : t < length (splittingsOf k l r w)) where
     abbrev ways : ℕ
@@ -172,19 +173,20 @@ module _ (k : ℕ) (l r w : List ℕ) (m : ℕ) (sound : checkLog k l r w ≡ So
     unfolding splittingsOf
     undone-half =
         rw (older-read, newer-read)
-        (ap (λ z. z .1) (nth-undone (pairs k) tested-ℕ tested-ℕ (tableOf l) (tableOf r) (start 0, start 0) c (jointOf w)
+        (ap (λ z. z .1) (nth-undone (pairing k) tested-ℕ tested-ℕ (tableOf l) (tableOf r) (start 0, start 0) c
+        (jointOf w)
         run t below))
 
     -- and its newer steps are those of a splitting of the newer part
     newer-alike : Alike c (nth k l r w t .1) (nth k l r (newerPart w m) (t % ways) .1)
     unfolding splittingsOf
     newer-alike =
-        rw newer-read (nth-alike (pairs k) tested-ℕ tested-ℕ (tableOf l) (tableOf r) (start 0, start 0) c (jointOf w)
+        rw newer-read (nth-alike (pairing k) tested-ℕ tested-ℕ (tableOf l) (tableOf r) (start 0, start 0) c (jointOf w)
         run t below .1)
 
     half-steps : steps (nth k l r (newerPart w m) (t % ways) .1) ≡ c
     half-steps =
-        join-steps (pairs k) paired (nth-joins k l r (newerPart w m) (t % ways) (mod-lt t some-newer) .0) .1
+        join-steps (pairing k) paired (nth-joins k l r (newerPart w m) (t % ways) (mod-lt t some-newer) .0) .1
         ∙ newer-steps
 
     whole-half : rightHalf k l r w t
@@ -195,7 +197,7 @@ module _ (k : ℕ) (l r w : List ℕ) (m : ℕ) (sound : checkLog k l r w ≡ So
         ∙ ap (λ x. halfBytes x ++ drop 1 (halfBytes (nth k l r (newerPart w m) (t % ways) .1))) undone-half
 
 -- every accepted window, cut anywhere
-pub cut-window : (k : ℕ) (l r w : List ℕ) (m : ℕ) → checkLog k l r w ≡ Sound → m ≤ length w / 3 → Cut k l r w m
+pub cut-window : (k : Labels) (l r w : List ℕ) (m : ℕ) → checkLog k l r w ≡ Sound → m ≤ length w / 3 → Cut k l r w m
 cut-window k l r w m sound within = record {
   older = older-sound k l r w m sound within;
   newer = newer-sound k l r w m sound within;

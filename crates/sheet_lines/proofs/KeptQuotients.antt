@@ -12,6 +12,7 @@ use Rattle.hml.specs.System.{steps, stop}
 use Rattle.labels.specs.Refusals.{firstOf}
 use Rattle.labels.specs.declared.refusal.Check.the-variants.{Sound}
 use Rattle.labels.proofs.Slices.{rest}
+use Rattle.labels.specs.declared.label.Labels.{Labels}
 use Rattle.halves.specs.Halves.{halfOf, checkHalf}
 use Rattle.halves.specs.declared.side.Side.the-variants as side
 use Rattle.machines.specs.Joints.{jointOf}
@@ -56,12 +57,13 @@ half-put xs half y d from n then m e f i j h =
     ∙ take-at (take n y ++ b) (drop (n + length b) y) (n + m) size ∙ ap (_++ b) front
 
 -- halves are kept where the newer part has splittings
-pub kept-parts : (k : ℕ) (l r w : List ℕ) (kept : Kept) (halves : List ℕ) → Halved k l r w kept halves
+pub kept-parts : (k : Labels) (l r w : List ℕ) (kept : Kept) (halves : List ℕ) → Halved k l r w kept halves
     → (kept .ways ≡ 0 → ⊥) → PartHalves k l r w kept halves
 kept-parts k l r w kept halves h n = ⊎-elim (λ e. absurd (n e)) (λ p. p) (h .stands)
 
 -- the half of a splitting of a window, from those that are kept
-module _ (k : ℕ) (l r w : List ℕ) (sound : checkLog k l r w ≡ Sound) (t : ℕ) (below : t < length (splittingsOf k l r w))
+module _ (k : Labels) (l r w : List ℕ) (sound : checkLog k l r w ≡ Sound) (t : ℕ)
+    (below : t < length (splittingsOf k l r w))
     (kept : Kept) (halves : List ℕ) (p : PartHalves k l r w kept halves) where
   cut : Cut k l r w (kept .older)
   cut = cut-window k l r w (kept .older) sound (omega (arith, p .points))
@@ -109,7 +111,7 @@ module _ (k : ℕ) (l r w : List ℕ) (sound : checkLog k l r w ≡ Sound) (t : 
   half-together = ap₂ _++_ older-half newer-half ∙ rw (p .counted) (sym (cut .half t below))
 
 -- the quotient by the right half of a splitting of a window, at its end, is what the public call gives
-module _ (k : ℕ) (l r w f : List ℕ) (asked : Asked k l r w f) (t : ℕ) (below : t < length (splittingsOf k l r w))
+module _ (k : Labels) (l r w f : List ℕ) (asked : Asked k l r w f) (t : ℕ) (below : t < length (splittingsOf k l r w))
     (few : length (splittingsOf k l r w) ≤ splittingLimit) where
   parts : LogParts k l r w
   parts = log-parts k l r w (asked .log)
@@ -127,7 +129,7 @@ module _ (k : ℕ) (l r w f : List ℕ) (asked : Asked k l r w f) (t : ℕ) (bel
 
   division-sound : checkDivision k r h f ≡ Sound
   unfolding checkDivision firstOf
-  division-sound = rw (parts .machines .pairs, parts .machines .right, asked .question, half-sound)
+  division-sound = rw (parts .machines .labels, parts .machines .right, asked .question, half-sound)
 
   -- it is the run of all its steps
   whole : stop (length w / 3) (halfOf h) ≡ halfOf h

@@ -17,6 +17,7 @@ use Rattle.labels.specs.declared.refusal.Check.{Check}
 use Rattle.labels.specs.declared.refusal.Check.the-variants as check
 use Rattle.labels.specs.declared.refusal.Check.the-variants.{Sound}
 use Rattle.labels.proofs.Slices.{rest, rest-of, rest-length}
+use Rattle.labels.specs.declared.label.Labels.{Labels}
 use Rattle.machines.specs.Joints.{jointOf}
 use Rattle.splitting.specs.Splittings.{splittingsOf, splittingLimit, checkLog, checkCount, checkNumber, checkSplit}
 use Rattle.splitting.specs.Splittings.{countOf, counted, rightHalf, halfLength, rightOutput}
@@ -28,7 +29,7 @@ use Rattle.sheet_lines.proofs.PointLines.{counted-log}
 use Rattle.sheet_lines.proofs.KeptHalves.{Cut, cut-window}
 
 -- what is counted is at most the limit, so that its square is a number of the machine
-counted-few : (k : ℕ) (l r s : List ℕ) → countedAs (countOf k l r s) ≤ 65535
+counted-few : (k : Labels) (l r s : List ℕ) → countedAs (countOf k l r s) ≤ 65535
 unfolding countedAs countOf splittingLimit
 counted-few k l r s = go (checkCount k l r s) refl
   where
@@ -36,7 +37,7 @@ counted-few k l r s = go (checkCount k l r s) refl
     go check.Sound e = count-most k l r s e
     go (check.Refused x) e = omega arith
 
-pub square-few : (k : ℕ) (l r s : List ℕ) (n : ℕ) → n ≡ countedAs (countOf k l r s) → n * n ≤ 65535 * 65535
+pub square-few : (k : Labels) (l r s : List ℕ) (n : ℕ) → n ≡ countedAs (countOf k l r s) → n * n ≤ 65535 * 65535
 square-few k l r s n e = let h : n ≤ 65535 = omega (arith, e, counted-few k l r s) in mul-le-mul h h
 
 -- a half that is written to its place stands there
@@ -62,7 +63,7 @@ half-stays xs ys h i p e l m s =
     part-front ys (401 * i) (length h) ∙ ap (drop (401 * i)) f ∙ sym (part-front xs (401 * i) (length h)) ∙ s
 
 -- a log whose splittings can be numbered
-module _ (k : ℕ) (l r s : List ℕ) (sound : checkLog k l r s ≡ Sound) where
+module _ (k : Labels) (l r s : List ℕ) (sound : checkLog k l r s ≡ Sound) where
   count-sound : length (splittingsOf k l r s) ≤ splittingLimit → checkCount k l r s ≡ Sound
   unfolding checkCount firstOf splittingLimit
   count-sound few = rw (sound, le-ltb 65535 (length (splittingsOf k l r s)) few)
@@ -140,12 +141,12 @@ pub front-kept : (xs ys zs h : List ℕ) (first at : ℕ) → zs ≡ putAt ys at
 front-kept xs ys zs h first at e f l = ap (take (401 * first)) e ∙ put-front ys at (401 * first) h l ∙ f
 
 -- no halves are kept
-pub halved-none : (k : ℕ) (l r w halves : List ℕ) → length halves ≡ 205312
+pub halved-none : (k : Labels) (l r w halves : List ℕ) → length halves ≡ 205312
     → Halved k l r w (record { older = 0; newer = 0; ways = 0 }) halves
 halved-none k l r w halves e = record { size = e; stands = inl refl }
 
 -- the parts of a window as slices, o and n, and how many splittings each has
-module _ (k : ℕ) (l r w : List ℕ) (sound : checkLog k l r w ≡ Sound)
+module _ (k : Labels) (l r w : List ℕ) (sound : checkLog k l r w ≡ Sound)
     (few : length (splittingsOf k l r w) ≤ splittingLimit) (m : ℕ) (within : m ≤ length w / 3) where
   -- they are in the window
   pub parts-fit : (3 * m + 2 ≤ length w) × (length w ≤ 602)

@@ -12,6 +12,7 @@ use Rattle.hml.specs.Lists.{_∈_}
 use Rattle.hml.specs.System.{steps}
 use Rattle.labels.specs.Refusals.{numberOf}
 use Rattle.labels.specs.declared.refusal.Refusal.{Refusal}
+use Rattle.labels.specs.declared.label.Labels.{Labels}
 use Rattle.machines.specs.Joints.{jointOf}
 use Rattle.casebook.specs.Reading.{readOf}
 use Rattle.casebook.specs.declared.read.Reading.{Reading}
@@ -31,7 +32,7 @@ use Rattle.sheet_lines.proofs.PartsLines.{numbered-log, lines-are, refu
 together-short : (h e : List ℕ) → length h ≤ 12 → length e ≤ 16387 → length (h ++ e) ≤ 16399
 together-short h e a b = omega (arith, length-append h e, a, b)
 
-line-short : (k : ℕ) (l r s f : List ℕ) (point n : ℕ) → point < 1000 → n < 100000
+line-short : (k : Labels) (l r s f : List ℕ) (point n : ℕ) → point < 1000 → n < 100000
     → length (lineOf k l r s f point n) ≤ 16399
 unfolding lineOf
 line-short k l r s f point n p h =
@@ -54,7 +55,7 @@ refused-lines-short x line h =
     elim (∈-cons h) [ inl e ↦ omega (arith, ap length e, refused-short x) | inr t ↦ absurd (nowhere t) ]
 
 -- the lines of a log and a question: line i is that of point i / c and splitting i % c
-module _ (k : ℕ) (l r s f : List ℕ) (asked : Asked k l r s f) where
+module _ (k : Labels) (l r s f : List ℕ) (asked : Asked k l r s f) where
   numbered-short : (c : ℕ) → Numbered k l r s f c → (i : ℕ) → i < suc (steps (jointOf s)) * c
       → length (numberedLine k l r s f c i) ≤ 16399
   unfolding numberedLine splittingLimit

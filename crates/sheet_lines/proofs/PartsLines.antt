@@ -27,7 +27,7 @@ use Rattle.sheet_lines.specs.Working.{Asked, Numbered, numberedLine}
 use Rattle.sheet_lines.proofs.SheetLines.{lines-numbered, due-listed, none-due}
 
 -- a log and a question that no check refuses
-module _ (k : ℕ) (l r s f : List ℕ) (asked : Asked k l r s f) where
+module _ (k : Labels) (l r s f : List ℕ) (asked : Asked k l r s f) where
   -- the code counts points by bytes
   pub points-are : suc (steps (jointOf s)) ≡ length s / 3 + 1
   points-are = omega (arith, sound-log k l r s (asked .log) .run .counted)
@@ -80,7 +80,7 @@ pub none-asked : (xs : List (List ℕ)) (most : ℕ) → most ≡ 0 → take mos
 none-asked xs most e = rw e
 
 -- the count is refused
-pub refused-count : (k : ℕ) (l r s f : List ℕ) (x : Refusal) → countOf k l r s ≡ count.Refused x
+pub refused-count : (k : Labels) (l r s f : List ℕ) (x : Refusal) → countOf k l r s ≡ count.Refused x
     → partsLines k l r s f ≡ refusedLine x ∷ []
 unfolding partsLines countedLines
 refused-count k l r s f x e = rw e
@@ -90,7 +90,7 @@ module _ (s : List ℕ) (first most : ℕ) where
   module _ (p : Parts) (told : readOf s ≡ reading.Casebook p) (x : Labels) (l r j q : List ℕ)
       (o : x ≡ labelsOf s (p .labels)) (a : l ≡ bodyOf s (p .left)) (b : r ≡ bodyOf s (p .right))
       (c : j ≡ bodyOf s (p .run)) (d : q ≡ bodyOf s (p .question)) where
-    pub read-asked : Asked (x .pairs) l r j q
+    pub read-asked : Asked x l r j q
     unfolding checkLog firstOf
     read-asked =
         let parts = sound-parts _ _ _ _ _ (read-sound s p told) in
@@ -100,9 +100,9 @@ module _ (s : List ℕ) (first most : ℕ) where
           b,
           c,
           d,
-        ) (record { log = rw (parts .pairs, parts .left, parts .right, parts .run); question = parts .question })
+        ) (record { log = rw (parts .labels, parts .left, parts .right, parts .run); question = parts .question })
 
-    pub read-due : linesDue s first most ≡ take most (drop first (partsLines (x .pairs) l r j q))
+    pub read-due : linesDue s first most ≡ take most (drop first (partsLines x l r j q))
     unfolding linesDue sheetOf readLines
     read-due = rw (told, o, a, b, c, d)
 

@@ -12,6 +12,7 @@ use Rattle.hml.specs.System.{steps}
 use Rattle.labels.specs.Refusals.{firstOf}
 use Rattle.labels.specs.declared.refusal.Check.the-variants.{Sound}
 use Rattle.labels.proofs.Slices.{rest, rest-of}
+use Rattle.labels.specs.declared.label.Labels.{Labels}
 use Rattle.machines.specs.Joints.{jointOf}
 use Rattle.formulas.specs.Working.{backsOf}
 use Rattle.verdict.specs.Verdicts.{jointVerdict}
@@ -27,7 +28,8 @@ use Rattle.sheet_lines.proofs.Filling.{listed-agree}
 use Rattle.sheet_lines.proofs.WindowLines.{line-windowed}
 
 -- the count of a log that can be numbered
-pub counted-log : (k : ℕ) (l r s : List ℕ) → checkLog k l r s ≡ Sound → length (splittingsOf k l r s) ≤ splittingLimit
+pub counted-log : (k : Labels) (l r s : List ℕ) → checkLog k l r s ≡ Sound
+    → length (splittingsOf k l r s) ≤ splittingLimit
     → countedAs (countOf k l r s) ≡ length (splittingsOf k l r s)
 unfolding countedAs countOf checkCount firstOf splittingLimit
 counted-log k l r s e h = rw (e, le-ltb 65535 (length (splittingsOf k l r s)) h)
@@ -44,7 +46,7 @@ pub rest-part : (s : List ℕ) (p : ℕ) → rest (3 * p) s ≡ restOf s p
 unfolding restOf
 rest-part s p = rest-of (3 * p) s
 
-module _ (k : ℕ) (l r s f : List ℕ) (asked : Asked k l r s f) (p : ℕ) (within : p ≤ steps (jointOf s)) where
+module _ (k : Labels) (l r s f : List ℕ) (asked : Asked k l r s f) (p : ℕ) (within : p ≤ steps (jointOf s)) where
   -- the log has bytes up to the point
   pub point-bytes : (3 * p + 2 ≤ length s) × (length s ≤ 602)
   point-bytes = let a = sound-log k l r s (asked .log) .run in omega (arith, within, a .counted, a .whole, a .few)

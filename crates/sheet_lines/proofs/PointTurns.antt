@@ -11,6 +11,7 @@ use lib.Seq.{take-at}
 use borrow.Author.Tests.{eq-eqb, ne-eqb, lt-ltb, le-ltb, eqb-false, ltb-true}
 use borrow.Rule.Slice.PartMut.{putMid}
 use Rattle.labels.proofs.Slices.{rest}
+use Rattle.labels.specs.declared.label.Labels.{Labels}
 use Rattle.sheet_lines.specs.Sheets.{headOf, listed, fitting, bytesOf}
 use Rattle.sheet_lines.specs.Working.{putAt, endingIn, lineIn, lineWith, lineBy, Standing, EndingsKnown, Filled}
 use Rattle.sheet_lines.specs.Working.{Full, Scratch, fromsAfter, endsAfter}
@@ -81,7 +82,7 @@ last-ends p b n m =
     ∙ bytes-behind (listed g n m) (listed g (n + m) 1) ∙ simp (append-nil, append-assoc)
 
 -- the lines of a turn that were written
-module _ (k : ℕ) (l r w f : List ℕ) (p : Point) (ways : ℕ) (froms ends ys zs : List ℕ) (to t n u to′ n′ : ℕ)
+module _ (k : Labels) (l r w f : List ℕ) (p : Point) (ways : ℕ) (froms ends ys zs : List ℕ) (to t n u to′ n′ : ℕ)
     (b : List ℕ) (same : b ≡ endingIn k l r w f (p .letter) t)
     (known : EndingsKnown (endingIn k l r w f (p .letter)) ways froms ends ys to) (room : to ≤ length ys)
     (begun : n ≤ u)

@@ -13,7 +13,8 @@ use Rattle.hml.specs.Quotient.{quotient}
 use Rattle.hml.specs.Spell.{spell, trees, parse}
 use Rattle.hml.specs.Split.{splits}
 use Rattle.hml.specs.Machine.{machine}
-use Rattle.hml.specs.Labels.{pairs, partnerAmong, partnerOf, count}
+use Rattle.hml.specs.Labels.{highest, partnerOf, partnerAmong, pairs}
+use Rattle.labels.specs.Labels.{count, pairing, checkLabels}
 use Rattle.labels.specs.Refusals.{firstOf}
 use Rattle.tables.specs.Tables.{threes, rowsOf, tableOf, among, hasMove, fitTable, fitStates, inRange, rowBelow}
 use Rattle.tables.specs.Tables.{aboveLast, leaving, checkRow, checkRows, checkTable}
@@ -142,7 +143,7 @@ due c = record { count = counted.Splittings (c .splittings); size = 2 * c .split
 -- the count of a casebook's splittings
 abbrev countIn : List ℕ → Reading → Counted
 countIn s (reading.Casebook c) =
-    countOf (labelsOf s (c .labels) .pairs) (bodyOf s (c .left)) (bodyOf s (c .right)) (bodyOf s (c .run))
+    countOf (labelsOf s (c .labels)) (bodyOf s (c .left)) (bodyOf s (c .right)) (bodyOf s (c .run))
 countIn s (reading.Refused x) = counted.Refused x
 
 abbrev computed : Case → Answers
@@ -158,9 +159,10 @@ pub published : map computed cases ≡ map due cases
 unfolding cases readOf readLeft readRight readRun readQuestion nextAt fitLength fitTableLength fitRunLength
     fitQuestionLength bodyOf labelsOf
     countOf checkCount checkLog splittingLimit splittingsOf firstOf checkTable fitTable fitStates checkRows checkRow
-    inRange rowBelow aboveLast leaving count checkJoint fitJoint isJointRun isReal isLeftAlone isRightAlone isHandshake
-    shakesTo isJointIdle hasMove among goOn jointSteps threes rowsOf tableOf machine only pairs partnerAmong partnerOf
-    splits ways shakes jointOf lengthened stepOf
+    inRange rowBelow aboveLast leaving checkLabels count highest checkJoint fitJoint isJointRun isReal isLeftAlone
+    isRightAlone
+    isHandshake shakesTo isJointIdle hasMove among goOn jointSteps threes rowsOf tableOf machine only pairing pairs
+    partnerAmong partnerOf splits ways shakes jointOf lengthened stepOf
     jointVerdict checkJointCall jointHolds holds beside formulaOf wholeOf parse trees checkFormula isFormula nestsFit
     labelled nesting answered verdictOf
     byNumber checkByNumber treeByNumber treeByHalf quotientBy treeBy quotient answerOf checkTree checkSize nodesOf

@@ -7,6 +7,7 @@ use lib.ListN.{length, drop, length-drop}
 use lib.Seq.{take-all}
 use Rattle.hml.specs.System.{steps}
 use Rattle.labels.specs.Refusals.{inFront}
+use Rattle.labels.specs.declared.label.Labels.{Labels}
 use Rattle.machines.specs.Joints.{jointOf}
 use Rattle.casebook.specs.Reading.{readOf}
 use Rattle.casebook.specs.declared.read.Reading.{Reading}
@@ -23,7 +24,7 @@ use Rattle.sheet_lines.proofs.FillLaws.{sheet-small}
 use Rattle.sheet_lines.proofs.PartsLines.{numbered-log, lines-are, refused-count, read-asked}
 
 -- a sheet has at most 201 times 65,535 lines
-parts-short : (k : ℕ) (l r s f : List ℕ) → Asked k l r s f → length (partsLines k l r s f) ≤ 13172535
+parts-short : (k : Labels) (l r s f : List ℕ) → Asked k l r s f → length (partsLines k l r s f) ≤ 13172535
 parts-short k l r s f asked = go (countOf k l r s) refl
   where
     go : (c : Counted) → countOf k l r s ≡ c → length (partsLines k l r s f) ≤ 13172535

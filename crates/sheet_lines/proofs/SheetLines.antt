@@ -14,6 +14,7 @@ use Rattle.hml.specs.System.{steps}
 use Rattle.machines.specs.Joints.{jointOf}
 use Rattle.labels.specs.Refusals.{inFront}
 use Rattle.labels.specs.declared.refusal.Refusal.the-variants.{OutputTooShort}
+use Rattle.labels.specs.declared.label.Labels.{Labels}
 use Rattle.sheet_lines.specs.Sheets.{lineOf, linesOf, listed, bytesOf, fitting, firstTooLong, checkRoom}
 use Rattle.sheet_lines.specs.Sheets.{blockOf, writtenOr, blockAnswer, blockOutput}
 use Rattle.sheet_lines.specs.Working.{putAt, Full, numberedLine, fittedOf, fittedOutput}
@@ -46,7 +47,7 @@ module _ {A : Type 0} (f : ℕ → ℕ → A) (c : ℕ) (some : 1 ≤ c) where
       ∙ sym (listed-behind flat (p * c) c (m * c)) ∙ ap (listed flat (p * c)) (sym z)
 
 -- the lines of a sheet by their numbers
-pub lines-numbered : (k : ℕ) (l r s f : List ℕ) (c : ℕ) → 1 ≤ c
+pub lines-numbered : (k : Labels) (l r s f : List ℕ) (c : ℕ) → 1 ≤ c
     → linesOf k l r s f c ≡ listed (numberedLine k l r s f c) 0 (suc (steps (jointOf s)) * c)
 unfolding linesOf numberedLine
 lines-numbered k l r s f c h =

@@ -14,6 +14,7 @@ use Rattle.hml.specs.Formula.{size}
 use Rattle.hml.specs.Spell.{spell}
 use Rattle.hml.specs.Working.{backs}
 use Rattle.labels.specs.declared.refusal.Check.the-variants.{Sound}
+use Rattle.labels.specs.declared.label.Labels.{Labels}
 use Rattle.halves.specs.declared.side.Side.the-variants as side
 use Rattle.machines.specs.Joints.{jointOf}
 use Rattle.formulas.specs.Formulas.{formulaOf, quotientLimit}
@@ -34,7 +35,7 @@ use Rattle.sheet_lines.specs.Sheets.{textRoom, headOf, endingOf, quotien
 use Rattle.sheet_lines.specs.Working.{Asked, endingIn, lineIn}
 
 -- a point of a log that no check refuses, and one of its splittings, where they can be numbered
-module _ (k : ℕ) (l r s f : List ℕ) (asked : Asked k l r s f) (p : ℕ) (within : p ≤ steps (jointOf s)) (n : ℕ)
+module _ (k : Labels) (l r s f : List ℕ) (asked : Asked k l r s f) (p : ℕ) (within : p ≤ steps (jointOf s)) (n : ℕ)
     (below : n < length (splittingsOf k l r s)) (few : length (splittingsOf k l r s) ≤ splittingLimit) where
   decomposed : Decomposed k l r s (leftHalf k l r s n) (rightHalf k l r s n) f side.Right p
       (byNumber k l r s f n side.Right p) (byNumberOutput k l r s f n side.Right p)

@@ -12,6 +12,7 @@ use Rattle.labels.specs.declared.refusal.Refusal.{Refusal}
 use Rattle.labels.specs.declared.refusal.Refusal.the-variants.{OutputTooShort}
 use Rattle.labels.specs.declared.refusal.Check.{Check}
 use Rattle.labels.specs.declared.refusal.Check.the-variants as check
+use Rattle.labels.specs.declared.label.Labels.{Labels}
 use Rattle.halves.specs.declared.side.Side.the-variants as side
 use Rattle.machines.specs.Joints.{jointOf}
 use Rattle.casebook.specs.Records.{bodyOf, labelsOf}
@@ -64,15 +65,15 @@ abbrev pub textRoom : ℕ
 textRoom = 8192
 
 -- the quotient of the question by the right half of a splitting, at a point: what its call answers, and its bytes
-unfoldable pub quotientAt : ℕ → List ℕ → List ℕ → List ℕ → List ℕ → ℕ → ℕ → Quotient
+unfoldable pub quotientAt : Labels → List ℕ → List ℕ → List ℕ → List ℕ → ℕ → ℕ → Quotient
 quotientAt k l r s f point n = byNumber k l r s f n side.Right point textRoom
 
-unfoldable pub textAt : ℕ → List ℕ → List ℕ → List ℕ → List ℕ → ℕ → ℕ → List ℕ
+unfoldable pub textAt : Labels → List ℕ → List ℕ → List ℕ → List ℕ → ℕ → ℕ → List ℕ
 textAt k l r s f point n = textOf (treeByNumber k l r s f n side.Right point)
 
 -- a line: "point, splitting number, joint verdict (T or F), quotient by the right half in lower-case hexadecimal, left
 -- half's verdict, all three at that point"
-unfoldable pub lineOf : ℕ → List ℕ → List ℕ → List ℕ → List ℕ → ℕ → ℕ → List ℕ
+unfoldable pub lineOf : Labels → List ℕ → List ℕ → List ℕ → List ℕ → ℕ → ℕ → List ℕ
 lineOf k l r s f point n = headOf point n (letterOf (jointVerdict k l r s f point))
     ++ endingOf (quotientAt k l r s f point n) (textAt k l r s f point n)
     (letterOf (halfVerdict k l (leftHalf k l r s n) (textAt k l r s f point n) point))
@@ -83,7 +84,7 @@ listed g i zero = []
 listed g i (suc m) = g i ∷ listed g (suc i) m
 
 -- "For each point from 0, and within it each splitting of the whole run, it prints a line"
-unfoldable pub linesOf : ℕ → List ℕ → List ℕ → List ℕ → List ℕ → ℕ → List (List ℕ)
+unfoldable pub linesOf : Labels → List ℕ → List ℕ → List ℕ → List ℕ → ℕ → List (List ℕ)
 linesOf k l r s f count =
     each (λ point. listed (lineOf k l r s f point) 0 count) (listed (λ point. point) 0 (suc (steps (jointOf s))))
 
@@ -95,12 +96,12 @@ unfoldable pub countedLines : Counted → (ℕ → List (List ℕ)) → List (Li
 countedLines (count.Splittings n) g = g n
 countedLines (count.Refused x) g = refusedLine x ∷ []
 
-unfoldable pub partsLines : ℕ → List ℕ → List ℕ → List ℕ → List ℕ → List (List ℕ)
+unfoldable pub partsLines : Labels → List ℕ → List ℕ → List ℕ → List ℕ → List (List ℕ)
 partsLines k l r s f = countedLines (countOf k l r s) (linesOf k l r s f)
 
 unfoldable pub readLines : List ℕ → Reading → List (List ℕ)
 readLines s (reading.Casebook c) =
-    partsLines (labelsOf s (c .labels) .pairs) (bodyOf s (c .left)) (bodyOf s (c .right)) (bodyOf s (c .run))
+    partsLines (labelsOf s (c .labels)) (bodyOf s (c .left)) (bodyOf s (c .right)) (bodyOf s (c .run))
     (bodyOf s (c .question))
 readLines s (reading.Refused x) = refusedLine x ∷ []
 

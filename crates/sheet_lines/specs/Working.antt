@@ -9,6 +9,7 @@ use lib.Dec.{ltb, eqb}
 use lib.Seq.{sets}
 use Rattle.labels.specs.Refusals.{inFront}
 use Rattle.labels.specs.declared.refusal.Check.the-variants.{Sound}
+use Rattle.labels.specs.declared.label.Labels.{Labels}
 use Rattle.formulas.specs.Formulas.{questionLimit, checkFormula}
 use Rattle.splitting.specs.Splittings.{splittingsOf, splittingLimit, checkLog, rightHalf}
 use Rattle.splitting.specs.declared.count.Counted.{Counted}
@@ -41,28 +42,28 @@ pub record Full (block : List (List ℕ)) (xs : List ℕ) (start i : ℕ) (ys : 
   pub counted : j ≡ i + length block
 
 -- a log and a question that no check refuses
-pub record Asked (k : ℕ) (l r s f : List ℕ) : Type 0 where
+pub record Asked (k : Labels) (l r s f : List ℕ) : Type 0 where
   pub log : checkLog k l r s ≡ Sound
   pub question : checkFormula k questionLimit f ≡ Sound
 
 -- and the number of the log's splittings
-pub record Numbered (k : ℕ) (l r s f : List ℕ) (count : ℕ) : Type 0 where
+pub record Numbered (k : Labels) (l r s f : List ℕ) (count : ℕ) : Type 0 where
   pub asked : Asked k l r s f
   pub counted : count ≡ length (splittingsOf k l r s)
   pub few : count ≤ splittingLimit
   pub some : 1 ≤ count
 
 -- line i of the sheet
-unfoldable pub numberedLine : ℕ → List ℕ → List ℕ → List ℕ → List ℕ → ℕ → ℕ → List ℕ
+unfoldable pub numberedLine : Labels → List ℕ → List ℕ → List ℕ → List ℕ → ℕ → ℕ → List ℕ
 numberedLine k l r s f count i = lineOf k l r s f (i / count) (i % count)
 
 -- the ending of the lines whose splitting has number t in a window, at the window's end
-unfoldable pub endingIn : ℕ → List ℕ → List ℕ → List ℕ → List ℕ → ℕ → ℕ → List ℕ
+unfoldable pub endingIn : Labels → List ℕ → List ℕ → List ℕ → List ℕ → ℕ → ℕ → List ℕ
 endingIn k l r w f letter t =
     endingOf (quotientAt k l r w f (length w / 3) t) (textAt k l r w f (length w / 3) t) letter
 
 -- such a line
-unfoldable pub lineIn : ℕ → List ℕ → List ℕ → List ℕ → List ℕ → ℕ → ℕ → ℕ → ℕ → List ℕ
+unfoldable pub lineIn : Labels → List ℕ → List ℕ → List ℕ → List ℕ → ℕ → ℕ → ℕ → ℕ → List ℕ
 lineIn k l r w f letter point n t = headOf point n letter ++ endingIn k l r w f letter t
 
 -- the line of splitting n of a point, with a given ending
@@ -82,7 +83,7 @@ unfoldable pub Tens : ℕ → ℕ → Type 0
 Tens n end = (n ≤ end) × (end ≤ n - n % 10 + 10)
 
 -- the line of splitting n of a point: its number in the window is n / after % ways
-unfoldable pub lineBy : ℕ → List ℕ → List ℕ → List ℕ → List ℕ → Point → ℕ → List ℕ
+unfoldable pub lineBy : Labels → List ℕ → List ℕ → List ℕ → List ℕ → Point → ℕ → List ℕ
 lineBy k l r w f p n = lineIn k l r w f (p .letter) (p .number) n (n / p .after % p .ways)
 
 -- where endings stand in an output, from one place to another in front of `at`, for each number below `ways`; 0 as the
@@ -134,11 +135,11 @@ unfoldable pub HalfAt : List ℕ → ℕ → List ℕ → Type 0
 HalfAt halves i h = take (length h) (drop (401 * i) halves) ≡ h
 
 -- the right halves of the first n splittings of a log stand there, from the place `first` on
-unfoldable pub HalvesAt : ℕ → List ℕ → List ℕ → List ℕ → List ℕ → ℕ → ℕ → Type 0
+unfoldable pub HalvesAt : Labels → List ℕ → List ℕ → List ℕ → List ℕ → ℕ → ℕ → Type 0
 HalvesAt k l r s halves first n = (i : ℕ) → i < n → HalfAt halves (first + i) (rightHalf k l r s i)
 
 -- those of both parts of a window: the older part's from place 0 on, the newer part's from place 256 on
-pub record PartHalves (k : ℕ) (l r w : List ℕ) (kept : Kept) (halves : List ℕ) : Type 0 where
+pub record PartHalves (k : Labels) (l r w : List ℕ) (kept : Kept) (halves : List ℕ) : Type 0 where
   pub points : kept .older + kept .newer ≡ length w / 3
   pub counted : kept .ways ≡ length (splittingsOf k l r (newerPart w (kept .older)))
   pub fewOlder : length (splittingsOf k l r (olderPart w (kept .older))) ≤ 256
@@ -148,13 +149,13 @@ pub record PartHalves (k : ℕ) (l r w : List ℕ) (kept : Kept) (halves : List 
   pub newerHalves : HalvesAt k l r (newerPart w (kept .older)) halves 256 (kept .ways)
 
 -- the table has room for 512 halves, and holds those of the window's parts, or none are kept
-pub record Halved (k : ℕ) (l r w : List ℕ) (kept : Kept) (halves : List ℕ) : Type 0 where
+pub record Halved (k : Labels) (l r w : List ℕ) (kept : Kept) (halves : List ℕ) : Type 0 where
   pub size : length halves ≡ 205312
   pub stands : (kept .ways ≡ 0) ⊎ PartHalves k l r w kept halves
 
 -- what the lines of a point share: a window and a question that no check refuses, how many splittings the window has,
 -- and their halves
-pub record Shared (k : ℕ) (l r w f : List ℕ) (p : Point) (halves : List ℕ) : Type 0 where
+pub record Shared (k : Labels) (l r w f : List ℕ) (p : Point) (halves : List ℕ) : Type 0 where
   pub asked : Asked k l r w f
   pub counted : p .ways ≡ length (splittingsOf k l r w)
   pub few : length (splittingsOf k l r w) ≤ splittingLimit

@@ -4,6 +4,7 @@ use crate::digits::put_hexadecimal;
 use crate::kept::Kept;
 use crate::kept::quotient_text;
 use dividing::divide::Quotient;
+use labels::label::Labels;
 use labels::refusal::Refusal;
 ghost use mathlib.Core.Path.{_≡_};
 ghost use mathlib.Core.List.{[], _∷_, _++_};
@@ -18,7 +19,7 @@ ghost use Rattle.sheet_lines.specs.Working.{putAt, endingIn, Asked, Halv
 // Writes the ending of the lines by splitting t of a window, at its end, to the front of `ending`, and gives its
 // length.
 pub(crate) fn find_ending<'a>(
-    k: u8,
+    labels: Labels,
     left: &'a [u8],
     right: &'a [u8],
     window: &[u8],
@@ -30,18 +31,20 @@ pub(crate) fn find_ending<'a>(
     text: &mut [u8],
     ending: &mut [u8],
 ) -> usize
-    requires { ⌜ Asked k (now left) (now right) (now window) (now question)
-        × Halved k (now left) (now right) (now window) kept (now halves) ⌝ }
-    requires { ⌜ (t < length (splittingsOf k (now left) (now right) (now window)))
-        × (length (splittingsOf k (now left) (now right) (now window)) ≤ splittingLimit) ⌝ }
+    requires { ⌜ Asked labels (now left) (now right) (now window) (now question)
+        × Halved labels (now left) (now right) (now window) kept (now halves) ⌝ }
+    requires { ⌜ (t < length (splittingsOf labels (now left) (now right) (now window)))
+        × (length (splittingsOf labels (now left) (now right) (now window)) ≤ splittingLimit) ⌝ }
     requires { ⌜ (length (now text) ≡ 8192) × (length (now ending) ≡ 16387) ⌝ }
     ensures { λ r. ⌜ r ≡ length
-        (endingIn k (now (left .entry)) (now (right .entry)) (now (window .entry)) (now (question .entry)) letter t) ⌝ }
+        (endingIn labels (now (left .entry)) (now (right .entry)) (now (window .entry)) (now (question .entry)) letter
+        t) ⌝ }
     ensures { λ r. ⌜ take r (now (ending .exit))
-        ≡ endingIn k (now (left .entry)) (now (right .entry)) (now (window .entry)) (now (question .entry)) letter t ⌝ }
+        ≡ endingIn labels (now (left .entry)) (now (right .entry)) (now (window .entry)) (now (question .entry)) letter
+        t ⌝ }
     ensures { λ r. ⌜ r ≤ 16387 ⌝ }
 {
-    match quotient_text(k, left, right, window, question, t, kept, halves, text) {
+    match quotient_text(labels, left, right, window, question, t, kept, halves, text) {
         Quotient::Written(n) => put_fields(&text[..n], letter, ending),
         Quotient::Refused(refusal) => put_refusal(refusal, ending),
     }

@@ -4,6 +4,7 @@ use crate::point::splittings_of;
 use dividing::divide::Quotient;
 use dividing::divide::divide;
 use halves::side::Side;
+use labels::label::Labels;
 use quotient::number::by_number;
 use splitting::split::split;
 ghost use mathlib.Core.Path.{_≡_};
@@ -27,17 +28,18 @@ pub(crate) struct Kept {
 // Keeps the halves of both parts of a window, at most 256 each, if the window has so many splittings that it is worth
 // it.
 pub(crate) fn keep_halves(
-    k: u8,
+    labels: Labels,
     left: &[u8],
     right: &[u8],
     window: &[u8],
     ways: usize,
     halves: &mut [u8],
 ) -> Kept
-    requires { ⌜ checkLog k (now left) (now right) (now window) ≡ Sound ⌝ }
-    requires { ⌜ length (splittingsOf k (now left) (now right) (now window)) ≤ splittingLimit ⌝ }
+    requires { ⌜ checkLog labels (now left) (now right) (now window) ≡ Sound ⌝ }
+    requires { ⌜ length (splittingsOf labels (now left) (now right) (now window)) ≤ splittingLimit ⌝ }
     requires { ⌜ length (now halves) ≡ 205312 ⌝ }
-    ensures { λ r. ⌜ Halved k (now (left .entry)) (now (right .entry)) (now (window .entry)) r (now (halves .exit)) ⌝ }
+    ensures { λ r. ⌜ Halved labels (now (left .entry)) (now (right .entry)) (now (window .entry)) r
+        (now (halves .exit)) ⌝ }
 {
     let none = Kept {
         older: 0,
@@ -47,19 +49,19 @@ pub(crate) fn keep_halves(
     if ways < 64 {
         return none;
     }
-    let mid = middle(k, left, right, window, ways);
+    let mid = middle(labels, left, right, window, ways);
     let older = &window[..3 * mid + 2];
     let newer = &window[3 * mid..];
-    let older_ways = splittings_of(k, left, right, older);
-    let newer_ways = splittings_of(k, left, right, newer);
+    let older_ways = splittings_of(labels, left, right, older);
+    let newer_ways = splittings_of(labels, left, right, newer);
     if 256 < older_ways {
         return none;
     }
     if 256 < newer_ways {
         return none;
     }
-    list_halves(k, left, right, older, older_ways, 0, halves);
-    list_halves(k, left, right, newer, newer_ways, 256, halves);
+    list_halves(labels, left, right, older, older_ways, 0, halves);
+    list_halves(labels, left, right, newer, newer_ways, 256, halves);
     Kept {
         older: mid,
         newer: window.len() / 3 - mid,
@@ -68,14 +70,14 @@ pub(crate) fn keep_halves(
 }
 
 // Where to cut a window: its newer part has about as many splittings as the older one. Any place would do.
-fn middle(k: u8, left: &[u8], right: &[u8], window: &[u8], ways: usize) -> usize
+fn middle(labels: Labels, left: &[u8], right: &[u8], window: &[u8], ways: usize) -> usize
     ensures within { λ r. ⌜ r ≤ length (now (window .entry)) / 3 ⌝ }
 {
     let mut low: usize = 0;
     let mut high = window.len() / 3;
     while low < high {
         let mid = low + (high - low) / 2;
-        let newer = splittings_of(k, left, right, &window[3 * mid..]);
+        let newer = splittings_of(labels, left, right, &window[3 * mid..]);
         if newer * newer <= ways {
             high = mid;
         } else {
@@ -88,7 +90,7 @@ fn middle(k: u8, left: &[u8], right: &[u8], window: &[u8], ways: usize) -> usize
 // Writes the right halves of the first n splittings of a log to the table, from the place `first` on. What stands in
 // front of it is kept.
 fn list_halves(
-    k: u8,
+    labels: Labels,
     left: &[u8],
     right: &[u8],
     log: &[u8],
@@ -96,24 +98,25 @@ fn list_halves(
     first: usize,
     halves: &mut [u8],
 )
-    requires { ⌜ checkLog k (now left) (now right) (now log) ≡ Sound ⌝ }
-    requires { ⌜ (n ≤ length (splittingsOf k (now left) (now right) (now log)))
-        × (length (splittingsOf k (now left) (now right) (now log)) ≤ splittingLimit) ⌝ }
+    requires { ⌜ checkLog labels (now left) (now right) (now log) ≡ Sound ⌝ }
+    requires { ⌜ (n ≤ length (splittingsOf labels (now left) (now right) (now log)))
+        × (length (splittingsOf labels (now left) (now right) (now log)) ≤ splittingLimit) ⌝ }
     requires { ⌜ (n ≤ 256) × (first ≤ 256) × (length (now halves) ≡ 205312) ⌝ }
-    ensures { λ r. ⌜ HalvesAt k (now (left .entry)) (now (right .entry)) (now (log .entry)) (now (halves .exit)) first
+    ensures { λ r. ⌜ HalvesAt labels (now (left .entry)) (now (right .entry)) (now (log .entry)) (now (halves .exit))
+        first
         n ⌝ }
     ensures { λ r. ⌜ take (401 * first) (now (halves .exit)) ≡ take (401 * first) (now (halves .entry)) ⌝ }
 {
     let mut i: usize = 0;
     while i < n {
-        list_half(k, left, right, log, i, first + i, halves);
+        list_half(labels, left, right, log, i, first + i, halves);
         i += 1;
     }
 }
 
 // Writes the right half of splitting i of a log to a place of the table.
 fn list_half(
-    k: u8,
+    labels: Labels,
     left: &[u8],
     right: &[u8],
     log: &[u8],
@@ -121,17 +124,17 @@ fn list_half(
     place: usize,
     halves: &mut [u8],
 )
-    requires { ⌜ checkLog k (now left) (now right) (now log) ≡ Sound ⌝ }
-    requires { ⌜ (i < length (splittingsOf k (now left) (now right) (now log)))
-        × (length (splittingsOf k (now left) (now right) (now log)) ≤ splittingLimit) ⌝ }
+    requires { ⌜ checkLog labels (now left) (now right) (now log) ≡ Sound ⌝ }
+    requires { ⌜ (i < length (splittingsOf labels (now left) (now right) (now log)))
+        × (length (splittingsOf labels (now left) (now right) (now log)) ≤ splittingLimit) ⌝ }
     requires { ⌜ (place < 512) × (length (now halves) ≡ 205312) ⌝ }
     ensures { λ r. ⌜ now (halves .exit)
         ≡ putAt (now (halves .entry)) (401 * place)
-        (rightHalf k (now (left .entry)) (now (right .entry)) (now (log .entry)) i) ⌝ }
+        (rightHalf labels (now (left .entry)) (now (right .entry)) (now (log .entry)) i) ⌝ }
 {
     let mut spare = [0u8; 401];
     split(
-        k,
+        labels,
         left,
         right,
         log,
@@ -144,7 +147,7 @@ fn list_half(
 // Writes the quotient by the right half of splitting t of a window, at the window's end: with the halves that are kept,
 // or as the public call does.
 pub(crate) fn quotient_text<'a>(
-    k: u8,
+    labels: Labels,
     left: &'a [u8],
     right: &'a [u8],
     window: &[u8],
@@ -154,21 +157,21 @@ pub(crate) fn quotient_text<'a>(
     halves: &[u8],
     text: &mut [u8],
 ) -> Quotient
-    requires { ⌜ Asked k (now left) (now right) (now window) (now question) ⌝ }
-    requires { ⌜ (t < length (splittingsOf k (now left) (now right) (now window)))
-        × (length (splittingsOf k (now left) (now right) (now window)) ≤ splittingLimit) ⌝ }
-    requires { ⌜ Halved k (now left) (now right) (now window) kept (now halves) ⌝ }
+    requires { ⌜ Asked labels (now left) (now right) (now window) (now question) ⌝ }
+    requires { ⌜ (t < length (splittingsOf labels (now left) (now right) (now window)))
+        × (length (splittingsOf labels (now left) (now right) (now window)) ≤ splittingLimit) ⌝ }
+    requires { ⌜ Halved labels (now left) (now right) (now window) kept (now halves) ⌝ }
     requires { ⌜ length (now text) ≡ 8192 ⌝ }
-    ensures { λ r. ⌜ r ≡ byNumber k (now (left .entry)) (now (right .entry)) (now (window .entry))
+    ensures { λ r. ⌜ r ≡ byNumber labels (now (left .entry)) (now (right .entry)) (now (window .entry))
         (now (question .entry)) t side.Right (length (now (window .entry)) / 3) (length (now (text .entry))) ⌝ }
     ensures { λ r. ⌜ now (text .exit)
-        ≡ byNumberOutput k (now (left .entry)) (now (right .entry)) (now (window .entry)) (now (question .entry)) t
+        ≡ byNumberOutput labels (now (left .entry)) (now (right .entry)) (now (window .entry)) (now (question .entry)) t
         side.Right (length (now (window .entry)) / 3) (now (text .entry)) ⌝ }
 {
     let points = window.len() / 3;
     if kept.ways == 0 {
         return by_number(
-            k,
+            labels,
             left,
             right,
             window,
@@ -181,7 +184,7 @@ pub(crate) fn quotient_text<'a>(
     }
     let mut half = [0u8; 401];
     let len = put_half(t, kept, halves, &mut half);
-    divide(k, right, &half[..len], question, text)
+    divide(labels, right, &half[..len], question, text)
 }
 
 // Puts the right half of splitting t of a window together, and gives its length: the half of the older part, then the

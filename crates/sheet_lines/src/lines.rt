@@ -6,6 +6,7 @@ use crate::point::write_point;
 use casebook::read::Reading;
 use casebook::read::read;
 use formulas::backs::back_depth;
+use labels::label::Labels;
 use labels::number::smaller;
 use labels::refusal::Refusal;
 use splitting::count::Counted;
@@ -68,7 +69,7 @@ pub(crate) fn fit_lines(casebook: &[u8], first: usize, most: usize, out: &mut [u
             let question = parts.question;
             let labels = parts.labels(casebook);
             fit_parts(
-                labels.pairs,
+                labels,
                 left.body(casebook),
                 right.body(casebook),
                 run.body(casebook),
@@ -84,7 +85,7 @@ pub(crate) fn fit_lines(casebook: &[u8], first: usize, most: usize, out: &mut [u
 
 // The lines of a log and a question that no check refuses, unless the count does.
 fn fit_parts<'a>(
-    k: u8,
+    labels: Labels,
     left: &'a [u8],
     right: &'a [u8],
     run: &[u8],
@@ -93,17 +94,17 @@ fn fit_parts<'a>(
     most: usize,
     out: &mut [u8],
 ) -> Fitted
-    requires { ⌜ Asked k (now left) (now right) (now run) (now question) ⌝ }
+    requires { ⌜ Asked labels (now left) (now right) (now run) (now question) ⌝ }
     ensures { λ r. ⌜ r ≡ fittedOf
         (take most (drop first
-        (partsLines k (now (left .entry)) (now (right .entry)) (now (run .entry)) (now (question .entry)))))
+        (partsLines labels (now (left .entry)) (now (right .entry)) (now (run .entry)) (now (question .entry)))))
         (length (now (out .entry))) ⌝ }
     ensures { λ r. ⌜ now (out .exit) ≡ fittedOutput
         (take most (drop first
-        (partsLines k (now (left .entry)) (now (right .entry)) (now (run .entry)) (now (question .entry)))))
+        (partsLines labels (now (left .entry)) (now (right .entry)) (now (run .entry)) (now (question .entry)))))
         (now (out .entry)) ⌝ }
 {
-    match count(k, left, right, run) {
+    match count(labels, left, right, run) {
         Counted::Splittings(splittings) => {
             let total = (run.len() / 3 + 1) * splittings;
             if total <= first {
@@ -121,7 +122,17 @@ fn fit_parts<'a>(
                 };
             }
             let due = smaller(most, total - first);
-            fit_sheet(k, left, right, run, question, splittings, first, due, out)
+            fit_sheet(
+                labels,
+                left,
+                right,
+                run,
+                question,
+                splittings,
+                first,
+                due,
+                out,
+            )
         }
         Counted::Refused(refusal) => fit_refused(refusal, first, most, out),
     }
@@ -129,7 +140,7 @@ fn fit_parts<'a>(
 
 // So many lines, from line `first` on, or as many of them as fit.
 fn fit_sheet<'a>(
-    k: u8,
+    labels: Labels,
     left: &'a [u8],
     right: &'a [u8],
     run: &[u8],
@@ -139,18 +150,28 @@ fn fit_sheet<'a>(
     due: usize,
     out: &mut [u8],
 ) -> Fitted
-    requires { ⌜ Numbered k (now left) (now right) (now run) (now question) splittings ⌝ }
+    requires { ⌜ Numbered labels (now left) (now right) (now run) (now question) splittings ⌝ }
     requires { ⌜ (1 ≤ due) × (first + due ≤ suc (steps (jointOf (now run))) * splittings) ⌝ }
     ensures { λ r. ⌜ r ≡ fittedOf
-        (listed (numberedLine k (now (left .entry)) (now (right .entry)) (now (run .entry)) (now (question .entry))
+        (listed (numberedLine labels (now (left .entry)) (now (right .entry)) (now (run .entry)) (now (question .entry))
         splittings) first due)
         (length (now (out .entry))) ⌝ }
     ensures { λ r. ⌜ now (out .exit) ≡ fittedOutput
-        (listed (numberedLine k (now (left .entry)) (now (right .entry)) (now (run .entry)) (now (question .entry))
+        (listed (numberedLine labels (now (left .entry)) (now (right .entry)) (now (run .entry)) (now (question .entry))
         splittings) first due)
         (now (out .entry)) ⌝ }
 {
-    let done = fill(k, left, right, run, question, splittings, first, due, out);
+    let done = fill(
+        labels,
+        left,
+        right,
+        run,
+        question,
+        splittings,
+        first,
+        due,
+        out,
+    );
     let lines = done.number - first;
     Fitted {
         lines,
@@ -162,7 +183,7 @@ fn fit_sheet<'a>(
 // Fills an output with lines, point by point: line i is that of point i / splittings and of splitting i % splittings.
 // Gives the line that is due next, and how many bytes are written.
 fn fill<'a>(
-    k: u8,
+    labels: Labels,
     left: &'a [u8],
     right: &'a [u8],
     run: &[u8],
@@ -172,11 +193,11 @@ fn fill<'a>(
     due: usize,
     out: &mut [u8],
 ) -> Progress
-    requires { ⌜ Numbered k (now left) (now right) (now run) (now question) splittings ⌝ }
+    requires { ⌜ Numbered labels (now left) (now right) (now run) (now question) splittings ⌝ }
     requires { ⌜ first + due ≤ suc (steps (jointOf (now run))) * splittings ⌝ }
     ensures { λ r. ⌜ Full
         (fitting (length (now (out .entry)))
-        (listed (numberedLine k (now (left .entry)) (now (right .entry)) (now (run .entry)) (now (question .entry))
+        (listed (numberedLine labels (now (left .entry)) (now (right .entry)) (now (run .entry)) (now (question .entry))
         splittings) first due)) (now (out .entry)) 0 first (now (out .exit)) (r .at) (r .number) ⌝ }
 {
     let back = back_depth(question);
@@ -193,7 +214,7 @@ fn fill<'a>(
         let number = i % splittings;
         let until = smaller(splittings, number + (end - i));
         let done = write_point(
-            k,
+            labels,
             left,
             right,
             run,

@@ -3,6 +3,7 @@ use crate::ending::find_ending;
 use crate::kept::Kept;
 use crate::kept::keep_halves;
 use crate::line::write_turn;
+use labels::label::Labels;
 use labels::number::smaller;
 use splitting::count::Counted;
 use splitting::count::count;
@@ -39,7 +40,7 @@ pub(crate) struct Progress {
 // Writes the lines of a point from splitting `number` on, behind a place, as many as fit, and not that of splitting
 // `until`. The question looks back at most `back` steps.
 pub(crate) fn write_point<'a>(
-    k: u8,
+    labels: Labels,
     left: &'a [u8],
     right: &'a [u8],
     run: &[u8],
@@ -56,25 +57,26 @@ pub(crate) fn write_point<'a>(
     text: &mut [u8],
     line: &mut [u8],
 ) -> Progress
-    requires { ⌜ Asked k (now left) (now right) (now run) (now question) ⌝ }
+    requires { ⌜ Asked labels (now left) (now right) (now run) (now question) ⌝ }
     requires { ⌜ (back ≡ backsOf (now question)) × (point ≤ steps (jointOf (now run))) ⌝ }
-    requires { ⌜ (number ≤ until) × (until ≤ length (splittingsOf k (now left) (now right) (now run)))
-        × (length (splittingsOf k (now left) (now right) (now run)) ≤ splittingLimit) ⌝ }
+    requires { ⌜ (number ≤ until) × (until ≤ length (splittingsOf labels (now left) (now right) (now run)))
+        × (length (splittingsOf labels (now left) (now right) (now run)) ≤ splittingLimit) ⌝ }
     requires { ⌜ (at ≤ length (now out)) × (length (now halves) ≡ 205312)
         × Scratch (now froms) (now ends) (now text) (now line) ⌝ }
     ensures { λ r. ⌜ Full
         (fitting (length (now (out .entry)) - at)
-        (listed (lineOf k (now (left .entry)) (now (right .entry)) (now (run .entry)) (now (question .entry)) point)
+        (listed (lineOf labels (now (left .entry)) (now (right .entry)) (now (run .entry)) (now (question .entry))
+        point)
         number (until - number))) (now (out .entry)) at number (now (out .exit)) (r .at) (r .number) ⌝ }
     ensures { λ r. ⌜ Scratch (now (froms .exit)) (now (ends .exit)) (now (text .exit)) (now (line .exit)) ⌝ }
 {
     let first = window_start(point, back);
     let window = &run[3 * first..3 * point + 2];
     let rest = &run[3 * point..];
-    let letter = letter_of(joint(k, left, right, run, question, point));
-    let ways = splittings_of(k, left, right, window);
-    let after = splittings_after(k, left, right, rest, ways);
-    let kept = keep_halves(k, left, right, window, ways, halves);
+    let letter = letter_of(joint(labels, left, right, run, question, point));
+    let ways = splittings_of(labels, left, right, window);
+    let after = splittings_after(labels, left, right, rest, ways);
+    let kept = keep_halves(labels, left, right, window, ways, halves);
     let shared = Point {
         number: point,
         letter,
@@ -84,7 +86,7 @@ pub(crate) fn write_point<'a>(
     };
     forget(ends, ways);
     write_numbers(
-        k,
+        labels,
         left,
         right,
         window,
@@ -105,7 +107,7 @@ pub(crate) fn write_point<'a>(
 // The same with what the lines of the point share: turn by turn, until a line does not fit. A turn has the splittings
 // that follow each other and have the same number t in the window, so that their lines end alike.
 fn write_numbers<'a>(
-    k: u8,
+    labels: Labels,
     left: &'a [u8],
     right: &'a [u8],
     window: &[u8],
@@ -123,13 +125,14 @@ fn write_numbers<'a>(
 ) -> Progress
     requires { ⌜ (point .number < 1000) × (number ≤ until) × (until ≤ 65536) × (at ≤ length (now out)) ⌝ }
     requires { ⌜ (0 < point .after) × (0 < point .ways) × (point .after ≤ 65536) ⌝ }
-    requires { ⌜ Shared k (now left) (now right) (now window) (now question) point (now halves) ⌝ }
+    requires { ⌜ Shared labels (now left) (now right) (now window) (now question) point (now halves) ⌝ }
     requires { ⌜ Scratch (now froms) (now ends) (now text) (now line) ⌝ }
-    requires { ⌜ EndingsKnown (endingIn k (now left) (now right) (now window) (now question) (point .letter))
+    requires { ⌜ EndingsKnown (endingIn labels (now left) (now right) (now window) (now question) (point .letter))
         (point .ways) (now froms) (now ends) (now out) at ⌝ }
     ensures { λ r. ⌜ Full
         (fitting (length (now (out .entry)) - at)
-        (listed (lineBy k (now (left .entry)) (now (right .entry)) (now (window .entry)) (now (question .entry)) point)
+        (listed (lineBy labels (now (left .entry)) (now (right .entry)) (now (window .entry)) (now (question .entry))
+        point)
         number (until - number))) (now (out .entry)) at number (now (out .exit)) (r .at) (r .number) ⌝ }
     ensures { λ r. ⌜ Scratch (now (froms .exit)) (now (ends .exit)) (now (text .exit)) (now (line .exit)) ⌝ }
 {
@@ -140,7 +143,7 @@ fn write_numbers<'a>(
         let t = n / after % point.ways;
         let end = smaller(until, n + (after - n % after));
         let len = take_ending(
-            k,
+            labels,
             left,
             right,
             window,
@@ -169,7 +172,7 @@ fn write_numbers<'a>(
 // Puts the ending of the lines by splitting t of the window behind the first 12 bytes of `line`, and gives its length:
 // copied from the output in front of `at`, if it stands there, else made anew.
 fn take_ending<'a>(
-    k: u8,
+    labels: Labels,
     left: &'a [u8],
     right: &'a [u8],
     window: &[u8],
@@ -185,15 +188,15 @@ fn take_ending<'a>(
     line: &mut [u8],
 ) -> usize
     requires { ⌜ (t < point .ways) × (at ≤ length (now out)) ⌝ }
-    requires { ⌜ Shared k (now left) (now right) (now window) (now question) point (now halves) ⌝ }
+    requires { ⌜ Shared labels (now left) (now right) (now window) (now question) point (now halves) ⌝ }
     requires { ⌜ Scratch (now froms) (now ends) (now text) (now line) ⌝ }
-    requires { ⌜ EndingsKnown (endingIn k (now left) (now right) (now window) (now question) (point .letter))
+    requires { ⌜ EndingsKnown (endingIn labels (now left) (now right) (now window) (now question) (point .letter))
         (point .ways) (now froms) (now ends) (now out) at ⌝ }
     ensures { λ r. ⌜ r ≡ length
-        (endingIn k (now (left .entry)) (now (right .entry)) (now (window .entry)) (now (question .entry))
+        (endingIn labels (now (left .entry)) (now (right .entry)) (now (window .entry)) (now (question .entry))
         (point .letter) t) ⌝ }
     ensures { λ r. ⌜ take r (drop 12 (now (line .exit)))
-        ≡ endingIn k (now (left .entry)) (now (right .entry)) (now (window .entry)) (now (question .entry))
+        ≡ endingIn labels (now (left .entry)) (now (right .entry)) (now (window .entry)) (now (question .entry))
         (point .letter) t ⌝ }
     ensures { λ r. ⌜ r ≤ 16387 ⌝ }
 {
@@ -205,7 +208,7 @@ fn take_ending<'a>(
         }
     }
     find_ending(
-        k,
+        labels,
         left,
         right,
         window,
@@ -264,10 +267,10 @@ fn letter_of(verdict: Verdict) -> u8
 }
 
 // How many splittings a log has; 1 where the count is refused.
-pub(crate) fn splittings_of(k: u8, left: &[u8], right: &[u8], run: &[u8]) -> usize
-    ensures { λ r. ⌜ r ≡ countedAs (countOf k (now (left .entry)) (now (right .entry)) (now (run .entry))) ⌝ }
+pub(crate) fn splittings_of(labels: Labels, left: &[u8], right: &[u8], run: &[u8]) -> usize
+    ensures { λ r. ⌜ r ≡ countedAs (countOf labels (now (left .entry)) (now (right .entry)) (now (run .entry))) ⌝ }
 {
-    match count(k, left, right, run) {
+    match count(labels, left, right, run) {
         Counted::Splittings(n) => n,
         Counted::Refused(_) => 1,
     }
@@ -275,14 +278,14 @@ pub(crate) fn splittings_of(k: u8, left: &[u8], right: &[u8], run: &[u8]) -> usi
 
 // By how many splittings numbers are divided to find their number in the window. Where the window has one splitting
 // only, all numbers fall to it.
-fn splittings_after(k: u8, left: &[u8], right: &[u8], rest: &[u8], ways: usize) -> usize
+fn splittings_after(labels: Labels, left: &[u8], right: &[u8], rest: &[u8], ways: usize) -> usize
     ensures { λ r. ⌜ r ≡ afterOf ways
-        (countedAs (countOf k (now (left .entry)) (now (right .entry)) (now (rest .entry)))) ⌝ }
+        (countedAs (countOf labels (now (left .entry)) (now (right .entry)) (now (rest .entry)))) ⌝ }
 {
     if ways == 1 {
         return 65536;
     }
-    splittings_of(k, left, right, rest)
+    splittings_of(labels, left, right, rest)
 }
 
 // No ending of an earlier point stands in the output any more.

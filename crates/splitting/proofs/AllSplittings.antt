@@ -14,9 +14,10 @@ use Rattle.hml.proofs.Real.{JoinOf}
 use Rattle.hml.proofs.Joins.{join-first, join-steps}
 use Rattle.hml.specs.Split.{splits}
 use Rattle.hml.proofs.NewestSteps.{splits-some}
-use Rattle.hml.specs.Labels.{pairs}
+use Rattle.labels.specs.Labels.{pairing}
 use Rattle.hml.specs.Lists.{same}
 use Rattle.labels.specs.declared.refusal.Check.the-variants.{Sound}
+use Rattle.labels.specs.declared.label.Labels.{Labels}
 use Rattle.tables.specs.Tables.{tableOf}
 use Rattle.halves.specs.Halves.{halfBytes, halfOf}
 use Rattle.machines.specs.Joints.{jointOf}
@@ -32,7 +33,8 @@ use Rattle.splitting.proofs.Outcomes.{join-given, count-answered}
 
 -- each splitting of a log joins to the log again: its halves are accepted, join to the log's run and give its bytes,
 -- and have a state and two bytes a step
-pub splitting-joins : (k : ℕ) (l r s : List ℕ) (n : ℕ) → checkLog k l r s ≡ Sound → n < length (splittingsOf k l r s)
+pub splitting-joins : (k : Labels) (l r s : List ℕ) (n : ℕ) → checkLog k l r s ≡ Sound
+    → n < length (splittingsOf k l r s)
     → let a = leftHalf k l r s n in let b = rightHalf k l r s n in
     (checkHalves k l r a b ≡ Sound) × (joinBytes k a b ≡ s) × (joinOf k a b ≡ some (jointOf s))
     × (length a ≡ halfLength s) × (length b ≡ halfLength s)
@@ -40,7 +42,7 @@ unfolding leftHalf rightHalf joinBytes
 splitting-joins k l r s n e h =
     let log = sound-log k l r s e in
     let w = nth-joins k l r s n h in
-    let f = join-first (pairs k) paired (w .0) in
+    let f = join-first (pairing k) paired (w .0) in
     let i = runs-join (log .machines) w in
     let (u, v) = nth-length k l r s n h in (
       runs-accepted (log .machines) w (rw f at (log .run .beginsLeft)) (rw f at (log .run .beginsRight))
@@ -52,27 +54,29 @@ splitting-joins k l r s n e h =
     )
 
 -- two halves that join give a log: what they join to is accepted
-pub joined-log : (k : ℕ) (l r a b : List ℕ) → checkHalves k l r a b ≡ Sound → checkLog k l r (joinBytes k a b) ≡ Sound
+pub joined-log : (k : Labels) (l r a b : List ℕ) → checkHalves k l r a b ≡ Sound → checkLog k l r (joinBytes k a b)
+    ≡ Sound
 joined-log k l r a b e =
     let h = sound-halves k l r a b e in
     let w = halves-join h in
     rw (bytes-joined h)
     (run-accepted (h .machines) w (h .left .begins) (h .right .begins)
-    (omega (arith, join-steps (pairs k) paired (w .0) .0, h .left .few)))
+    (omega (arith, join-steps (pairing k) paired (w .0) .0, h .left .few)))
 
 -- all splittings: two halves that join to a log are one of its splittings
-pub joins-splitting : (k : ℕ) (l r s a b : List ℕ) → checkHalves k l r a b ≡ Sound → joinBytes k a b ≡ s
+pub joins-splitting : (k : Labels) (l r s a b : List ℕ) → checkHalves k l r a b ≡ Sound → joinBytes k a b ≡ s
     → (n : ℕ) × (n < length (splittingsOf k l r s)) × (leftHalf k l r s n ≡ a) × (rightHalf k l r s n ≡ b)
 unfolding leftHalf rightHalf
 joins-splitting k l r s a b e j =
     let h = sound-halves k l r a b e in
-    let w : JoinOf (pairs k) (tableOf l) (tableOf r) (halfOf a) (halfOf b) (jointOf s) = rw (← j, joined-read h)
+    let w : JoinOf (pairing k) (tableOf l) (tableOf r) (halfOf a) (halfOf b) (jointOf s) = rw (← j, joined-read h)
     (halves-join h) in
     let (n, i, f) = all-numbered k l r s w in
     (n, i, ap (λ z. halfBytes (z .0)) f ∙ h .left .spelled, ap (λ z. halfBytes (z .1)) f ∙ h .right .spelled)
 
 -- each once: splittings with equal halves have one number
-pub splitting-once : (k : ℕ) (l r s : List ℕ) (m n : ℕ) → checkLog k l r s ≡ Sound → m < length (splittingsOf k l r s)
+pub splitting-once : (k : Labels) (l r s : List ℕ) (m n : ℕ) → checkLog k l r s ≡ Sound
+    → m < length (splittingsOf k l r s)
     → n < length (splittingsOf k l r s)
     → leftHalf k l r s m ≡ leftHalf k l r s n → rightHalf k l r s m ≡ rightHalf k l r s n → m ≡ n
 unfolding leftHalf rightHalf
@@ -85,7 +89,7 @@ splitting-once k l r s m n e h i f g =
     numbered-once k l r s t m n h i (λ z. (left z, right z))
 
 -- none missing, none twice: two halves that join to a log are exactly one of its splittings
-pub exactly-one : (k : ℕ) (l r s a b : List ℕ) → checkHalves k l r a b ≡ Sound → joinBytes k a b ≡ s
+pub exactly-one : (k : Labels) (l r s a b : List ℕ) → checkHalves k l r a b ≡ Sound → joinBytes k a b ≡ s
     → (n : ℕ) × (n < length (splittingsOf k l r s)) × (leftHalf k l r s n ≡ a) × (rightHalf k l r s n ≡ b)
     × ((m : ℕ) → m < length (splittingsOf k l r s) → leftHalf k l r s m ≡ a → rightHalf k l r s m ≡ b → m ≡ n)
 exactly-one k l r s a b e j =
@@ -94,21 +98,21 @@ exactly-one k l r s a b e j =
     (n, h, x, y, λ m i u v. splitting-once k l r s m n log i h (u ∙ sym x) (v ∙ sym y))
 
 -- a log has at least one splitting
-pub count-some : (k : ℕ) (l r s : List ℕ) → checkLog k l r s ≡ Sound → 1 ≤ length (splittingsOf k l r s)
+pub count-some : (k : Labels) (l r s : List ℕ) → checkLog k l r s ≡ Sound → 1 ≤ length (splittingsOf k l r s)
 unfolding splittingsOf
-count-some k l r s e = splits-some (pairs k) tested-ℕ tested-ℕ (tableOf l) (tableOf r) (sound-log k l r s e .run .run)
+count-some k l r s e = splits-some (pairing k) tested-ℕ tested-ℕ (tableOf l) (tableOf r) (sound-log k l r s e .run .run)
 
 -- "Run of 0 steps: one splitting."
-pub count-one : (k : ℕ) (l r s : List ℕ) → steps (jointOf s) ≡ 0 → length (splittingsOf k l r s) ≡ 1
+pub count-one : (k : Labels) (l r s : List ℕ) → steps (jointOf s) ≡ 0 → length (splittingsOf k l r s) ≡ 1
 unfolding splittingsOf splits
 count-one k l r s = go (jointOf s)
   where
-    go : (j : Run (ℕ × ℕ)) → steps j ≡ 0 → length (splits (pairs k) same same (tableOf l) (tableOf r) j) ≡ 1
+    go : (j : Run (ℕ × ℕ)) → steps j ≡ 0 → length (splits (pairing k) same same (tableOf l) (tableOf r) j) ≡ 1
     go (start u) e = refl
     go (j ▸ t) e = absurd (omega (arith, e))
 
 -- joining is the reverse: joining what a split gave gives the log again
-pub split-then-join : (k : ℕ) (l r s : List ℕ) (n : ℕ) (x y a b out : List ℕ) → SplitGives k l r s n x y a b
+pub split-then-join : (k : Labels) (l r s : List ℕ) (n : ℕ) (x y a b out : List ℕ) → SplitGives k l r s n x y a b
     → length s ≤ length out → JoinGives k l r a b out s
 split-then-join k l r s n x y a b out g h =
     let (e, u, v) = split-given k l r s n x y a b g in
@@ -118,7 +122,7 @@ split-then-join k l r s n x y a b out g h =
 
 -- and splitting what a join gave gives the halves again, by one number and no other, if the log has no more splittings
 -- than can be numbered
-pub join-then-split : (k : ℕ) (l r a b out s : List ℕ) (c : ℕ) → JoinGives k l r a b out s
+pub join-then-split : (k : Labels) (l r a b out s : List ℕ) (c : ℕ) → JoinGives k l r a b out s
     → countOf k l r s ≡ count.Splittings c
     → (n : ℕ) × (n < c) × ((x y : List ℕ) → length a ≤ length x → length b ≤ length y → SplitGives k l r s n x y a b)
     × ((m : ℕ) (x y : List ℕ) → SplitGives k l r s m x y a b → m ≡ n)

@@ -11,7 +11,6 @@ use lib.Dec.{leb}
 use borrow.Author.Tests.{leb-true, leb-false}
 use Rattle.hml.proofs.Tests.{tested-ℕ}
 use Rattle.hml.specs.System.{Run, start, _▸_, last}
-use Rattle.hml.specs.Labels.{pairs}
 use Rattle.hml.specs.Split.{splits}
 use Rattle.hml.proofs.Splits.{splits-count}
 use Rattle.hml.specs.Lists.{same}
@@ -36,25 +35,25 @@ use Rattle.ways.proofs.RowWays.{ways-few}
 use Rattle.ways.proofs.Options.{options-listed}
 
 -- the ways of a step, by the rows that leave its states
-module _ (labels : Labels) (l r : List ℕ) (t : Tables (labels .pairs) l r) (step : JointStep) where
-  listed : optionsOf (labels .pairs) l r step
+module _ (labels : Labels) (l r : List ℕ) (t : Tables labels l r) (step : JointStep) where
+  listed : optionsOf labels l r step
       ≡ waysHere (pairing labels) (tableOf l (step .before .left)) (tableOf r (step .before .right)) step
-  unfolding optionsOf pairing
-  listed = options-listed (pairs (labels .pairs)) (tableOf l) (tableOf r) step
+  unfolding optionsOf
+  listed = options-listed (pairing labels) (tableOf l) (tableOf r) step
       (moves-distinct (t .left) (step .before .left)) (moves-distinct (t .right) (step .before .right))
 
   pub ways-options : (ls rs : List ℕ) → ls ≡ bytesOf (rowsFrom (step .before .left) (rowsOf l))
       → rs ≡ bytesOf (rowsFrom (step .before .right) (rowsOf r))
-      → waysHere (pairing labels) (movesIn ls) (movesIn rs) step ≡ optionsOf (labels .pairs) l r step
+      → waysHere (pairing labels) (movesIn ls) (movesIn rs) step ≡ optionsOf labels l r step
   ways-options ls rs a b =
       rw (leaving-moves l (step .before .left) ls a, leaving-moves r (step .before .right) rs b) (sym listed)
 
-  options-few : length (optionsOf (labels .pairs) l r step) ≤ 10
+  options-few : length (optionsOf labels l r step) ≤ 10
   options-few =
       let f = ways-few (pairing labels) (tableOf l (step .before .left)) (tableOf r (step .before .right)) step in
       omega (arith, ap length listed, f, moves-few (t .left) (step .before .left))
 
-  pub options-small : (n : ℕ) → n ≡ length (optionsOf (labels .pairs) l r step) → n ≤ 10
+  pub options-small : (n : ℕ) → n ≡ length (optionsOf labels l r step) → n ≤ 10
   options-small n e = omega (arith, e, options-few)
 
 -- a capped product is the product, capped
@@ -68,13 +67,13 @@ product-capped a w cap = go (leb a cap) refl w
         let z : min a cap ≡ cap = omega (arith, leb-false a cap e) in
         rw z (omega (arith, mul-suc cap w, mul-suc a w, leb-false a cap e))
 
-module _ (k : ℕ) (l r s : List ℕ) where
+module _ (k : Labels) (l r s : List ℕ) where
   -- a log stopped at i, and its splittings
   abbrev pub upTo : ℕ → Run (ℕ × ℕ)
   upTo i = jointOf (take (3 * i + 2) s)
 
   abbrev pub splitsUpTo : ℕ → List (Run ℕ × Run ℕ)
-  splitsUpTo i = splits (pairs k) same same (tableOf l) (tableOf r) (upTo i)
+  splitsUpTo i = splits (pairing k) same same (tableOf l) (tableOf r) (upTo i)
 
   -- the splittings of step i, from the states before it
   abbrev pub optionsAt : ℕ → List Steps
@@ -85,7 +84,7 @@ module _ (k : ℕ) (l r s : List ℕ) where
   CountedTo i n = n ≡ min (length (splitsUpTo i)) 65536
 
 -- the steps of a log
-module _ {k : ℕ} {l r s : List ℕ} (g : Log k l r s) where
+module _ {k : Labels} {l r s : List ℕ} (g : Log k l r s) where
   pub up-to-end : upTo k l r s (length s / 3) ≡ jointOf s
   up-to-end = ap jointOf (take-all (3 * (length s / 3) + 2) s (omega (arith, g .run .whole)))
 
@@ -118,7 +117,7 @@ module _ {k : ℕ} {l r s : List ℕ} (g : Log k l r s) where
     pub step-splits : length (splitsUpTo k l r s (i + 1)) ≡ length (splitsUpTo k l r s i) * length (optionsAt k l r s i)
     unfolding optionsOf jointStepAt
     step-splits =
-        rw one-step (splits-count (pairs k) tested-ℕ tested-ℕ (tableOf l) (tableOf r) (upTo k l r s i) _
+        rw one-step (splits-count (pairing k) tested-ℕ tested-ℕ (tableOf l) (tableOf r) (upTo k l r s i) _
         ∙ rw states-before)
 
   pub counted-start : CountedTo k l r s 0 1

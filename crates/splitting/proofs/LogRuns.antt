@@ -16,11 +16,11 @@ use Rattle.hml.proofs.Joins.{join-found, join-sound, join-first, join-steps}
 use Rattle.hml.proofs.Splits.{splits-sound, splits-complete}
 use Rattle.hml.proofs.Distinct.{splits-distinct}
 use Rattle.hml.proofs.Indexed.{element, number-of, number-once}
-use Rattle.hml.specs.Labels.{pairs}
 use Rattle.labels.specs.Refusals.{firstOf, refusedIf}
-use Rattle.labels.specs.Labels.{checkPairs}
+use Rattle.labels.specs.Labels.{checkLabels, pairing}
 use Rattle.labels.specs.declared.refusal.Check.the-variants.{Sound}
 use Rattle.labels.proofs.Refusals.{judges, both-sound, passed}
+use Rattle.labels.specs.declared.label.Labels.{Labels}
 use Rattle.tables.specs.Tables.{statesOf, tableOf, checkTable, SoundTable}
 use Rattle.tables.proofs.SoundTables.{sound-table, no-idle-label, moves-distinct}
 use Rattle.halves.specs.Runs.{written}
@@ -46,32 +46,32 @@ unfolding checkHalf
 half-passed t a e = accepted-half t a (passed (isHalfRun t a) _ e)
 
 -- a run of a sound table is one
-pub half-passes : (k : ℕ) (t : List ℕ) → SoundTable k t → (x : Run ℕ) → RunOf (tableOf t) x → first x < statesOf t
+pub half-passes : (k : Labels) (t : List ℕ) → SoundTable k t → (x : Run ℕ) → RunOf (tableOf t) x → first x < statesOf t
     → steps x ≤ 200 → checkHalf t (halfBytes x) ≡ Sound
 unfolding HalfRun
 half-passes k t sound x run begins few = judges (judged-half k t (halfBytes x) sound) .1 (x, refl, run, begins, few)
 
 -- k and two tables that no check refuses
-pub record SoundMachines (k : ℕ) (l r : List ℕ) : Type 0 where
-  pub pairs : checkPairs k ≡ Sound
+pub record SoundMachines (k : Labels) (l r : List ℕ) : Type 0 where
+  pub labels : checkLabels k ≡ Sound
   pub left : checkTable k l ≡ Sound
   pub right : checkTable k r ≡ Sound
 
 -- a log that no check refuses
-pub record SoundLog (k : ℕ) (l r s : List ℕ) : Type 0 where
+pub record SoundLog (k : Labels) (l r s : List ℕ) : Type 0 where
   pub machines : SoundMachines k l r
   pub run : AcceptedJoint k l r s
   pub held : Held s (length s)
 
 -- halves that no check refuses: they join
-pub record SoundHalves (k : ℕ) (l r a b : List ℕ) : Type 0 where
+pub record SoundHalves (k : Labels) (l r a b : List ℕ) : Type 0 where
   pub machines : SoundMachines k l r
   pub left : AcceptedHalf l a
   pub right : AcceptedHalf r b
   pub run : Run (ℕ × ℕ)
   pub joined : joinOf k a b ≡ some run
 
-module _ {k : ℕ} {l r : List ℕ} (t : SoundMachines k l r) where
+module _ {k : Labels} {l r : List ℕ} (t : SoundMachines k l r) where
   pub left-table : SoundTable k l
   left-table = sound-table k l (t .left)
 
@@ -94,7 +94,7 @@ module _ {k : ℕ} {l r : List ℕ} (t : SoundMachines k l r) where
   unfolding checkLog firstOf JointRun
   log-passes j run left right few =
       rw (
-        t .pairs,
+        t .labels,
         t .left,
         t .right,
         judges (judged-joint k l r (jointBytes j) left-table right-table) .1 (j, refl, run, left, right, few),
@@ -104,20 +104,20 @@ module _ {k : ℕ} {l r : List ℕ} (t : SoundMachines k l r) where
   pub halves-pass : (a b : List ℕ) → checkHalf l a ≡ Sound → checkHalf r b ≡ Sound → (j : Run (ℕ × ℕ))
       → joinOf k a b ≡ some j → checkHalves k l r a b ≡ Sound
   unfolding checkHalves firstOf halvesMatch
-  halves-pass a b left right j e = rw (t .pairs, t .left, t .right, left, right, e)
+  halves-pass a b left right j e = rw (t .labels, t .left, t .right, left, right, e)
 
 -- what the checks let through
-module _ (k : ℕ) (l r : List ℕ) where
+module _ (k : Labels) (l r : List ℕ) where
   pub sound-log : (s : List ℕ) → checkLog k l r s ≡ Sound → SoundLog k l r s
   unfolding checkLog firstOf checkJoint
   sound-log s e =
-      let (pairs, a) = both-sound (checkPairs k) _ e in
+      let (labels, a) = both-sound (checkLabels k) _ e in
       let (left, b) = both-sound (checkTable k l) _ a in
       let (right, c) = both-sound (checkTable k r) _ b in
       let (run, _) = both-sound (checkJoint k l r s) _ c in
       let (fit, d) = both-sound (refusedIf (not (fitJoint s)) _) _ run in
       let (real, _) = both-sound (refusedIf (not (isJointRun k l r s)) _) _ d in
-      let t : SoundMachines k l r = record { pairs = pairs; left = left; right = right } in
+      let t : SoundMachines k l r = record { labels = labels; left = left; right = right } in
       let f = passed (fitJoint s) _ fit in
       let g = passed (isJointRun k l r s) _ real in
       record {
@@ -139,7 +139,7 @@ module _ (k : ℕ) (l r : List ℕ) where
   pub sound-halves : (a b : List ℕ) → checkHalves k l r a b ≡ Sound → SoundHalves k l r a b
   unfolding checkHalves firstOf halvesMatch
   sound-halves a b e =
-      let (pairs, u) = both-sound (checkPairs k) _ e in
+      let (labels, u) = both-sound (checkLabels k) _ e in
       let (left, v) = both-sound (checkTable k l) _ u in
       let (right, w) = both-sound (checkTable k r) _ v in
       let (x, p) = both-sound (checkHalf l a) _ w in
@@ -148,7 +148,7 @@ module _ (k : ℕ) (l r : List ℕ) where
       let (j, f, _) = decides (decided-present (λ j. decided-true true) (joinOf k a b)) .0
       (passed (present (λ j. true) (joinOf k a b)) _ m) in
       record {
-        machines = record { pairs = pairs; left = left; right = right };
+        machines = record { labels = labels; left = left; right = right };
         left = half-passed l a x;
         right = half-passed r b y;
         run = j;
@@ -156,36 +156,36 @@ module _ (k : ℕ) (l r : List ℕ) where
       }
 
 -- how long a half of a log is, by the bytes of the log
-pub half-room : {k : ℕ} {l r s : List ℕ} → Log k l r s → halfLength s ≡ 2 * (length s / 3) + 1
+pub half-room : {k : Labels} {l r s : List ℕ} → Log k l r s → halfLength s ≡ 2 * (length s / 3) + 1
 unfolding halfLength
 half-room g = rw (g .run .counted)
 
 -- what joins as runs joins as bytes
-module _ {k : ℕ} {l r : List ℕ} (t : SoundMachines k l r) {x y : Run ℕ} {j : Run (ℕ × ℕ)}
-    (join : JoinOf (pairs k) (tableOf l) (tableOf r) x y j) where
+module _ {k : Labels} {l r : List ℕ} (t : SoundMachines k l r) {x y : Run ℕ} {j : Run (ℕ × ℕ)}
+    (join : JoinOf (pairing k) (tableOf l) (tableOf r) x y j) where
   pub runs-join : joinOf k (halfBytes x) (halfBytes y) ≡ some j
   unfolding joinOf
-  runs-join = rw (left-read t (join .1), right-read t (join .2)) (join-found (pairs k) paired (join .0))
+  runs-join = rw (left-read t (join .1), right-read t (join .2)) (join-found (pairing k) paired (join .0))
 
   -- from states of the tables and of at most 200 steps, the halves and the log are accepted
   module _ (left : first x < statesOf l) (right : first y < statesOf r) (few : steps j ≤ 200) where
     pub runs-accepted : checkHalves k l r (halfBytes x) (halfBytes y) ≡ Sound
     runs-accepted =
-        let (m, n) = join-steps (pairs k) paired (join .0) in
+        let (m, n) = join-steps (pairing k) paired (join .0) in
         halves-pass t _ _ (half-passes k l (left-table t) x (join .1) left (omega (arith, m, few)))
         (half-passes k r (right-table t) y (join .2) right (omega (arith, n, few))) j runs-join
 
     pub run-accepted : checkLog k l r (jointBytes j) ≡ Sound
     run-accepted =
-        let e = join-first (pairs k) paired (join .0) in
-        log-passes t j (join-run (pairs k) (tableOf l) (tableOf r) (join .0) (join .1) (join .2)) (rw e left)
+        let e = join-first (pairing k) paired (join .0) in
+        log-passes t j (join-run (pairing k) (tableOf l) (tableOf r) (join .0) (join .1) (join .2)) (rw e left)
         (rw e right) few
 
 -- halves that no check refuses, as runs
-module _ {k : ℕ} {l r a b : List ℕ} (h : SoundHalves k l r a b) where
-  pub halves-join : JoinOf (pairs k) (tableOf l) (tableOf r) (halfOf a) (halfOf b) (h .run)
+module _ {k : Labels} {l r a b : List ℕ} (h : SoundHalves k l r a b) where
+  pub halves-join : JoinOf (pairing k) (tableOf l) (tableOf r) (halfOf a) (halfOf b) (h .run)
   unfolding joinOf
-  halves-join = (join-sound (pairs k) paired (halfOf a) (halfOf b) (h .run) (h .joined), h .left .run, h .right .run)
+  halves-join = (join-sound (pairing k) paired (halfOf a) (halfOf b) (h .run) (h .joined), h .left .run, h .right .run)
 
   pub bytes-joined : joinBytes k a b ≡ jointBytes (h .run)
   unfolding joinBytes
@@ -195,34 +195,34 @@ module _ {k : ℕ} {l r a b : List ℕ} (h : SoundHalves k l r a b) where
   pub joined-read : jointOf (joinBytes k a b) ≡ h .run
   joined-read =
       let (m, x, y) = halves-join in
-      ap jointOf bytes-joined ∙ run-read (h .machines) (join-run (pairs k) (tableOf l) (tableOf r) m x y)
+      ap jointOf bytes-joined ∙ run-read (h .machines) (join-run (pairing k) (tableOf l) (tableOf r) m x y)
 
 -- the splittings of a log, as runs
-module _ (k : ℕ) (l r s : List ℕ) where
+module _ (k : Labels) (l r s : List ℕ) where
   abbrev pub nth : ℕ → Run ℕ × Run ℕ
   nth n = getD (splittingsOf k l r s) n (start 0, start 0)
 
   -- each joins to the log's run
   pub nth-joins : (n : ℕ) → n < length (splittingsOf k l r s)
-      → JoinOf (pairs k) (tableOf l) (tableOf r) (nth n .0) (nth n .1) (jointOf s)
+      → JoinOf (pairing k) (tableOf l) (tableOf r) (nth n .0) (nth n .1) (jointOf s)
   unfolding splittingsOf
   nth-joins n h =
-      splits-sound (pairs k) tested-ℕ tested-ℕ (tableOf l) (tableOf r) (jointOf s) (nth n)
+      splits-sound (pairing k) tested-ℕ tested-ℕ (tableOf l) (tableOf r) (jointOf s) (nth n)
       (element (start 0, start 0) (splittingsOf k l r s) n h)
 
   -- what joins to it is one of them
-  pub all-numbered : {x y : Run ℕ} → JoinOf (pairs k) (tableOf l) (tableOf r) x y (jointOf s)
+  pub all-numbered : {x y : Run ℕ} → JoinOf (pairing k) (tableOf l) (tableOf r) x y (jointOf s)
       → (n : ℕ) × (n < length (splittingsOf k l r s)) × (nth n ≡ (x, y))
   unfolding splittingsOf
   all-numbered (m, x, y) =
-      number-of (start 0, start 0) (splits-complete (pairs k) tested-ℕ tested-ℕ (tableOf l) (tableOf r) m x y)
+      number-of (start 0, start 0) (splits-complete (pairing k) tested-ℕ tested-ℕ (tableOf l) (tableOf r) m x y)
 
   -- none is listed twice
   pub numbered-once : SoundMachines k l r → (m n : ℕ) → m < length (splittingsOf k l r s)
       → n < length (splittingsOf k l r s) → nth m ≡ nth n → m ≡ n
   unfolding splittingsOf
   numbered-once t m n h i e = number-once (start 0, start 0)
-      (splits-distinct (pairs k) tested-ℕ tested-ℕ (tableOf l) (tableOf r) (moves-distinct (left-table t))
+      (splits-distinct (pairing k) tested-ℕ tested-ℕ (tableOf l) (tableOf r) (moves-distinct (left-table t))
       (moves-distinct (right-table t)) (jointOf s)) m n h i e
 
   -- their halves have a state, and two bytes for each step of the log
@@ -230,4 +230,4 @@ module _ (k : ℕ) (l r s : List ℕ) where
       → (length (leftHalf k l r s n) ≡ halfLength s) × (length (rightHalf k l r s n) ≡ halfLength s)
   unfolding leftHalf rightHalf halfLength
   nth-length n h =
-      let (u, v) = join-steps (pairs k) paired (nth-joins n h .0) in (rw (half-length, u), rw (half-length, v))
+      let (u, v) = join-steps (pairing k) paired (nth-joins n h .0) in (rw (half-length, u), rw (half-length, v))

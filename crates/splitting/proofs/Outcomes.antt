@@ -13,6 +13,7 @@ use Rattle.labels.specs.declared.refusal.Check.{Check}
 use Rattle.labels.specs.declared.refusal.Check.the-variants as check
 use Rattle.labels.specs.declared.refusal.Check.the-variants.{Sound}
 use Rattle.labels.proofs.Refusals.{both-sound, unrefused}
+use Rattle.labels.specs.declared.label.Labels.{Labels}
 use Rattle.splitting.specs.Splittings.{splittingsOf, checkLog, checkCount, checkNumber, checkSplit, leftHalf}
 use Rattle.splitting.specs.Splittings.{rightHalf, halfLength, counted, halved, splitOf, leftOutput, rightOutput}
 use Rattle.joining.specs.Joinings.{joinBytes, checkHalves, checkJoin, joined, joiningOf, joinOutput}
@@ -23,14 +24,14 @@ use Rattle.splitting.proofs.LogRuns.{nth-length}
 
 -- what a call of the split answers for the lent outputs x and y: the length of the halves a and b, with which the
 -- outputs then begin
-pub record SplitGives (k : ℕ) (l r s : List ℕ) (n : ℕ) (x y a b : List ℕ) : Type 0 where
+pub record SplitGives (k : Labels) (l r s : List ℕ) (n : ℕ) (x y a b : List ℕ) : Type 0 where
   pub answer : splitOf k l r s n (length x) (length y) ≡ splitting.Halves (length a)
   pub equal : length b ≡ length a
   pub left : leftOutput k l r s n x (length y) ≡ inFront a x
   pub right : rightOutput k l r s n (length x) y ≡ inFront b y
 
 -- what a call of the join answers for the lent output: the length of the log s, with which the output then begins
-pub record JoinGives (k : ℕ) (l r a b out s : List ℕ) : Type 0 where
+pub record JoinGives (k : Labels) (l r a b out s : List ℕ) : Type 0 where
   pub answer : joiningOf k l r a b (length out) ≡ joining.Joined (length s)
   pub output : joinOutput k l r a b out ≡ inFront s out
 
@@ -51,7 +52,7 @@ count-answered (check.Refused x) m n e = absurd (apart cc)
 same-front : (p q u v : List ℕ) → length p ≡ length q → p ++ u ≡ q ++ v → p ≡ q
 same-front p q u v h e = sym (take-at p u (length q) h) ∙ ap (take (length q)) e ∙ take-at q v (length q) refl
 
-module _ (k : ℕ) (l r s : List ℕ) (n : ℕ) where
+module _ (k : Labels) (l r s : List ℕ) (n : ℕ) where
   -- a call that no check refuses has a log and a number of one of its splittings
   pub split-checked : (x y : ℕ) → checkSplit k l r s n x y ≡ Sound
       → (checkLog k l r s ≡ Sound) × (n < length (splittingsOf k l r s))
@@ -99,7 +100,7 @@ module _ (k : ℕ) (l r s : List ℕ) (n : ℕ) where
         same-front _ b _ _ (v ∙ m ∙ sym (g .equal)) (rw e at (g .right)),
       )
 
-module _ (k : ℕ) (l r a b : List ℕ) where
+module _ (k : Labels) (l r a b : List ℕ) where
   join-checked : (room : ℕ) → checkJoin k l r a b room ≡ Sound → checkHalves k l r a b ≡ Sound
   unfolding checkJoin firstOf
   join-checked room e = both-sound (checkHalves k l r a b) _ e .0

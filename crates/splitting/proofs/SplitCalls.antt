@@ -9,12 +9,13 @@ use lib.Dec.{ltb}
 use borrow.Author.Tests.{lt-ltb, le-ltb, le-leb, lt-leb, ltb-false}
 use Rattle.hml.proofs.Tests.{apart}
 use Rattle.labels.specs.Refusals.{firstOf, refusedIf, inFront}
-use Rattle.labels.specs.Labels.{checkPairs}
+use Rattle.labels.specs.Labels.{checkLabels}
 use Rattle.labels.specs.declared.refusal.Refusal.{Refusal}
 use Rattle.labels.specs.declared.refusal.Refusal.the-variants.{TooManySplittings, NoSuchSplitting, OutputTooShort}
 use Rattle.labels.specs.declared.refusal.Check.{Check}
 use Rattle.labels.specs.declared.refusal.Check.the-variants.{Sound, Refused}
 use Rattle.labels.proofs.Refusals.{both-sound, unrefused}
+use Rattle.labels.specs.declared.label.Labels.{Labels}
 use Rattle.machines.specs.Joints.{checkTablesAndJoint}
 use Rattle.splitting.specs.Splittings.{splittingsOf, checkLog, splittingLimit, checkCount, checkNumber}
 use Rattle.splitting.specs.Splittings.{checkSplit, leftHalf, rightHalf, halfLength, counted, countOf, splitOf}
@@ -25,15 +26,15 @@ use Rattle.splitting.specs.declared.split.Splitting.the-variants as spli
 use Rattle.splitting.proofs.LogRuns.{sound-ready, half-room}
 use Rattle.splitting.proofs.Outcomes.{count-answered, split-checked}
 
-module _ (k : ℕ) (l r s : List ℕ) where
+module _ (k : Labels) (l r s : List ℕ) where
   -- the parts
-  pub pairs-refused : (x : Refusal) → checkPairs k ≡ Refused x → Refused x ≡ checkLog k l r s
+  pub labels-refused : (x : Refusal) → checkLabels k ≡ Refused x → Refused x ≡ checkLog k l r s
   unfolding checkLog firstOf
-  pairs-refused x e = rw e
+  labels-refused x e = rw e
 
-  pub pairs-sound : checkPairs k ≡ Sound → (c : Check) → c ≡ checkTablesAndJoint k l r s → c ≡ checkLog k l r s
+  pub labels-sound : checkLabels k ≡ Sound → (c : Check) → c ≡ checkTablesAndJoint k l r s → c ≡ checkLog k l r s
   unfolding checkLog checkTablesAndJoint firstOf
-  pairs-sound e c h = rw e h
+  labels-sound e c h = rw e h
 
   -- the count
   pub log-refused : (x : Refusal) → checkLog k l r s ≡ Refused x → count.Refused x ≡ countOf k l r s
@@ -110,7 +111,7 @@ module _ (k : ℕ) (l r s : List ℕ) where
               )
 
 -- what the checks of a split let through
-module _ (k : ℕ) (l r s : List ℕ) (i a b : ℕ) (e : checkSplit k l r s i a b ≡ Sound) where
+module _ (k : Labels) (l r s : List ℕ) (i a b : ℕ) (e : checkSplit k l r s i a b ≡ Sound) where
   pub split-log : Log k l r s
   split-log = sound-ready k l r s (split-checked k l r s i a b e .0)
 
@@ -130,7 +131,7 @@ module _ (k : ℕ) (l r s : List ℕ) (i a b : ℕ) (e : checkSplit k l r s i a 
       neither false b e = (refl, e)
 
 -- the answer and the outputs of a split
-module _ (k : ℕ) (l r s : List ℕ) (i : ℕ) (x y : List ℕ) where
+module _ (k : Labels) (l r s : List ℕ) (i : ℕ) (x y : List ℕ) where
   pub split-refused : (z : Refusal) → checkSplit k l r s i (length x) (length y) ≡ Refused z
       → (splitting.Refused z ≡ splitOf k l r s i (length x) (length y))
       × ((x ≡ leftOutput k l r s i x (length y)) × (y ≡ rightOutput k l r s i (length x) y))

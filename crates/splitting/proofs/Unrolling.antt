@@ -10,13 +10,14 @@ use Rattle.hml.proofs.Lists.{each-append}
 use Rattle.hml.specs.System.{Run, start, _▸_, first, last, move, idle}
 use Rattle.hml.specs.Compose.{paired}
 use Rattle.hml.proofs.Composition.{last-join}
-use Rattle.hml.specs.Labels.{pairs}
+use Rattle.labels.specs.Labels.{pairing}
 use Rattle.hml.specs.Split.{grown, splits}
 use Rattle.hml.proofs.Splits.{splits-sound}
 use Rattle.hml.proofs.Indexed.{element}
 use Rattle.hml.proofs.Numbered.{splits-at}
 use Rattle.hml.specs.System as theory
 use Rattle.labels.specs.Refusals.{inFront}
+use Rattle.labels.specs.declared.label.Labels.{Labels}
 use Rattle.tables.specs.Tables.{tableOf}
 use Rattle.halves.specs.Runs.{written}
 use Rattle.halves.specs.Halves.{halfBytes}
@@ -62,7 +63,8 @@ step-meant (move a q) = refl
 step-meant idle = refl
 
 -- the way of a step that a number says, written into both halves
-module _ (k : ℕ) (l r : List ℕ) (st : JointStep) (n : ℕ) (ways : List Steps) (e : ways ≡ optionsOf k l r st) (w : ℕ)
+module _ (k : Labels) (l r : List ℕ) (st : JointStep) (n : ℕ) (ways : List Steps) (e : ways ≡ optionsOf k l r st)
+    (w : ℕ)
     (f : w ≡ length ways) where
   pub ways-some : 0 < length (optionsOf k l r st) → 0 < w
   ways-some h = omega (arith, f, ap length e, h)
@@ -127,7 +129,7 @@ first-put : (xs : List ℕ) (p : ℕ) → 1 ≤ length xs → set xs 0 p ≡ p �
 first-put [] p h = absurd (omega arith)
 first-put (x ∷ xs) p h = refl
 
-module _ (k : ℕ) (l r s : List ℕ) where
+module _ (k : Labels) (l r s : List ℕ) where
   -- the way of step i in splitting n of the steps up to it
   abbrev wayAt : ℕ → ℕ → Steps
   wayAt i n = wayOf k l r (jointStepAt s i) n
@@ -144,7 +146,7 @@ module _ (k : ℕ) (l r s : List ℕ) where
     pub left : halfBytes (nthUpTo i n .0) ++ drop (2 * i + 1) x ≡ inFront (leftHalf k l r s number) x₀
     pub right : halfBytes (nthUpTo i n .1) ++ drop (2 * i + 1) y ≡ inFront (rightHalf k l r s number) y₀
 
-module _ {k : ℕ} {l r s : List ℕ} (g : Log k l r s) where
+module _ {k : Labels} {l r s : List ℕ} (g : Log k l r s) where
   pub unrolled-start : (number : ℕ) (x y : List ℕ) → number < length (splittingsOf k l r s)
       → Unrolled k l r s number x y (length s / 3) number x y
   unfolding splittingsOf inFront leftHalf rightHalf
@@ -179,7 +181,7 @@ module _ {k : ℕ} {l r s : List ℕ} (g : Log k l r s) where
     unfolding wayOf optionsOf jointStepAt
     unrolled-step =
         let e = states-before g i h in
-        rw (one-step g i h, ← e) (splits-at (pairs k) tested-ℕ tested-ℕ (tableOf l) (tableOf r) (upTo k l r s i) _ n
+        rw (one-step g i h, ← e) (splits-at (pairing k) tested-ℕ tested-ℕ (tableOf l) (tableOf r) (upTo k l r s i) _ n
         (start 0, start 0) (start 0, start 0) (idle, idle)
         (rw e some-way) (rw (one-step g i h) at b))
 
@@ -187,10 +189,10 @@ module _ {k : ℕ} {l r s : List ℕ} (g : Log k l r s) where
     ends-before : (last (nthUpTo k l r s i (n / waysOf) .0) ≡ getD s (3 * i) 0)
         × (last (nthUpTo k l r s i (n / waysOf) .1) ≡ getD s (3 * i + 1) 0)
     ends-before =
-        let (j, _, _) = splits-sound (pairs k) tested-ℕ tested-ℕ (tableOf l) (tableOf r) (upTo k l r s i)
+        let (j, _, _) = splits-sound (pairing k) tested-ℕ tested-ℕ (tableOf l) (tableOf r) (upTo k l r s i)
         (nthUpTo k l r s i (n / waysOf))
         (element (start 0, start 0) (splitsUpTo k l r s i) (n / waysOf) before-below) in
-        let e = sym (last-join (pairs k) paired j) ∙ states-before g i h in
+        let e = sym (last-join (pairing k) paired j) ∙ states-before g i h in
         (ap (λ z. z .0) e, ap (λ z. z .1) e)
 
   -- the loop: j steps are still to be written, and i is the last of them

@@ -11,13 +11,14 @@ use Rattle.labels.specs.declared.refusal.Check.{Check}
 use Rattle.labels.specs.declared.refusal.Check.the-variants.{Sound, Refused}
 use Rattle.labels.proofs.Refusals.{both-sound, unrefused}
 use Rattle.labels.proofs.Answers.{Within, none, next}
+use Rattle.labels.specs.declared.label.Labels.{Labels}
 use Rattle.splitting.specs.Splittings.{splittingsOf, splittingLimit, checkLog, checkCount, counted, countOf}
 use Rattle.splitting.specs.Splittings.{countAnswer}
 use Rattle.splitting.specs.Splittings.{halfLength, checkSplit, halved, splitOf, splitAnswer}
 use Rattle.splitting.proofs.LogRuns.{sound-log}
 use Rattle.splitting.proofs.Outcomes.{split-checked}
 
-module _ (k : ℕ) (l r s : List ℕ) where
+module _ (k : Labels) (l r s : List ℕ) where
   -- a count that is not refused is at most the limit
   pub count-most : checkCount k l r s ≡ Sound → length (splittingsOf k l r s) ≤ splittingLimit
   unfolding checkCount firstOf

@@ -4,7 +4,8 @@ use mathlib.Core.List.{List}
 use lib.ListN.{length, set}
 use Rattle.hml.specs.System.{move, idle}
 use Rattle.hml.specs.Split.{options}
-use Rattle.hml.specs.Labels.{pairs}
+use Rattle.labels.specs.Labels.{pairing}
+use Rattle.labels.specs.declared.label.Labels.{Labels}
 use Rattle.hml.specs.Lists.{same}
 use Rattle.hml.specs.System as theory
 use Rattle.tables.specs.Tables.{tableOf}
@@ -16,18 +17,18 @@ use Rattle.ways.specs.Working.{Steps, chosen}
 use Rattle.machines.specs.declared.step.JointStep.{JointStep}
 
 -- two tables and a joint run of them that no check refuses
-pub record Log (k : ℕ) (l r s : List ℕ) : Type 0 where
+pub record Log (k : Labels) (l r s : List ℕ) : Type 0 where
   pub tables : Tables k l r
   pub run : AcceptedJoint k l r s
   pub held : Held s (length s)
 
 -- the splittings of a step, from the states before it
-unfoldable pub optionsOf : ℕ → List ℕ → List ℕ → JointStep → List Steps
-optionsOf k l r s = options (pairs k) same same (tableOf l) (tableOf r) (s .before .left, s .before .right)
+unfoldable pub optionsOf : Labels → List ℕ → List ℕ → JointStep → List Steps
+optionsOf k l r s = options (pairing k) same same (tableOf l) (tableOf r) (s .before .left, s .before .right)
     (stepOf (s .label .0) (s .after .left, s .after .right))
 
 -- the way of a step in splitting n of the steps up to it
-unfoldable pub wayOf : ℕ → List ℕ → List ℕ → JointStep → ℕ → Steps
+unfoldable pub wayOf : Labels → List ℕ → List ℕ → JointStep → ℕ → Steps
 wayOf k l r s n = chosen (optionsOf k l r s) (n % length (optionsOf k l r s))
 
 -- a step of the program as the theory has it

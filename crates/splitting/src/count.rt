@@ -1,6 +1,5 @@
 // How many splittings a joint run has.
 use labels::label::Labels;
-use labels::label::check_pairs;
 use labels::refusal::Check;
 use labels::refusal::Refusal;
 use machines::joint::check_joint;
@@ -23,10 +22,9 @@ pub enum Counted {
 }
 
 // How many splittings a joint run has: the parts' numbers, then 13.
-pub fn count(k: u8, left: &[u8], right: &[u8], run: &[u8]) -> Counted
-    ensures { λ r. ⌜ r ≡ countOf k (now (left .entry)) (now (right .entry)) (now (run .entry)) ⌝ }
+pub fn count(labels: Labels, left: &[u8], right: &[u8], run: &[u8]) -> Counted
+    ensures { λ r. ⌜ r ≡ countOf labels (now (left .entry)) (now (right .entry)) (now (run .entry)) ⌝ }
 {
-    let labels = Labels { pairs: k };
     match check_log(labels, left, right, run) {
         Check::Sound => {}
         Check::Refused(refusal) => return Counted::Refused(refusal),
@@ -40,9 +38,9 @@ pub fn count(k: u8, left: &[u8], right: &[u8], run: &[u8]) -> Counted
 
 // The check of a log: the parts' numbers, in record order.
 pub fn check_log(labels: Labels, left: &[u8], right: &[u8], run: &[u8]) -> Check
-    ensures { λ r. ⌜ r ≡ checkLog (labels .pairs) (now (left .entry)) (now (right .entry)) (now (run .entry)) ⌝ }
+    ensures { λ r. ⌜ r ≡ checkLog labels (now (left .entry)) (now (right .entry)) (now (run .entry)) ⌝ }
 {
-    match check_pairs(labels.pairs) {
+    match labels.check() {
         Check::Sound => check_joint(labels, left, right, run),
         Check::Refused(refusal) => Check::Refused(refusal),
     }
@@ -50,8 +48,8 @@ pub fn check_log(labels: Labels, left: &[u8], right: &[u8], run: &[u8]) -> Check
 
 // The product of the steps' ways, which stays at 65,536 once it is there.
 fn count_splittings(labels: Labels, left: &[u8], right: &[u8], run: &[u8]) -> usize
-    requires { ⌜ Log (labels .pairs) (now left) (now right) (now run) ⌝ }
-    ensures { λ r. ⌜ r ≡ min (length (splittingsOf (labels .pairs) (now (left .entry)) (now (right .entry))
+    requires { ⌜ Log labels (now left) (now right) (now run) ⌝ }
+    ensures { λ r. ⌜ r ≡ min (length (splittingsOf labels (now (left .entry)) (now (right .entry))
         (now (run .entry)))) 65536 ⌝ }
 {
     let mut splittings: usize = 1;
@@ -79,8 +77,8 @@ fn capped(n: usize) -> usize
 
 // How many ways a step has.
 fn ways_of(labels: Labels, left: &[u8], right: &[u8], step: JointStep) -> usize
-    requires { ⌜ Tables (labels .pairs) (now left) (now right) ⌝ }
-    ensures exact { λ r. ⌜ r ≡ length (optionsOf (labels .pairs) (now (left .entry)) (now (right .entry)) step) ⌝ }
+    requires { ⌜ Tables labels (now left) (now right) ⌝ }
+    ensures exact { λ r. ⌜ r ≡ length (optionsOf labels (now (left .entry)) (now (right .entry)) step) ⌝ }
     ensures few { λ r. ⌜ r ≤ 10 ⌝ }
 {
     let before = step.before;

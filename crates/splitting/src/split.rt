@@ -37,7 +37,7 @@ pub enum Splitting {
 
 // Writes the halves of the splitting of a number: as in the count, then 14, then 18.
 pub fn split(
-    k: u8,
+    labels: Labels,
     left: &[u8],
     right: &[u8],
     run: &[u8],
@@ -45,20 +45,21 @@ pub fn split(
     left_out: &mut [u8],
     right_out: &mut [u8],
 ) -> Splitting
-    ensures { λ r. ⌜ r ≡ splitOf k (now (left .entry)) (now (right .entry)) (now (run .entry)) number
+    ensures { λ r. ⌜ r ≡ splitOf labels (now (left .entry)) (now (right .entry)) (now (run .entry)) number
         (length (now («left_out» .entry))) (length (now («right_out» .entry))) ⌝ }
-    ensures { λ r. ⌜ now («left_out» .exit) ≡ leftOutput k (now (left .entry)) (now (right .entry)) (now (run .entry))
+    ensures { λ r. ⌜ now («left_out» .exit) ≡ leftOutput labels (now (left .entry)) (now (right .entry))
+        (now (run .entry))
         number (now («left_out» .entry)) (length (now («right_out» .entry))) ⌝ }
-    ensures { λ r. ⌜ now («right_out» .exit) ≡ rightOutput k (now (left .entry)) (now (right .entry)) (now (run .entry))
+    ensures { λ r. ⌜ now («right_out» .exit) ≡ rightOutput labels (now (left .entry)) (now (right .entry))
+        (now (run .entry))
         number (length (now («left_out» .entry))) (now («right_out» .entry)) ⌝ }
 {
     let left_room = left_out.len();
     let right_room = right_out.len();
-    match check_split(k, left, right, run, number, left_room, right_room) {
+    match check_split(labels, left, right, run, number, left_room, right_room) {
         Check::Sound => {}
         Check::Refused(refusal) => return Splitting::Refused(refusal),
     }
-    let labels = Labels { pairs: k };
     write_halves(labels, left, right, run, number, left_out, right_out);
     let steps = run.len() / 3;
     Splitting::Halves(2 * steps + 1)
@@ -66,7 +67,7 @@ pub fn split(
 
 // What a call judges that names a splitting by its number, and lends so much room for each half.
 fn check_split(
-    k: u8,
+    labels: Labels,
     left: &[u8],
     right: &[u8],
     run: &[u8],
@@ -74,10 +75,10 @@ fn check_split(
     left_room: usize,
     right_room: usize,
 ) -> Check
-    ensures { λ r. ⌜ r ≡ checkSplit k (now (left .entry)) (now (right .entry)) (now (run .entry)) number
+    ensures { λ r. ⌜ r ≡ checkSplit labels (now (left .entry)) (now (right .entry)) (now (run .entry)) number
         «left_room» «right_room» ⌝ }
 {
-    match count(k, left, right, run) {
+    match count(labels, left, right, run) {
         Counted::Splittings(splittings) => {
             if splittings <= number {
                 return Check::Refused(Refusal::NoSuchSplitting);
@@ -107,13 +108,13 @@ fn write_halves(
     left_out: &mut [u8],
     right_out: &mut [u8],
 )
-    requires { ⌜ Log (labels .pairs) (now left) (now right) (now run) ⌝ }
-    requires { ⌜ number < length (splittingsOf (labels .pairs) (now left) (now right) (now run)) ⌝ }
+    requires { ⌜ Log labels (now left) (now right) (now run) ⌝ }
+    requires { ⌜ number < length (splittingsOf labels (now left) (now right) (now run)) ⌝ }
     requires { ⌜ (halfLength (now run) ≤ length (now «left_out»))
         × (halfLength (now run) ≤ length (now «right_out»)) ⌝ }
-    ensures { λ r. ⌜ now («left_out» .exit) ≡ inFront (leftHalf (labels .pairs) (now (left .entry)) (now (right .entry))
+    ensures { λ r. ⌜ now («left_out» .exit) ≡ inFront (leftHalf labels (now (left .entry)) (now (right .entry))
         (now (run .entry)) number) (now («left_out» .entry)) ⌝ }
-    ensures { λ r. ⌜ now («right_out» .exit) ≡ inFront (rightHalf (labels .pairs) (now (left .entry))
+    ensures { λ r. ⌜ now («right_out» .exit) ≡ inFront (rightHalf labels (now (left .entry))
         (now (right .entry)) (now (run .entry)) number) (now («right_out» .entry)) ⌝ }
 {
     let mut n = number;
@@ -143,14 +144,14 @@ fn put_way(
     left_out: &mut [u8],
     right_out: &mut [u8],
 ) -> usize
-    requires { ⌜ Tables (labels .pairs) (now left) (now right) ⌝ }
-    requires { ⌜ 0 < length (optionsOf (labels .pairs) (now left) (now right) step) ⌝ }
+    requires { ⌜ Tables labels (now left) (now right) ⌝ }
+    requires { ⌜ 0 < length (optionsOf labels (now left) (now right) step) ⌝ }
     requires { ⌜ (2 * i + 2 < length (now «left_out»)) × (2 * i + 2 < length (now «right_out»)) ⌝ }
-    ensures { λ r. ⌜ r ≡ n / length (optionsOf (labels .pairs) (now (left .entry)) (now (right .entry)) step) ⌝ }
+    ensures { λ r. ⌜ r ≡ n / length (optionsOf labels (now (left .entry)) (now (right .entry)) step) ⌝ }
     ensures { λ r. ⌜ now («left_out» .exit) ≡ putStep (now («left_out» .entry)) i (step .before .left)
-        (wayOf (labels .pairs) (now (left .entry)) (now (right .entry)) step n .0) ⌝ }
+        (wayOf labels (now (left .entry)) (now (right .entry)) step n .0) ⌝ }
     ensures { λ r. ⌜ now («right_out» .exit) ≡ putStep (now («right_out» .entry)) i (step .before .right)
-        (wayOf (labels .pairs) (now (left .entry)) (now (right .entry)) step n .1) ⌝ }
+        (wayOf labels (now (left .entry)) (now (right .entry)) step n .1) ⌝ }
 {
     let before = step.before;
     let left_rows = rows_leaving(left, before.left);

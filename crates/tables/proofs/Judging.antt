@@ -11,7 +11,8 @@ use lib.Dec.{leb, ltb}
 use borrow.Author.Tests.{eq-eqb, ne-eqb, lt-ltb, le-ltb, le-leb, lt-leb}
 use Rattle.hml.proofs.Tests.{apart}
 use Rattle.hml.specs.Machine.{Row}
-use Rattle.hml.specs.Labels.{count, positive}
+use Rattle.hml.specs.Labels.{positive}
+use Rattle.labels.specs.Labels.{count}
 use Rattle.labels.specs.Refusals.{firstOf, thenOf, refusedIf}
 use Rattle.tables.specs.Tables.{inRange, rowBelow, aboveLast, leaving, checkRow, checkRows, checkTable, fitTable}
 use Rattle.tables.specs.Tables.{fitStates, statesOf, rowsOf, rowRead, rowStruct}
@@ -22,11 +23,12 @@ use Rattle.labels.specs.declared.refusal.Check.{Check}
 use Rattle.labels.specs.declared.refusal.Check.the-variants as check
 use Rattle.labels.specs.declared.refusal.Refusal.{Refusal}
 use Rattle.labels.specs.declared.refusal.Refusal.the-variants.{WrongLength, OutOfRange, RowNotAbove, NinthRow}
+use Rattle.labels.specs.declared.label.Labels.{Labels}
 use Rattle.tables.specs.declared.row.Row as declared-row
 use Rattle.tables.specs.declared.row.RowRead.the-variants as read
 use Rattle.tables.specs.declared.check.Judged.the-variants as judged-as
 
-module _ (k n : ℕ) (r : Row) where
+module _ (k : Labels) (n : ℕ) (r : Row) where
   pub from-out : n ≤ r .0 → false ≡ inRange k n r
   unfolding inRange
   from-out h = rw (le-ltb _ _ h)
@@ -78,7 +80,7 @@ above-from : (f g : ℕ) → f ≤ g → (f ≡ g → ⊥) → f < g
 above-from f g h n = omega (arith, h, n)
 
 -- a row after those before it: which case of `checkRow` holds, and how many rows up to it leave its state
-module _ (k n : ℕ) (t : List ℕ) (i : ℕ) where
+module _ (k : Labels) (n : ℕ) (t : List ℕ) (i : ℕ) where
   pub out-judged : inRange k n (rowOf t i) ≡ false → judged-as.Refused OutOfRange ≡ judged k n t i
   unfolding judged judgedBy checkRow firstOf
   out-judged e = rw e
@@ -119,7 +121,7 @@ module _ (k n : ℕ) (t : List ℕ) (i : ℕ) where
 
 -- what the code's tests on rows say of the table's rows
 module _ {x y : declared-row.Row} (r s : Row) (p : x ≡ rowStruct r) (q : y ≡ rowStruct s) where
-  pub seen-range : (k n : ℕ) {b c : Bool} → b ≡ inRange k n (tripleOf x) → b ≡ c → inRange k n r ≡ c
+  pub seen-range : (k : Labels) (n : ℕ) {b c : Bool} → b ≡ inRange k n (tripleOf x) → b ≡ c → inRange k n r ≡ c
   seen-range k n e h = sym (e ∙ ap (λ z. inRange k n (tripleOf z)) p) ∙ h
 
   pub seen-below : {b c : Bool} → b ≡ rowBelow (tripleOf x) (tripleOf y) → b ≡ c → rowBelow r s ≡ c
@@ -149,7 +151,8 @@ none-above t zero e c p r h a = refl
 none-above t (suc i) e c p r h a = c .1 p (omega (arith, below-from (rowOf t i) r a))
 
 -- a sound row is above the last of those before it
-sound-above : (k n : ℕ) (before : List Row) (r : Row) → checkRow k n before r ≡ check.Sound → aboveLast before r ≡ true
+sound-above : (k : Labels) (n : ℕ) (before : List Row) (r : Row) → checkRow k n before r ≡ check.Sound
+    → aboveLast before r ≡ true
 unfolding checkRow firstOf
 sound-above k n before r e = go (inRange k n r) (aboveLast before r) (leb 8 (leaving (r .0) before)) e
   where
@@ -173,12 +176,12 @@ judged-refused check.Sound r n e = absurd (apart cc)
 judged-refused (check.Refused x) r n e = cc
 
 -- the rows before row i are sound, and those from it on decide
-pub record Going (k n : ℕ) (t : List ℕ) (i e : ℕ) : Type 0 where
+pub record Going (k : Labels) (n : ℕ) (t : List ℕ) (i e : ℕ) : Type 0 where
   pub within : i ≤ length (rowsOf t)
   pub counted : Counted t i e
   pub decides : checkRows k n (upTo t i) (drop i (rowsOf t)) ≡ checkRows k n [] (rowsOf t)
 
-module _ (k n : ℕ) (t : List ℕ) where
+module _ (k : Labels) (n : ℕ) (t : List ℕ) where
   pub going-start : Going k n t 0 0
   unfolding upTo
   going-start = record { within = omega arith; counted = tt; decides = refl }
@@ -220,7 +223,7 @@ module _ (k n : ℕ) (t : List ℕ) where
           })
 
 -- a table: which case of `checkTable` holds
-module _ (k : ℕ) (t : List ℕ) where
+module _ (k : Labels) (t : List ℕ) where
   pub misfit-table : (length t % 3 ≡ 1 → ⊥) → check.Refused WrongLength ≡ checkTable k t
   unfolding checkTable firstOf fitTable
   misfit-table n = rw (ne-eqb _ _ n)

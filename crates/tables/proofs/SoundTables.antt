@@ -17,20 +17,22 @@ use Rattle.hml.proofs.Tests.{Decides, decides, decided-lt, decided-le, decided-
 use Rattle.hml.proofs.Tests.{decided-or, decided-same, same-refl}
 use Rattle.hml.proofs.Lists.{∈-only, each-∈}
 use Rattle.hml.specs.Machine.{Row, machine}
-use Rattle.hml.specs.Labels.{count}
+use Rattle.labels.specs.Labels.{count}
+use Rattle.labels.proofs.Labels.{count-most}
 use Rattle.hml.proofs.Distinct.{Distinct, distinct-only, distinct-each}
 use Rattle.labels.specs.Refusals.{firstOf}
 use Rattle.labels.specs.declared.refusal.Refusal.the-variants.{WrongLength, OutOfRange, RowNotAbove, NinthRow}
 use Rattle.labels.specs.declared.refusal.Check.the-variants.{Sound}
+use Rattle.labels.specs.declared.label.Labels.{Labels}
 use Rattle.tables.specs.Tables.{statesOf, rowsOf, tableOf, fitTable, fitStates, inRange, rowBelow, aboveLast}
 use Rattle.tables.specs.Tables.{leaving, checkRow, checkRows, checkTable, Rising, none, one, more, SoundTable}
 use Rattle.tables.specs.Working.{Ready}
 
 -- a row in range
-abbrev pub Ranged : ℕ → ℕ → Row → Type 0
+abbrev pub Ranged : Labels → ℕ → Row → Type 0
 Ranged k n r = (r .0 < n) × (r .1 ≤ count k) × (r .2 < n)
 
-decided-ranged : (k n : ℕ) (r : Row) → Decides (Ranged k n r) (inRange k n r)
+decided-ranged : (k : Labels) (n : ℕ) (r : Row) → Decides (Ranged k n r) (inRange k n r)
 unfolding inRange
 decided-ranged k n r = decided-iff (λ t. (t .0, t .1 .0, t .1 .1)) (λ t. (t .0, (t .1, t .2)))
     (decided-and (decided-lt (r .0) n) (decided-and (decided-le (r .1) (count k)) (decided-lt (r .2) n)))
@@ -109,16 +111,16 @@ rows-distinct (more {r = r} e t) = Distinct.some (λ i. never-under r (head-unde
 
 -- rows that fit after those before them, the newest first: in range, each above the one before, at most 8 from a state
 -- with those before
-record Fit (k n : ℕ) (before rows : List Row) : Type 0 where
+record Fit (k : Labels) (n : ℕ) (before rows : List Row) : Type 0 where
   ranged : (r : Row) → r ∈ rows → Ranged k n r
   rising : Follows before rows
   eight : (p : ℕ) → leaving p rows ≤ 8 - leaving p before
 
 -- what the check of a row says
-RowFit : ℕ → ℕ → List Row → Row → Type 0
+RowFit : Labels → ℕ → List Row → Row → Type 0
 RowFit k n before r = Ranged k n r × (aboveLast before r ≡ true) × ¬ (8 ≤ leaving (r .0) before)
 
-judged-row : (k n : ℕ) (before : List Row) (r : Row) → Judges (RowFit k n before r) (checkRow k n before r)
+judged-row : (k : Labels) (n : ℕ) (before : List Row) (r : Row) → Judges (RowFit k n before r) (checkRow k n before r)
 unfolding checkRow firstOf inRange RowFit
 judged-row k n before r = judged-iff (λ t. (t .0, t .1 .0, t .1 .1 .0)) (λ t. (t .0, (t .1, (t .2, tt))))
     (judged-then (judged-unless OutOfRange (decided-ranged k n r))
@@ -156,7 +158,7 @@ eight-more before r rows =
     both false p e n h = omega arith
 
 -- row by row, the check judges whether the rows fit those before
-judged-rows : (k n : ℕ) (before rows : List Row) → Judges (Fit k n before rows) (checkRows k n before rows)
+judged-rows : (k : Labels) (n : ℕ) (before rows : List Row) → Judges (Fit k n before rows) (checkRows k n before rows)
 unfolding checkRows leaving RowFit
 judged-rows k n before [] =
     accepts (record { ranged = λ r i. absurd (nowhere i); rising = follows-none before; eight = λ p. omega arith })
@@ -179,7 +181,7 @@ judged-rows k n before (r ∷ rows) =
         )
 
 -- the check of a table judges whether it is sound
-pub judged-table : (k : ℕ) (t : List ℕ) → Judges (SoundTable k t) (checkTable k t)
+pub judged-table : (k : Labels) (t : List ℕ) → Judges (SoundTable k t) (checkTable k t)
 unfolding checkTable firstOf fitTable fitStates leaving
 judged-table k t = judged-iff
     (λ (a, b). let c = b .1 .0 in
@@ -203,7 +205,7 @@ judged-table k t = judged-iff
     (judged-then (judged-rows k (statesOf t) [] (rowsOf t)) (accepts (tt {0})))))
 
 -- an accepted table is as document 01 says
-pub sound-table : (k : ℕ) (t : List ℕ) → checkTable k t ≡ Sound → SoundTable k t
+pub sound-table : (k : Labels) (t : List ℕ) → checkTable k t ≡ Sound → SoundTable k t
 sound-table k t = judges (judged-table k t) .0
 
 -- what a row must be for a move from p to come from it
@@ -235,7 +237,7 @@ machine-distinct d p =
     distinct-each _ (λ r. distinct-only (same (r .0) p) (r .1, r .2))
     (λ r s z i k. sym (only-row r p i) ∙ only-row s p k) d
 
-module _ {k : ℕ} {t : List ℕ} (s : SoundTable k t) where
+module _ {k : Labels} {t : List ℕ} (s : SoundTable k t) where
   -- a move's states and label are in range
   pub move-ranged : (p a q : ℕ) → (a, q) ∈ tableOf t p → (p < statesOf t) × (a ≤ count k) × (q < statesOf t)
   unfolding tableOf
@@ -243,8 +245,7 @@ module _ {k : ℕ} {t : List ℕ} (s : SoundTable k t) where
 
   -- no move has the label that marks an idle
   pub no-idle-label : (p a q : ℕ) → (a, q) ∈ tableOf t p → a ≡ 255 → ⊥
-  unfolding count
-  no-idle-label p a q i e = omega (arith, move-ranged p a q i)
+  no-idle-label p a q i e = omega (arith, move-ranged p a q i, count-most k)
 
   -- no move is listed twice
   pub moves-distinct : (p : ℕ) → Distinct (tableOf t p)
@@ -257,5 +258,5 @@ module _ {k : ℕ} {t : List ℕ} (s : SoundTable k t) where
   moves-few p = omega (arith, moves-length p (rowsOf t), s .eight p)
 
 -- a sound table is all that functions that search it ask for
-pub ready : (k : ℕ) (t : List ℕ) → checkTable k t ≡ Sound → Ready t
+pub ready : (k : Labels) (t : List ℕ) → checkTable k t ≡ Sound → Ready t
 ready k t e = let s = sound-table k t e in record { some = omega (arith, s .fits .0); rising = s .rising }

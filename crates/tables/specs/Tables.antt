@@ -9,11 +9,12 @@ use lib.Dec.{eqb, leb, ltb}
 use Rattle.hml.specs.Lists.{same, _∈_, any, each, only}
 use Rattle.hml.specs.System.{System}
 use Rattle.hml.specs.Machine.{Row, machine}
-use Rattle.hml.specs.Labels.{count}
+use Rattle.labels.specs.Labels.{count}
 use Rattle.labels.specs.Refusals.{refusedIf, thenOf, firstOf}
 use Rattle.labels.specs.declared.refusal.Check.{Check}
 use Rattle.labels.specs.declared.refusal.Check.the-variants.{Sound}
 use Rattle.labels.specs.declared.refusal.Refusal.the-variants.{WrongLength, OutOfRange, RowNotAbove, NinthRow}
+use Rattle.labels.specs.declared.label.Labels.{Labels}
 use Rattle.tables.specs.declared.row.Row as declared-row
 use Rattle.tables.specs.declared.row.RowRead.{RowRead}
 use Rattle.tables.specs.declared.row.RowRead.the-variants as read
@@ -68,7 +69,7 @@ unfoldable pub fitStates : ℕ → Bool
 fitStates n = leb 1 n && leb n 64
 
 -- 5: a row holds a state or label out of range
-unfoldable pub inRange : ℕ → ℕ → Row → Bool
+unfoldable pub inRange : Labels → ℕ → Row → Bool
 inRange k n r = ltb (r .0) n && (leb (r .1) (count k) && ltb (r .2) n)
 
 -- rows are compared by from, then label, then to
@@ -87,7 +88,7 @@ leaving p [] = 0
 leaving p (r ∷ rows) = cond (eqb (r .0) p) 1 0 + leaving p rows
 
 -- one row after those before it: 5, then 6, then 7
-unfoldable pub checkRow : ℕ → ℕ → List Row → Row → Check
+unfoldable pub checkRow : Labels → ℕ → List Row → Row → Check
 checkRow k n before r = firstOf
     (refusedIf (not (inRange k n r)) OutOfRange
     ∷ refusedIf (not (aboveLast before r)) RowNotAbove
@@ -95,12 +96,12 @@ checkRow k n before r = firstOf
     ∷ [])
 
 -- row by row: the first bad row decides
-unfoldable pub checkRows : ℕ → ℕ → List Row → List Row → Check
+unfoldable pub checkRows : Labels → ℕ → List Row → List Row → Check
 checkRows k n before [] = Sound
 checkRows k n before (r ∷ rows) = thenOf (checkRow k n before r) (checkRows k n (r ∷ before) rows)
 
--- the check of a table, for labels of k pairs
-unfoldable pub checkTable : ℕ → List ℕ → Check
+-- the check of a table, for the labels of a call
+unfoldable pub checkTable : Labels → List ℕ → Check
 checkTable k t = firstOf
     (refusedIf (not (fitTable t)) WrongLength
     ∷ refusedIf (not (fitStates (statesOf t))) OutOfRange
@@ -129,7 +130,7 @@ pub record Together (rows : List Row) (p : ℕ) (bytes : List ℕ) : Type 0 wher
 
 -- a table as document 01 says: n, then rows of three bytes; 1 to 64 states; rows in range, each above the one before,
 -- at most 8 from a state
-pub record SoundTable (k : ℕ) (t : List ℕ) : Type 0 where
+pub record SoundTable (k : Labels) (t : List ℕ) : Type 0 where
   pub fits : (length t % 3 ≡ 1) × (length t ≤ 1537)
   pub some : 1 ≤ statesOf t
   pub few-states : statesOf t ≤ 64

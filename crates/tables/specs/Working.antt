@@ -12,6 +12,7 @@ use Rattle.tables.specs.declared.check.Judged.{Judged}
 use Rattle.tables.specs.declared.check.Judged.the-variants as judged-as
 use Rattle.labels.specs.declared.refusal.Check.{Check}
 use Rattle.labels.specs.declared.refusal.Check.the-variants as check
+use Rattle.labels.specs.declared.label.Labels.{Labels}
 
 -- row i of a table's bytes
 abbrev pub rowOf : List ℕ → ℕ → Row
@@ -39,7 +40,7 @@ unfoldable pub judgedBy : Check → ℕ → Judged
 judgedBy check.Sound n = judged-as.Leaving n
 judgedBy (check.Refused r) n = judged-as.Refused r
 
-unfoldable pub judged : ℕ → ℕ → List ℕ → ℕ → Judged
+unfoldable pub judged : Labels → ℕ → List ℕ → ℕ → Judged
 judged k n t i = judgedBy (checkRow k n (upTo t i) (rowOf t i)) (1 + leaving (rowOf t i .0) (upTo t i))
 
 -- e of the rows before row i leave the state that the last of them leaves, and none leaves a state above it

@@ -14,7 +14,7 @@ ghost use Rattle.tables.specs.Working.{tripleOf, judged, Counted};
 
 // 5: are the row's states and label in range?
 fn in_range(labels: Labels, states: u8, row: Row) -> bool
-    ensures { λ r. ⌜ r ≡ inRange (labels .pairs) states (tripleOf row) ⌝ }
+    ensures { λ r. ⌜ r ≡ inRange labels states (tripleOf row) ⌝ }
 {
     if states <= row.from {
         return false;
@@ -49,7 +49,7 @@ enum Judged {
 // Row i after the rows before it, of which `earlier` leave the state that the last of them leaves: 5, then 6, then 7.
 fn check_row(labels: Labels, states: u8, table: &[u8], i: usize, earlier: usize) -> Judged
     requires { ⌜ (i < length (rowsOf (now table))) × Counted (now table) i earlier ⌝ }
-    ensures { λ r. ⌜ r ≡ judged (labels .pairs) states (now (table .entry)) i ⌝ }
+    ensures { λ r. ⌜ r ≡ judged labels states (now (table .entry)) i ⌝ }
 {
     let row = row_of(table, i);
     if !in_range(labels, states, row) {
@@ -73,7 +73,7 @@ fn check_row(labels: Labels, states: u8, table: &[u8], i: usize, earlier: usize)
 
 // Row by row: the first bad row decides.
 fn check_rows(labels: Labels, states: u8, table: &[u8]) -> Check
-    ensures { λ r. ⌜ r ≡ checkRows (labels .pairs) states [] (rowsOf (now (table .entry))) ⌝ }
+    ensures { λ r. ⌜ r ≡ checkRows labels states [] (rowsOf (now (table .entry))) ⌝ }
 {
     let rows = row_count(table);
     let mut leaving: usize = 0;
@@ -90,7 +90,7 @@ fn check_rows(labels: Labels, states: u8, table: &[u8]) -> Check
 
 // The check of a table as a part: 3, then 5 to 7 row by row.
 pub fn check_table(labels: Labels, table: &[u8]) -> Check
-    ensures { λ r. ⌜ r ≡ checkTable (labels .pairs) (now (table .entry)) ⌝ }
+    ensures { λ r. ⌜ r ≡ checkTable labels (now (table .entry)) ⌝ }
 {
     let n = table.len();
     if n % 3 != 1 {

@@ -12,11 +12,10 @@ use Rattle.hml.specs.Lists.{present}
 use Rattle.hml.specs.System.{Run, last, steps, stop}
 use Rattle.hml.specs.Formula.{Formula, size, holds}
 use Rattle.hml.specs.Machine.{machine}
-use Rattle.hml.specs.Labels.{pairs}
 use Rattle.hml.specs.Compose.{beside}
 use Rattle.hml.proofs.Alone.{holds-alone}
 use Rattle.labels.specs.Refusals.{thenOf, firstOf, refusedIf}
-use Rattle.labels.specs.Labels.{checkPairs, pairing}
+use Rattle.labels.specs.Labels.{checkLabels, pairing}
 use Rattle.labels.specs.declared.label.Labels.{Labels}
 use Rattle.labels.specs.declared.refusal.Refusal.{Refusal}
 use Rattle.labels.specs.declared.refusal.Refusal.the-variants.{PointBeyond}
@@ -64,7 +63,7 @@ front-held s xs p e h ends = record { whole = omega arith; within = h; kept = ke
         (ends m (omega arith))
 
 -- a legal formula is ready for its verdict, with the sizes of its trees
-module _ (k : ℕ) (f : List ℕ) (legal : Legal k quotientLimit f) where
+module _ (k : Labels) (f : List ℕ) (legal : Legal k quotientLimit f) where
   pub legal-ready : (sizes xs : List ℕ) (n : ℕ) → length sizes ≡ 4096 → length xs ≡ 614 → Held xs n → n ≤ 602
       → Ready k (sizesOver f sizes) xs n 0 f
   legal-ready sizes xs n z w h i =
@@ -98,16 +97,16 @@ module _ (k : ℕ) (f : List ℕ) (legal : Legal k quotientLimit f) where
     legal-fails e = rw (← tables-judged, e)
 
 -- the joint call
-module _ (k : ℕ) (l r s f : List ℕ) where
+module _ (k : Labels) (l r s f : List ℕ) where
   -- the checks of the parts
   abbrev pub jointParts : Check
-  jointParts = thenOf (checkPairs k) (thenOf (checkTablesAndJoint k l r s) (checkFormula k quotientLimit f))
+  jointParts = thenOf (checkLabels k) (thenOf (checkTablesAndJoint k l r s) (checkFormula k quotientLimit f))
 
   joint-regroup : (p : ℕ)
       → checkJointCall k l r s f p ≡ thenOf jointParts (refusedIf (ltb (steps (jointOf s)) p) PointBeyond)
   unfolding checkJointCall checkTablesAndJoint firstOf
   joint-regroup p =
-      go (checkPairs k) (checkTable k l) (checkTable k r) (checkJoint k l r s) (checkFormula k quotientLimit f)
+      go (checkLabels k) (checkTable k l) (checkTable k r) (checkJoint k l r s) (checkFormula k quotientLimit f)
       (refusedIf (ltb (steps (jointOf s)) p) PointBeyond)
     where
       go : (c l r j f b : Check)
@@ -130,7 +129,8 @@ module _ (k : ℕ) (l r s f : List ℕ) where
   pub joint-parts : jointParts ≡ Sound → JointCall
   unfolding checkTablesAndJoint checkJoint firstOf
   joint-parts e =
-      let (pairs, a) = both-sound (checkPairs k) (thenOf (checkTablesAndJoint k l r s) (checkFormula k quotientLimit f))
+      let (labels, a) = both-sound (checkLabels k)
+      (thenOf (checkTablesAndJoint k l r s) (checkFormula k quotientLimit f))
       e in
       let (b, formula) = both-sound (checkTablesAndJoint k l r s) (checkFormula k quotientLimit f) a in
       let (left, c) = both-sound (checkTable k l) _ b in
@@ -168,10 +168,10 @@ module _ (k : ℕ) (l r s f : List ℕ) where
             front-held s xs p e h (λ m i. held .kept m (omega (arith, i, joint-room)))
 
         pub joint-answer : checkJointCall k l r s f p ≡ Sound → (v : Verdict)
-            → v ≡ verdictOf (present (λ φ. tablesHold (record { pairs = k }) l r φ (jointOf (take (3 * p + 2) xs)))
+            → v ≡ verdictOf (present (λ φ. tablesHold k l r φ (jointOf (take (3 * p + 2) xs)))
             (formulaOf f))
             → v ≡ jointVerdict k l r s f p
-        unfolding jointVerdict jointHolds answered tablesHold pairing
+        unfolding jointVerdict jointHolds answered tablesHold
         joint-answer c v w = rw (c, ← joint-stop s p, ← e) w
 
   -- the cases of the check
@@ -196,12 +196,12 @@ pub front-copied : (s xs ys : List ℕ) (n : ℕ) → n ≤ length s → xs ≡ 
     → take n xs ≡ take n s
 front-copied s xs ys n h e = let c = copied (take n s) xs ys e in rw (length-take-le n s h) at c
 
--- the pairs judged first, then the other parts
-pub pairs-refused : (c d : Check) (x : Refusal) → c ≡ Refused x → thenOf c d ≡ Refused x
-pairs-refused c d x e = rw e
+-- the labels judged first, then the other parts
+pub labels-refused : (c d : Check) (x : Refusal) → c ≡ Refused x → thenOf c d ≡ Refused x
+labels-refused c d x e = rw e
 
-pub pairs-sound : (c d e : Check) → c ≡ Sound → d ≡ e → thenOf c d ≡ e
-pairs-sound c d e p q = rw p q
+pub labels-sound : (c d e : Check) → c ≡ Sound → d ≡ e → thenOf c d ≡ e
+labels-sound c d e p q = rw p q
 
 pub answer-refused : (c : Check) (x : Refusal) (b : Bool) → c ≡ Refused x → verdict.Refused x ≡ answered c b
 unfolding answered
@@ -211,7 +211,7 @@ answer-refused c x b e = rw e
 abbrev pub still : List ℕ
 still = 1 ∷ []
 
-still-sound : (k : ℕ) → SoundTable k still
+still-sound : (k : Labels) → SoundTable k still
 unfolding checkTable fitTable fitStates rowsOf threes checkRows firstOf
 still-sound k = sound-table k still refl
 
@@ -220,16 +220,16 @@ unfolding tableOf machine rowsOf threes
 nothing-leaves = refl
 
 -- the half call
-module _ (k : ℕ) (t s f : List ℕ) where
+module _ (k : Labels) (t s f : List ℕ) where
   -- the checks of the parts
   abbrev pub halfParts : Check
-  halfParts = thenOf (checkPairs k) (thenOf (checkTable k t) (checkFormula k quotientLimit f))
+  halfParts = thenOf (checkLabels k) (thenOf (checkTable k t) (checkFormula k quotientLimit f))
 
   half-regroup : (p : ℕ)
       → checkHalfCall k t s f p ≡ thenOf halfParts (thenOf (refusedIf (beyond s p) PointBeyond) (checkHalf t s))
   unfolding checkHalfCall firstOf
   half-regroup p =
-      go (checkPairs k) (checkTable k t) (checkFormula k quotientLimit f) (refusedIf (beyond s p) PointBeyond)
+      go (checkLabels k) (checkTable k t) (checkFormula k quotientLimit f) (refusedIf (beyond s p) PointBeyond)
       (checkHalf t s)
     where
       go : (c t f b h : Check)
@@ -248,7 +248,7 @@ module _ (k : ℕ) (t s f : List ℕ) where
 
   half-parts : halfParts ≡ Sound → (checkTable k t ≡ Sound) × (checkFormula k quotientLimit f ≡ Sound)
   half-parts e =
-      let (pairs, a) = both-sound (checkPairs k) (thenOf (checkTable k t) (checkFormula k quotientLimit f)) e in
+      let (labels, a) = both-sound (checkLabels k) (thenOf (checkTable k t) (checkFormula k quotientLimit f)) e in
       both-sound (checkTable k t) (checkFormula k quotientLimit f) a
 
   module _ (call : HalfCall) (p : ℕ) (within : beyond s p ≡ false) where
@@ -282,16 +282,16 @@ module _ (k : ℕ) (t s f : List ℕ) where
           (λ m i. still-ends t s (call .run) m (omega (arith, i, half-room)))
 
       pub half-answer : checkHalfCall k t s f p ≡ Sound → (v : Verdict)
-          → v ≡ verdictOf (present (λ φ. tablesHold (record { pairs = k }) t still φ (jointOf (take (3 * p + 2) xs)))
+          → v ≡ verdictOf (present (λ φ. tablesHold k t still φ (jointOf (take (3 * p + 2) xs)))
           (formulaOf f))
           → v ≡ halfVerdict k t s f p
-      unfolding halfVerdict halfHolds answered tablesHold pairing
+      unfolding halfVerdict halfHolds answered tablesHold
       half-answer c v w =
           let same : (φ : Formula)
-          → tablesHold (record { pairs = k }) t still φ (jointOf (take (3 * p + 2) xs))
+          → tablesHold k t still φ (jointOf (take (3 * p + 2) xs))
           ≡ holds (tableOf t) φ (stop p (halfOf s)) = λ φ.
           rw (half-front, still-read (take (2 * p + 1) s) half-odd, ← half-stop s p)
-          (holds-alone (pairs k) (tableOf t) (tableOf still) 0 nothing-leaves φ (halfOf (take (2 * p + 1) s))) in
+          (holds-alone (pairing k) (tableOf t) (tableOf still) 0 nothing-leaves φ (halfOf (take (2 * p + 1) s))) in
           w ∙ ap verdictOf (ap (λ F. present F (formulaOf f)) (fun-ext same)) ∙ rw c
 
   -- the cases of the check

@@ -14,6 +14,7 @@ use Rattle.hml.proofs.Tests.{same-refl}
 use Rattle.hml.proofs.Indexed.{element}
 use Rattle.hml.specs.Lists.{only}
 use Rattle.hml.specs.Machine.{Row, machine}
+use Rattle.labels.specs.declared.label.Labels.{Labels}
 use Rattle.tables.specs.Tables.{rowsOf, tableOf, SoundTable}
 use Rattle.tables.specs.Working.{rowOf}
 use Rattle.tables.proofs.Rows.{length-rows, rows-at}
@@ -174,7 +175,7 @@ filling-start t g e = record {
   reads = λ p. ap (λ m. pairsIn m (drop (17 * p + 1) g)) (ap (λ l. getD l (17 * p) 0) e ∙ zeros-at 1088 (17 * p));
 }
 
-module _ {k : ℕ} {t : List ℕ} (s : SoundTable k t) (g : List ℕ) (i : ℕ) (f : Filling t g i) where
+module _ {k : Labels} {t : List ℕ} (s : SoundTable k t) (g : List ℕ) (i : ℕ) (f : Filling t g i) where
   -- at most 8 rows stand at a state
   pub filling-few : (p : ℕ) → getD g (17 * p) 0 ≤ 8
   unfolding tableOf

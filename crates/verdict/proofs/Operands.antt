@@ -13,7 +13,8 @@ use Rattle.hml.specs.Lists.{same}
 use Rattle.hml.proofs.Tests.{both-true, Decides, decides, decided-or, decided-same}
 use Rattle.hml.specs.System.{Run, _▸_, move, idle}
 use Rattle.hml.specs.Formula.{Formula, not, and, or, fwd, back, fwdIdle, backIdle, size, nesting, labelled, holds}
-use Rattle.hml.specs.Labels.{count}
+use Rattle.labels.specs.Labels.{count}
+use Rattle.labels.proofs.Labels.{count-most}
 use Rattle.labels.specs.declared.label.Labels.{Labels}
 use Rattle.labels.proofs.Slices.{rest, rest-of, rest-length}
 use Rattle.halves.specs.Runs.{stepOf}
@@ -61,7 +62,7 @@ first-true a b e = both-true {a = a} {b = b} e .0
 second-true : (a b : Bool) → (a && b) ≡ true → b ≡ true
 second-true a b e = both-true {a = a} {b = b} e .1
 
-module _ (k : ℕ) (sizes xs : List ℕ) (n : ℕ) (f : List ℕ) (y : Ready k sizes xs n 0 f) where
+module _ (k : Labels) (sizes xs : List ℕ) (n : ℕ) (f : List ℕ) (y : Ready k sizes xs n 0 f) where
   part : Part sizes f
   part = record { tree = y .tree; sized = y .sized }
 
@@ -89,14 +90,14 @@ module _ (k : ℕ) (sizes xs : List ℕ) (n : ℕ) (f : List ℕ) (y : Ready k s
   not-ready e = operand-ready not (at f (y .tree) 2 e) n 0 (y .held) (λ l. l) (omega arith)
 
   pub forward-ready : getD f 0 0 ≡ 5 → Ready k sizes xs n 1 (rest 2 f) × Shown (getD f 1 0)
-  unfolding labelled nesting count
+  unfolding labelled nesting
   forward-ready e =
       let u = at f (y .tree) 5 e in
       let w = y .ranged in
       let whole = rw (operand-is sizes f part (fwd (getD f 1 0)) u) at w in
       let low = leb-true (getD f 1 0) (count k) (first-true _ (labelled (count k) (treeOf (rest 2 f))) whole) in (
         operand-ready (fwd (getD f 1 0)) u n 1 (y .held) (second-true (leb (getD f 1 0) (count k)) _) (omega arith),
-        λ z. omega (arith, low),
+        λ z. omega (arith, low, count-most k),
       )
 
   pub idle-ready : getD f 0 0 ≡ 7 → Ready k sizes xs n 1 (rest 2 f)
@@ -233,13 +234,13 @@ turned false false = refl
 -- going on with the operand of "not" and the second one of "and" and "or": what is left has the verdict of the whole,
 -- or the other one where "not" stands an odd number of times before it
 pub record Going (labels : Labels) (l r sizes xs : List ℕ) (n : ℕ) (f left : List ℕ) (even : Bool) : Type 0 where
-  pub ready : Ready (labels .pairs) sizes xs n 0 left
+  pub ready : Ready labels sizes xs n 0 left
   pub shorter : length left ≤ length f
   pub same : Bool·beq (judged labels l r (treeOf left) (jointOf (take n xs))) even
       ≡ judged labels l r (treeOf f) (jointOf (take n xs))
 
 pub going-start : (labels : Labels) (l r sizes xs : List ℕ) (n : ℕ) (f : List ℕ)
-    → Ready (labels .pairs) sizes xs n 0 f → Going labels l r sizes xs n f f true
+    → Ready labels sizes xs n 0 f → Going labels l r sizes xs n f f true
 going-start labels l r sizes xs n f y = record { ready = y; shorter = omega arith; same = upright _ }
 
 module _
@@ -254,7 +255,7 @@ module _
 
   pub going-not : getD left 0 0 ≡ 2 → Going labels l r sizes xs n f (rest 2 left) (negate even)
   going-not e = record {
-    ready = not-ready (labels .pairs) sizes xs n left (g .ready) e;
+    ready = not-ready labels sizes xs n left (g .ready) e;
     shorter = omega (arith, g .shorter, rest-length 2 left);
     same = turned (judged labels l r (treeOf (rest 2 left)) run) even
         ∙ going-end _ (judged-not labels l r left run (g .ready .tree) _ e refl);
@@ -268,9 +269,9 @@ module _
     pub going-on : Bool·beq a (eqb (getD left 0 0) 4) ≡ false → (m : ℕ) → m ≡ getD sizes (length left / 2 - 2) 0
         → Going labels l r sizes xs n f (rest (2 * m + 2) left) even
     going-on s m e =
-        let parts = part (labels .pairs) sizes xs n left (g .ready) in
+        let parts = part labels sizes xs n left (g .ready) in
         record {
-          ready = second-ready (labels .pairs) sizes xs n left (g .ready) o m e;
+          ready = second-ready labels sizes xs n left (g .ready) o m e;
           shorter = omega (arith, g .shorter, rest-length (2 * m + 2) left);
           same = going-end _ (judged-second labels l r left run (g .ready .tree) o a p sizes parts m e s);
         }

@@ -46,7 +46,7 @@ moved-held mover.Right xs n h room shown to =
     whole : set xs (n + 2) to ≡ put xs n (getD xs n 0) (getD xs (n + 1) 0) to
     whole = rw (set-getD xs n 0, set-getD xs (n + 1) 0)
 
-module _ (k : ℕ) (sizes xs : List ℕ) (n : ℕ) (f : List ℕ) (y : Ready k sizes xs n 1 f) where
+module _ (k : Labels) (sizes xs : List ℕ) (n : ℕ) (f : List ℕ) (y : Ready k sizes xs n 1 f) where
   abbrev room : n + 3 ≤ length xs
   room = omega (arith, y .room)
 

@@ -9,12 +9,12 @@ use Rattle.hml.specs.Lists.{present}
 use Rattle.hml.specs.System.{steps, stop}
 use Rattle.hml.specs.Formula.{holds}
 use Rattle.hml.specs.Compose.{beside}
-use Rattle.hml.specs.Labels.{pairs}
 use Rattle.labels.specs.Refusals.{refusedIf, firstOf, Answer, refusedAs, giving}
-use Rattle.labels.specs.Labels.{checkPairs}
+use Rattle.labels.specs.Labels.{checkLabels, pairing}
 use Rattle.labels.specs.declared.refusal.Check.{Check}
 use Rattle.labels.specs.declared.refusal.Check.the-variants as check
 use Rattle.labels.specs.declared.refusal.Refusal.the-variants.{PointBeyond}
+use Rattle.labels.specs.declared.label.Labels.{Labels}
 use Rattle.tables.specs.Tables.{tableOf, checkTable}
 use Rattle.halves.specs.Halves.{halfOf, checkHalf}
 use Rattle.halves.specs.Cuts.{beyond}
@@ -25,18 +25,18 @@ use Rattle.verdict.specs.declared.answer.Verdict.the-variants as verdict
 
 -- the verdict on two tables and a joint run of them, stopped at a point: the tables beside each other, the formula that
 -- the bytes spell, the run that the bytes spell
-unfoldable pub jointHolds : ℕ → List ℕ → List ℕ → List ℕ → List ℕ → ℕ → Bool
+unfoldable pub jointHolds : Labels → List ℕ → List ℕ → List ℕ → List ℕ → ℕ → Bool
 jointHolds k l r s f point =
-    present (λ φ. holds (beside (pairs k) (tableOf l) (tableOf r)) φ (stop point (jointOf s))) (formulaOf f)
+    present (λ φ. holds (beside (pairing k) (tableOf l) (tableOf r)) φ (stop point (jointOf s))) (formulaOf f)
 
 -- the verdict on one table and a half run of it, stopped at a point
 unfoldable pub halfHolds : List ℕ → List ℕ → List ℕ → ℕ → Bool
 halfHolds t s f point = present (λ φ. holds (tableOf t) φ (stop point (halfOf s))) (formulaOf f)
 
 -- what a joint call judges, in order: the parts' numbers, then 12
-unfoldable pub checkJointCall : ℕ → List ℕ → List ℕ → List ℕ → List ℕ → ℕ → Check
+unfoldable pub checkJointCall : Labels → List ℕ → List ℕ → List ℕ → List ℕ → ℕ → Check
 checkJointCall k l r s f point = firstOf
-    (checkPairs k
+    (checkLabels k
     ∷ checkTable k l
     ∷ checkTable k r
     ∷ checkJoint k l r s
@@ -45,9 +45,9 @@ checkJointCall k l r s f point = firstOf
     ∷ [])
 
 -- what a half call judges, in order: the parts' numbers, then 12, "a half of even length has no points", then 15
-unfoldable pub checkHalfCall : ℕ → List ℕ → List ℕ → List ℕ → ℕ → Check
+unfoldable pub checkHalfCall : Labels → List ℕ → List ℕ → List ℕ → ℕ → Check
 checkHalfCall k t s f point = firstOf
-    (checkPairs k
+    (checkLabels k
     ∷ checkTable k t
     ∷ checkFormula k quotientLimit f
     ∷ refusedIf (beyond s point) PointBeyond
@@ -63,10 +63,10 @@ unfoldable pub answered : Check → Bool → Verdict
 answered check.Sound b = verdictOf b
 answered (check.Refused x) b = verdict.Refused x
 
-unfoldable pub jointVerdict : ℕ → List ℕ → List ℕ → List ℕ → List ℕ → ℕ → Verdict
+unfoldable pub jointVerdict : Labels → List ℕ → List ℕ → List ℕ → List ℕ → ℕ → Verdict
 jointVerdict k l r s f point = answered (checkJointCall k l r s f point) (jointHolds k l r s f point)
 
-unfoldable pub halfVerdict : ℕ → List ℕ → List ℕ → List ℕ → ℕ → Verdict
+unfoldable pub halfVerdict : Labels → List ℕ → List ℕ → List ℕ → ℕ → Verdict
 halfVerdict k t s f point = answered (checkHalfCall k t s f point) (halfHolds t s f point)
 
 -- the number of a verdict, and its value: 1 where it holds, 0 where it fails

@@ -9,7 +9,7 @@ use Rattle.hml.specs.Lists.{same, any, present}
 use Rattle.hml.specs.System.{System, Run, Pairing}
 use Rattle.hml.specs.Formula.{Formula, holds, nesting, labelled}
 use Rattle.hml.specs.Compose.{beside}
-use Rattle.hml.specs.Labels.{count}
+use Rattle.labels.specs.Labels.{count}
 use Rattle.labels.specs.Labels.{pairing}
 use Rattle.labels.specs.declared.label.Labels.{Labels}
 use Rattle.tables.specs.Tables.{tableOf}
@@ -74,7 +74,7 @@ pub record Grids (l r : List ℕ) : Type 0 where
 
 -- the first n bytes of xs are a run, with room behind it for `more` steps and those that the first tree of f looks
 -- ahead; sizes has the sizes of f's trees
-pub record Ready (k : ℕ) (sizes xs : List ℕ) (n more : ℕ) (f : List ℕ) : Type 0 where
+pub record Ready (k : Labels) (sizes xs : List ℕ) (n more : ℕ) (f : List ℕ) : Type 0 where
   pub tree : Tree f
   pub ranged : labelled (count k) (treeOf f) ≡ true
   pub sized : Sized sizes f

@@ -31,9 +31,9 @@ pub(crate) fn verdict_on(
     len: usize,
     formula: &[u8],
 ) -> Verdict
-    requires { ⌜ Tables (labels .pairs) (now left) (now right) ⌝ }
+    requires { ⌜ Tables labels (now left) (now right) ⌝ }
     requires { ⌜ Held (now run) len × (len ≤ 602) × (length (now run) ≡ 614) ⌝ }
-    requires { ⌜ Legal (labels .pairs) quotientLimit (now formula) ⌝ }
+    requires { ⌜ Legal labels quotientLimit (now formula) ⌝ }
     ensures { λ r. ⌜ r ≡ verdictOf (present
         (λ φ. tablesHold labels (now (left .entry)) (now (right .entry)) φ (jointOf (take len (now (run .entry)))))
         (formulaOf (now (formula .entry)))) ⌝ }

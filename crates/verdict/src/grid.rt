@@ -9,7 +9,7 @@ ghost use Rattle.verdict.specs.Working.{Grid, Within, pairsIn, gridOf, s
 
 // The rows of a sound table by the state that they leave, written into an empty grid.
 pub(crate) fn rows_by_state(labels: Labels, table: &[u8], grid: &mut [u8; 1088])
-    requires { ⌜ SoundTable (labels .pairs) (now table) ⌝ }
+    requires { ⌜ SoundTable labels (now table) ⌝ }
     requires { ⌜ now grid ≡ replicate 1088 0 ⌝ }
     ensures { λ r. ⌜ Grid (now (grid .exit)) ⌝ }
     ensures { λ r. ⌜ ((p : ℕ) → gridOf (now (grid .exit)) p ≡ tableOf (now (table .entry)) p) ⌝ }

@@ -5,7 +5,6 @@ use crate::beside::beside_still;
 use formulas::check::check_formula;
 use halves::half::check_half;
 use labels::label::Labels;
-use labels::label::check_pairs;
 use labels::refusal::Check;
 use labels::refusal::Refusal;
 use tables::check::check_table;
@@ -17,10 +16,9 @@ ghost use Rattle.verdict.specs.Verdicts.{halfVerdict, checkHalfCall};
 const STILL: [u8; 1] = [1];
 
 // The verdict on a half run stopped at a point. The run is copied once, into a buffer with room for four steps more.
-pub fn half(k: u8, table: &[u8], half: &[u8], formula: &[u8], point: usize) -> Verdict
-    ensures { λ r. ⌜ r ≡ halfVerdict k (now (table .entry)) (now (half .entry)) (now (formula .entry)) point ⌝ }
+pub fn half(labels: Labels, table: &[u8], half: &[u8], formula: &[u8], point: usize) -> Verdict
+    ensures { λ r. ⌜ r ≡ halfVerdict labels (now (table .entry)) (now (half .entry)) (now (formula .entry)) point ⌝ }
 {
-    let labels = Labels { pairs: k };
     match check_half_call(labels, table, half, formula, point) {
         Check::Sound => {}
         Check::Refused(refusal) => return Verdict::Refused(refusal),
@@ -33,10 +31,10 @@ pub fn half(k: u8, table: &[u8], half: &[u8], formula: &[u8], point: usize) -> V
 
 // What a half call judges, in order.
 fn check_half_call(labels: Labels, table: &[u8], half: &[u8], formula: &[u8], point: usize) -> Check
-    ensures { λ r. ⌜ r ≡ checkHalfCall (labels .pairs)
+    ensures { λ r. ⌜ r ≡ checkHalfCall labels
         (now (table .entry)) (now (half .entry)) (now (formula .entry)) point ⌝ }
 {
-    match check_pairs(labels.pairs) {
+    match labels.check() {
         Check::Sound => {}
         Check::Refused(refusal) => return Check::Refused(refusal),
     }

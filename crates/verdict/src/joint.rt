@@ -3,7 +3,6 @@ use crate::answer::Verdict;
 use crate::answer::verdict_on;
 use formulas::check::check_formula;
 use labels::label::Labels;
-use labels::label::check_pairs;
 use labels::refusal::Check;
 use labels::refusal::Refusal;
 use machines::joint::check_joint;
@@ -11,11 +10,17 @@ ghost use mathlib.Core.Path.{_≡_};
 ghost use Rattle.verdict.specs.Verdicts.{jointVerdict, checkJointCall};
 
 // The verdict on a joint run stopped at a point. The run is copied once, into a buffer with room for four steps more.
-pub fn joint(k: u8, left: &[u8], right: &[u8], run: &[u8], formula: &[u8], point: usize) -> Verdict
-    ensures { λ r. ⌜ r ≡ jointVerdict k
+pub fn joint(
+    labels: Labels,
+    left: &[u8],
+    right: &[u8],
+    run: &[u8],
+    formula: &[u8],
+    point: usize,
+) -> Verdict
+    ensures { λ r. ⌜ r ≡ jointVerdict labels
         (now (left .entry)) (now (right .entry)) (now (run .entry)) (now (formula .entry)) point ⌝ }
 {
-    let labels = Labels { pairs: k };
     match check_joint_call(labels, left, right, run, formula, point) {
         Check::Sound => {}
         Check::Refused(refusal) => return Verdict::Refused(refusal),
@@ -35,10 +40,10 @@ fn check_joint_call(
     formula: &[u8],
     point: usize,
 ) -> Check
-    ensures { λ r. ⌜ r ≡ checkJointCall (labels .pairs)
+    ensures { λ r. ⌜ r ≡ checkJointCall labels
         (now (left .entry)) (now (right .entry)) (now (run .entry)) (now (formula .entry)) point ⌝ }
 {
-    match check_pairs(labels.pairs) {
+    match labels.check() {
         Check::Sound => {}
         Check::Refused(refusal) => return Check::Refused(refusal),
     }

@@ -54,7 +54,7 @@ pub(crate) fn holds<'a>(
     f: &[u8],
 ) -> bool
     requires { ⌜ Grids (now left) (now right) ⌝ }
-    requires { ⌜ Ready (labels .pairs) (now sizes) (now run) len 0 (now f) ⌝ }
+    requires { ⌜ Ready labels (now sizes) (now run) len 0 (now f) ⌝ }
     ensures { λ r. ⌜ r ≡ judged labels (now (left .entry)) (now (right .entry))
         (treeOf (now (f .entry))) (jointOf (take len (now (run .entry)))) ⌝ }
     ensures { λ r. ⌜ now (run .exit) ≡ now (run .entry) ⌝ }
@@ -105,7 +105,7 @@ fn judge<'a>(
     f: &[u8],
 ) -> bool
     requires { ⌜ Grids (now left) (now right) ⌝ }
-    requires { ⌜ Ready (labels .pairs) (now sizes) (now run) len 0 (now f) ⌝ }
+    requires { ⌜ Ready labels (now sizes) (now run) len 0 (now f) ⌝ }
     requires { ⌜ ((getD (now f) 0 0 ≡ 2 → ⊥) × (getD (now f) 0 0 ≡ 3 → ⊥) × (getD (now f) 0 0 ≡ 4 → ⊥)) ⌝ }
     ensures { λ r. ⌜ r ≡ judged labels (now (left .entry)) (now (right .entry))
         (treeOf (now (f .entry))) (jointOf (take len (now (run .entry)))) ⌝ }
@@ -132,7 +132,7 @@ fn modal<'a>(
     f: &[u8],
 ) -> bool
     requires { ⌜ Grids (now left) (now right) ⌝ }
-    requires { ⌜ Ready (labels .pairs) (now sizes) (now run) len 0 (now f) ⌝ }
+    requires { ⌜ Ready labels (now sizes) (now run) len 0 (now f) ⌝ }
     requires { ⌜ 5 ≤ getD (now f) 0 0 ⌝ }
     ensures { λ r. ⌜ r ≡ judged labels (now (left .entry)) (now (right .entry))
         (treeOf (now (f .entry))) (jointOf (take len (now (run .entry)))) ⌝ }
@@ -172,7 +172,7 @@ fn forward<'a>(
     f: &[u8],
 ) -> bool
     requires { ⌜ Grids (now left) (now right) ⌝ }
-    requires { ⌜ Ready (labels .pairs) (now sizes) (now run) len 1 (now f) ⌝ }
+    requires { ⌜ Ready labels (now sizes) (now run) len 1 (now f) ⌝ }
     requires { ⌜ Shown (label .0) ⌝ }
     ensures { λ r. ⌜ r ≡ judged labels (now (left .entry)) (now (right .entry))
         (fwd (label .0) (treeOf (now (f .entry)))) (jointOf (take len (now (run .entry)))) ⌝ }
@@ -207,7 +207,7 @@ fn try_left<'a>(
     f: &[u8],
 ) -> bool
     requires { ⌜ Grids (now left) (now right) ⌝ }
-    requires { ⌜ Ready (labels .pairs) (now sizes) (now run) len 1 (now f) ⌝ }
+    requires { ⌜ Ready labels (now sizes) (now run) len 1 (now f) ⌝ }
     requires { ⌜ Shown (label .0) ⌝ }
     ensures { λ r. ⌜ r ≡ tried (λ (p : ℕ).
         judged labels (now (left .entry)) (now (right .entry)) (treeOf (now (f .entry)))
@@ -241,7 +241,7 @@ fn try_right<'a>(
     f: &[u8],
 ) -> bool
     requires { ⌜ Grids (now left) (now right) ⌝ }
-    requires { ⌜ Ready (labels .pairs) (now sizes) (now run) len 1 (now f) ⌝ }
+    requires { ⌜ Ready labels (now sizes) (now run) len 1 (now f) ⌝ }
     requires { ⌜ Shown (label .0) ⌝ }
     ensures { λ r. ⌜ r ≡ tried (λ (q : ℕ).
         judged labels (now (left .entry)) (now (right .entry)) (treeOf (now (f .entry)))
@@ -274,7 +274,7 @@ fn try_both<'a>(
     f: &[u8],
 ) -> bool
     requires { ⌜ Grids (now left) (now right) ⌝ }
-    requires { ⌜ Ready (labels .pairs) (now sizes) (now run) len 1 (now f) ⌝ }
+    requires { ⌜ Ready labels (now sizes) (now run) len 1 (now f) ⌝ }
     ensures { λ r. ⌜ r ≡ shaken (pairing labels) (λ (p q : ℕ).
         judged labels (now (left .entry)) (now (right .entry)) (treeOf (now (f .entry)))
         (jointOf (take len (now (run .entry))) ▸ stepOf 0 (p, q)))
@@ -298,7 +298,7 @@ fn try_handshakes<'a>(
     f: &[u8],
 ) -> bool
     requires { ⌜ Grids (now left) (now right) ⌝ }
-    requires { ⌜ Ready (labels .pairs) (now sizes) (now run) len 1 (now f) ⌝ }
+    requires { ⌜ Ready labels (now sizes) (now run) len 1 (now f) ⌝ }
     requires { ⌜ Within (rows .at) (rows .count) ⌝ }
     ensures { λ r. ⌜ r ≡ shaken (pairing labels) (λ (p q : ℕ).
         judged labels (now (left .entry)) (now (right .entry)) (treeOf (now (f .entry)))
@@ -337,7 +337,7 @@ fn try_partner<'a>(
     f: &[u8],
 ) -> bool
     requires { ⌜ Grids (now left) (now right) ⌝ }
-    requires { ⌜ Ready (labels .pairs) (now sizes) (now run) len 1 (now f) ⌝ }
+    requires { ⌜ Ready labels (now sizes) (now run) len 1 (now f) ⌝ }
     ensures { λ r. ⌜ r ≡ present (λ (b : ℕ). tried (λ (q : ℕ).
         judged labels (now (left .entry)) (now (right .entry)) (treeOf (now (f .entry)))
         (jointOf (take len (now (run .entry))) ▸ stepOf 0 (first .target, q)))
@@ -377,7 +377,7 @@ fn try_moves<'a>(
     f: &[u8],
 ) -> bool
     requires { ⌜ Grids (now left) (now right) ⌝ }
-    requires { ⌜ Ready (labels .pairs) (now sizes) (now run) len 1 (now f) ⌝ }
+    requires { ⌜ Ready labels (now sizes) (now run) len 1 (now f) ⌝ }
     requires { ⌜ Within (trial .moves .rows .at) (trial .moves .rows .count)
         × (trial .moves .rows .count ≤ 8) × Shown (trial .shown .0) ⌝ }
     ensures { λ r. ⌜ r ≡ tried (λ (to : ℕ).
@@ -414,7 +414,7 @@ fn try_rows<'a>(
     f: &[u8],
 ) -> bool
     requires { ⌜ Grids (now left) (now right) ⌝ }
-    requires { ⌜ Ready (labels .pairs) (now sizes) (now run) len 1 (now f) ⌝ }
+    requires { ⌜ Ready labels (now sizes) (now run) len 1 (now f) ⌝ }
     requires { ⌜ Within (moves .rows .at) (moves .rows .count)
         × (moves .rows .count ≤ 8) × Shown (getD (now run) len 0) ⌝ }
     ensures { λ r. ⌜ r ≡ tried (λ (to : ℕ).
@@ -464,7 +464,7 @@ fn stay<'a>(
     f: &[u8],
 ) -> bool
     requires { ⌜ Grids (now left) (now right) ⌝ }
-    requires { ⌜ Ready (labels .pairs) (now sizes) (now run) len 1 (now f) ⌝ }
+    requires { ⌜ Ready labels (now sizes) (now run) len 1 (now f) ⌝ }
     ensures { λ r. ⌜ r ≡ judged labels (now (left .entry)) (now (right .entry)) (treeOf (now (f .entry)))
         (jointOf (take len (now (run .entry)))
         ▸ stepOf 255 (getD (now (run .entry)) (len - 2) 0, getD (now (run .entry)) (len - 1) 0)) ⌝ }

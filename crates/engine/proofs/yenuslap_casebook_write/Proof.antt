@@ -8,6 +8,9 @@ use borrow.Author.Needs.{needs}
 use Rattle.engine.proofs.yenuslap_casebook_write.Statement.{statement}
 use Rattle.engine.proofs.yenuslap_casebook_write.Tie as tie
 
+of-pairs-requires : tie.Need-of-pairs-requires
+of-pairs-requires c κs = search needs
+
 write-requires : tie.Need-write-requires
 write-requires c κs = search needs
 
@@ -26,7 +29,8 @@ same-length c = search needs
 returns : tie.Need-returns
 unfolding writeAnswer only
 returns c =
-    let e = c .before .before .before .before .before .write .ensures in
+    let m = c .before .before .before .before .before in
+    let e = rw (m .before .before .of-pairs .ensures) at (m .write .ensures) in
     (gives writeAnswer (e .0) (c .before .n .given .1) only (_ ∷ []) refl refl, e .1)
 
 same-length-2 : tie.Need-same-length-2
@@ -36,13 +40,15 @@ returns-2 : tie.Need-returns-2
 unfolding writeAnswer only
 returns-2 c =
     let x = c .before .before .refusal .given in
-    let e = c .before .before .before .before .before .before .write .ensures in
+    let m = c .before .before .before .before .before .before in
+    let e = rw (m .before .before .of-pairs .ensures) at (m .write .ensures) in
     (refuses writeAnswer (e .0) (x .1) only (x .0 .0) refl refl (c .refused .ensures), e .1)
 
 pub yenuslap-casebook-write-spec : {M : Type 1} → statement M
 yenuslap-casebook-write-spec =
     tie.close
     (tie.spec
+    of-pairs-requires
     write-requires
     enum-known-n
     enum-known-refusal

@@ -6,6 +6,9 @@ use mathlib.Core.Path.{_∙_, ap}
 use Rattle.verdict.specs.Verdicts.{verdictAnswer}
 use Rattle.engine.specs.Answers.{packed, only}
 
+of-pairs-requires : tie.Need-of-pairs-requires
+of-pairs-requires c κs = search needs
+
 joint-requires : tie.Need-joint-requires
 joint-requires c κs = search needs
 
@@ -13,7 +16,9 @@ verdict-value-requires : tie.Need-verdict-value-requires
 verdict-value-requires c κs = search needs
 
 returns : tie.Need-returns
-returns c = c .verdict-value .ensures ∙ ap (λ v. packed only (verdictAnswer v)) (c .before .joint .ensures)
+returns c =
+    c .verdict-value .ensures ∙ ap (λ v. packed only (verdictAnswer v))
+    (rw (c .before .before .of-pairs .ensures) at (c .before .joint .ensures))
 
 pub yenuslap-joint-verdict-spec : {M : Type 1} → statement M
-yenuslap-joint-verdict-spec = tie.close (tie.spec joint-requires verdict-value-requires returns)
+yenuslap-joint-verdict-spec = tie.close (tie.spec of-pairs-requires joint-requires verdict-value-requires returns)

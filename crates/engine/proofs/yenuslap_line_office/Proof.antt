@@ -11,6 +11,9 @@ use Rattle.quotient.specs.Calls.{lineAnswer}
 use Rattle.engine.specs.Answers.{twoBits}
 use Rattle.engine.proofs.Answers.{gives, refuses}
 
+of-pairs-requires : tie.Need-of-pairs-requires
+of-pairs-requires c κs = search needs
+
 side-of-requires : tie.Need-side-of-requires
 side-of-requires c κs = search needs
 
@@ -44,7 +47,8 @@ returns : tie.Need-returns
 unfolding lineAnswer twoBits
 returns c =
     let s = c .before .before .before in
-    let e = rw (s .before .before .before .side-of .ensures) at (s .before .before .line-office .ensures .0) in
+    let m = s .before .before .before in
+    let e = rw (m .before .of-pairs .ensures, m .side-of .ensures) at (s .before .before .line-office .ensures .0) in
     let b = c .before .bit .ensures in
     gives lineAnswer e (s .line .given .1) twoBits (bitOf _ ∷ bitOf _ ∷ []) refl (rw (b, c .bit2 .ensures))
 
@@ -52,7 +56,8 @@ returns-2 : tie.Need-returns-2
 unfolding lineAnswer twoBits
 returns-2 c =
     let s = c .before .before in
-    let e = rw (s .before .before .before .side-of .ensures) at (s .before .before .line-office .ensures .0) in
+    let m = s .before .before .before in
+    let e = rw (m .before .of-pairs .ensures, m .side-of .ensures) at (s .before .before .line-office .ensures .0) in
     let x = s .refusal .given in
     refuses lineAnswer e (x .1) twoBits (x .0 .0) refl refl (c .refused .ensures)
 
@@ -60,6 +65,7 @@ pub yenuslap-line-office-spec : {M : Type 1} → statement M
 yenuslap-line-office-spec =
     tie.close
     (tie.spec
+    of-pairs-requires
     side-of-requires
     line-office-requires
     enum-known-line

@@ -6,6 +6,9 @@ use mathlib.Core.Path.{_∙_, ap}
 use Rattle.dividing.specs.Quotients.{quotientAnswer}
 use Rattle.engine.specs.Answers.{packed, only}
 
+of-pairs-requires : tie.Need-of-pairs-requires
+of-pairs-requires c κs = search needs
+
 side-of-requires : tie.Need-side-of-requires
 side-of-requires c κs = search needs
 
@@ -21,10 +24,11 @@ same-length c = search needs
 returns : tie.Need-returns
 returns c =
     let s = c .before .before .before in
-    let e = rw (s .before .before .side-of .ensures) at (s .by-number .ensures) in
+    let m = s .before .before in
+    let e = rw (m .before .of-pairs .ensures, m .side-of .ensures) at (s .by-number .ensures) in
     (c .quotient-value .ensures ∙ ap (λ q. packed only (quotientAnswer q)) (e .0), e .1)
 
 pub yenuslap-quotient-of-splitting-spec : {M : Type 1} → statement M
 yenuslap-quotient-of-splitting-spec =
     tie.close
-    (tie.spec side-of-requires by-number-requires quotient-value-requires same-length returns)
+    (tie.spec of-pairs-requires side-of-requires by-number-requires quotient-value-requires same-length returns)

@@ -8,6 +8,9 @@ use borrow.Author.Needs.{needs}
 use Rattle.engine.proofs.yenuslap_split.Statement.{statement}
 use Rattle.engine.proofs.yenuslap_split.Tie as tie
 
+of-pairs-requires : tie.Need-of-pairs-requires
+of-pairs-requires c κs = search needs
+
 split-requires : tie.Need-split-requires
 split-requires c κs = search needs
 
@@ -29,7 +32,8 @@ same-length-2 c = search needs
 returns : tie.Need-returns
 unfolding splitAnswer only
 returns c =
-    let e = c .before .before .before .before .before .before .before .split .ensures in
+    let m = c .before .before .before .before .before .before .before in
+    let e = rw (m .before .before .before .of-pairs .ensures) at (m .split .ensures) in
     (gives splitAnswer (e .0) (c .before .n .given .1) only (_ ∷ []) refl refl, e .1)
 
 same-length-3 : tie.Need-same-length-3
@@ -42,13 +46,15 @@ returns-2 : tie.Need-returns-2
 unfolding splitAnswer only
 returns-2 c =
     let x = c .before .before .refusal .given in
-    let e = c .before .before .before .before .before .before .before .before .split .ensures in
+    let m = c .before .before .before .before .before .before .before .before in
+    let e = rw (m .before .before .before .of-pairs .ensures) at (m .split .ensures) in
     (refuses splitAnswer (e .0) (x .1) only (x .0 .0) refl refl (c .refused .ensures), e .1)
 
 pub yenuslap-split-spec : {M : Type 1} → statement M
 yenuslap-split-spec =
     tie.close
     (tie.spec
+    of-pairs-requires
     split-requires
     enum-known-n
     enum-known-refusal

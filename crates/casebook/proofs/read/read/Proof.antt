@@ -1,6 +1,6 @@
 -- The first record decides, then k, then what follows.
 use mathlib.Core.Path.{sym, _∙_}
-use Rattle.casebook.proofs.Reading.{pairs-seen, pairs-sound, pairs-refused, first-refused}
+use Rattle.casebook.proofs.Reading.{labels-seen, labels-sound, labels-refused, first-refused}
 use borrow.Author.Needs.{needs}
 use Rattle.casebook.proofs.read.read.Statement.{statement}
 use Rattle.casebook.proofs.read.read.Tie as tie
@@ -14,8 +14,8 @@ enum-known-first c = search needs
 labels-requires : tie.Need-labels-requires
 labels-requires c κs = search needs
 
-check-pairs-requires : tie.Need-check-pairs-requires
-check-pairs-requires c κs = search needs
+check-requires : tie.Need-check-requires
+check-requires c κs = search needs
 
 enum-told : tie.Need-enum-told
 enum-told c = search needs
@@ -31,18 +31,18 @@ enum-known-refusal-2 c = search needs
 
 returns : tie.Need-returns
 returns c =
-    pairs-sound _ _ _
+    labels-sound _ _ _
     (sym (c .before .before .before .before .before .before .first .given .1)
     ∙ c .before .before .before .before .before .before .before .before .next .ensures)
-    (pairs-seen (c .before .before .before .before .labels .ensures) (c .before .before .before .check-pairs .ensures)
+    (labels-seen (c .before .before .before .before .labels .ensures) (c .before .before .before .check .ensures)
     (c .before .enum-told .given .1)) (c .read-left .ensures)
 
 returns-2 : tie.Need-returns-2
 returns-2 c =
-    pairs-refused _ _ _
+    labels-refused _ _ _
     (sym (c .before .before .before .before .before .before .first .given .1)
     ∙ c .before .before .before .before .before .before .before .before .next .ensures) _
-    (pairs-seen (c .before .before .before .before .labels .ensures) (c .before .before .before .check-pairs .ensures)
+    (labels-seen (c .before .before .before .before .labels .ensures) (c .before .before .before .check .ensures)
     (c .before .refusal .given .1))
 
 returns-3 : tie.Need-returns-3
@@ -55,7 +55,7 @@ read-spec =
     next-requires
     enum-known-first
     labels-requires
-    check-pairs-requires
+    check-requires
     enum-told
     read-left-requires
     enum-known-refusal

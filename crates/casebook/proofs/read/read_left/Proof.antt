@@ -26,7 +26,8 @@ enum-told c = search needs
 
 read-right-requires : tie.Need-read-right-requires
 read-right-requires c κs =
-    seen (λ x. checkTable (x .pairs)) (c .before .before .before .before .labels .ensures) (c .before .before .before .body .ensures) (c .before .before .check-table .ensures)
+    seen (checkTable) (c .before .before .before .before .labels .ensures) (c .before .before .before .body .ensures)
+    (c .before .before .check-table .ensures)
     (c .enum-told .given .1)
 
 enum-known-refusal : tie.Need-enum-known-refusal
@@ -39,16 +40,20 @@ returns : tie.Need-returns
 returns c =
     let c1 = c .before .before .before in
     left-sound _ _ _ _ _
-    (sym (c1 .before .before .before .before .left .given .1) ∙ c1 .before .before .before .before .before .before .next .ensures)
-    (seen (λ x. checkTable (x .pairs)) (c1 .before .before .labels .ensures) (c1 .before .body .ensures) (c1 .check-table .ensures) (c .before .enum-told .given .1))
+    (sym (c1 .before .before .before .before .left .given .1)
+    ∙ c1 .before .before .before .before .before .before .next .ensures)
+    (seen (checkTable) (c1 .before .before .labels .ensures) (c1 .before .body .ensures) (c1 .check-table .ensures)
+    (c .before .enum-told .given .1))
     (c .read-right .ensures)
 
 returns-2 : tie.Need-returns-2
 returns-2 c =
     let c1 = c .before .before .before in
     left-refused _ _ _ _ _
-    (sym (c1 .before .before .before .before .left .given .1) ∙ c1 .before .before .before .before .before .before .next .ensures) _
-    (seen (λ x. checkTable (x .pairs)) (c1 .before .before .labels .ensures) (c1 .before .body .ensures) (c1 .check-table .ensures) (c .before .refusal .given .1))
+    (sym (c1 .before .before .before .before .left .given .1)
+    ∙ c1 .before .before .before .before .before .before .next .ensures) _
+    (seen (checkTable) (c1 .before .before .labels .ensures) (c1 .before .body .ensures) (c1 .check-table .ensures)
+    (c .before .refusal .given .1))
 
 returns-3 : tie.Need-returns-3
 returns-3 c = no-left _ _ _ _ (sym (c .before .refusal2 .given .1) ∙ c .before .before .before .next .ensures)

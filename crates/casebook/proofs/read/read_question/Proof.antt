@@ -28,8 +28,10 @@ returns : tie.Need-returns
 returns c =
     let c1 = c .before .before .before .before in
     bytes-after _ _ _ _ _ _ _ _
-    (sym (c1 .before .before .before .before .question .given .1) ∙ c1 .before .before .before .before .before .before .next .ensures)
-    (seen (λ x. checkFormula (x .pairs) 64) (c1 .before .before .labels .ensures) (c1 .before .body .ensures) (c1 .check-formula .ensures)
+    (sym (c1 .before .before .before .before .question .given .1)
+    ∙ c1 .before .before .before .before .before .before .next .ensures)
+    (seen (λ x. checkFormula x 64) (c1 .before .before .labels .ensures) (c1 .before .body .ensures)
+    (c1 .check-formula .ensures)
     (c .before .before .enum-told .given .1)) (c .if1 .taken)
 
 enum-known-refusal : tie.Need-enum-known-refusal
@@ -42,16 +44,20 @@ returns-2 : tie.Need-returns-2
 returns-2 c =
     let c1 = c .before .before .before .before in
     whole _ _ _ _ _ _ _ _
-    (sym (c1 .before .before .before .before .question .given .1) ∙ c1 .before .before .before .before .before .before .next .ensures)
-    (seen (λ x. checkFormula (x .pairs) 64) (c1 .before .before .labels .ensures) (c1 .before .body .ensures) (c1 .check-formula .ensures)
+    (sym (c1 .before .before .before .before .question .given .1)
+    ∙ c1 .before .before .before .before .before .before .next .ensures)
+    (seen (λ x. checkFormula x 64) (c1 .before .before .labels .ensures) (c1 .before .body .ensures)
+    (c1 .check-formula .ensures)
     (c .before .before .enum-told .given .1)) (c .if1 .left)
 
 returns-3 : tie.Need-returns-3
 returns-3 c =
     let c1 = c .before .before .before in
     question-refused _ _ _ _ _ _ _ _
-    (sym (c1 .before .before .before .before .question .given .1) ∙ c1 .before .before .before .before .before .before .next .ensures) _
-    (seen (λ x. checkFormula (x .pairs) 64) (c1 .before .before .labels .ensures) (c1 .before .body .ensures) (c1 .check-formula .ensures) (c .before .refusal .given .1))
+    (sym (c1 .before .before .before .before .question .given .1)
+    ∙ c1 .before .before .before .before .before .before .next .ensures) _
+    (seen (λ x. checkFormula x 64) (c1 .before .before .labels .ensures) (c1 .before .body .ensures)
+    (c1 .check-formula .ensures) (c .before .refusal .given .1))
 
 returns-4 : tie.Need-returns-4
 returns-4 c = no-question _ _ _ _ _ _ _ (sym (c .before .refusal2 .given .1) ∙ c .before .before .before .next .ensures)

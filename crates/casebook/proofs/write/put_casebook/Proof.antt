@@ -89,7 +89,8 @@ put-record-requires-5 c κs =
     let c2 = c1 .before .before .before .before in
     let c3 = c2 .before .before .before .before in
     let s = c3 .before .before .before .before .before .before .before .before in (
-      fifth-room (s .args .k) (s .args .left .now) (s .args .right .now) (s .args .run .now) (s .args .question .now)
+      fifth-room (s .args .labels) (s .args .left .now) (s .args .right .now) (s .args .run .now)
+          (s .args .question .now)
           (s .args .out .now) _ _ _ _ (c3 .put-record .ensures) (c2 .put-record2 .ensures) (c1 .put-record3 .ensures)
           (c .before .before .before .put-record4 .ensures) (s .pre .room),
       omega (arith, s .pre .question),
@@ -102,15 +103,15 @@ same-length c =
     let c3 = c2 .before .before .before .before in
     let c4 = c3 .before .before .before .before in
     let s = c4 .before .before .before .before .before .before .before .before in
-    front-length (casebookBytes (s .args .k) (s .args .left .now) (s .args .right .now) (s .args .run .now)
+    front-length (casebookBytes (s .args .labels) (s .args .left .now) (s .args .right .now) (s .args .run .now)
     (s .args .question .now)) (s .args .out .now) _
-    (all-put (s .args .k) (s .args .left .now) (s .args .right .now) (s .args .run .now) (s .args .question .now)
+    (all-put (s .args .labels) (s .args .left .now) (s .args .right .now) (s .args .run .now) (s .args .question .now)
     (s .args .out .now) _ _ _ _ (c4 .put-record .ensures) (c3 .put-record2 .ensures) (c2 .put-record3 .ensures)
     (c1 .put-record4 .ensures) _ (c .before .before .put-record5 .ensures))
     (omega (
       arith,
       s .pre .room,
-      casebook-length (s .args .k) (s .args .left .now) (s .args .right .now) (s .args .run .now)
+      casebook-length (s .args .labels) (s .args .left .now) (s .args .right .now) (s .args .run .now)
           (s .args .question .now),
     ))
 
@@ -121,7 +122,7 @@ returns c =
     let c3 = c2 .before .before .before .before in
     let c4 = c3 .before .before .before .before in
     let s = c4 .before .before .before .before .before .before .before .before in
-    all-put (s .args .k) (s .args .left .now) (s .args .right .now) (s .args .run .now) (s .args .question .now)
+    all-put (s .args .labels) (s .args .left .now) (s .args .right .now) (s .args .run .now) (s .args .question .now)
     (s .args .out .now) _ _ _ _ (c4 .put-record .ensures) (c3 .put-record2 .ensures) (c2 .put-record3 .ensures)
     (c1 .put-record4 .ensures) _ (c .before .before .put-record5 .ensures)
 

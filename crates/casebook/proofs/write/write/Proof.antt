@@ -27,7 +27,8 @@ add-total-2 c =
     let s = c .before .before .before .before .before .before .before .before in
     omega (
       arith,
-      parts-small (s .args .k) (s .args .left .now) (s .args .right .now) (s .args .run .now) (s .args .question .now)
+      parts-small (s .args .labels) (s .args .left .now) (s .args .right .now) (s .args .run .now)
+          (s .args .question .now)
           (sym (c .before .before .check-parts .ensures) ∙ c .enum-told .given .1) (s .args .out .now),
     )
 
@@ -36,7 +37,8 @@ add-total-3 c =
     let s = c .before .before .before .before .before .before .before .before in
     omega (
       arith,
-      parts-small (s .args .k) (s .args .left .now) (s .args .right .now) (s .args .run .now) (s .args .question .now)
+      parts-small (s .args .labels) (s .args .left .now) (s .args .right .now) (s .args .run .now)
+          (s .args .question .now)
           (sym (c .before .before .check-parts .ensures) ∙ c .enum-told .given .1) (s .args .out .now),
     )
 
@@ -45,7 +47,8 @@ add-total-4 c =
     let s = c .before .before .before .before .before .before .before .before in
     omega (
       arith,
-      parts-small (s .args .k) (s .args .left .now) (s .args .right .now) (s .args .run .now) (s .args .question .now)
+      parts-small (s .args .labels) (s .args .left .now) (s .args .right .now) (s .args .run .now)
+          (s .args .question .now)
           (sym (c .before .before .check-parts .ensures) ∙ c .enum-told .given .1) (s .args .out .now),
     )
 
@@ -57,7 +60,7 @@ returns-2 c =
 put-casebook-requires : tie.Need-put-casebook-requires
 put-casebook-requires c κs =
     let s = c .before .before .before .before .before .before .before .before .before .before in
-    let p = parts-small (s .args .k) (s .args .left .now) (s .args .right .now) (s .args .run .now)
+    let p = parts-small (s .args .labels) (s .args .left .now) (s .args .right .now) (s .args .run .now)
     (s .args .question .now)
     (sym (c .before .before .before .before .check-parts .ensures) ∙ c .before .before .enum-told .given .1)
     (s .args .out .now) in

@@ -12,11 +12,12 @@ use Rattle.tables.specs.Working.{movesIn}
 use Rattle.tables.proofs.Searching.{leaving-moves}
 use Rattle.dividing.specs.Working.{aloneIn}
 use Rattle.labels.proofs.Outputs.{front-length}
+use Rattle.labels.specs.declared.label.Labels.{Labels}
 use Rattle.dividing.proofs.Pieces.{joined, one-piece, two-pieces, second-fits, second-length}
 use Rattle.dividing.proofs.Listing.{idle-listed, label-listed, silent-listed, alone-room, listed-fits}
 
 -- the rows that were found have the moves of the state
-rows-are : {k : ℕ} {t : List ℕ} → SoundTable k t → (q : ℕ) (rows : List ℕ)
+rows-are : {k : Labels} {t : List ℕ} → SoundTable k t → (q : ℕ) (rows : List ℕ)
     → (Rising (rowsOf t) → rows ≡ bytesOf (rowsFrom q (rowsOf t))) → movesIn rows ≡ tableOf t q
 rows-are {t = t} s q rows e = leaving-moves t q rows (e (s .rising))
 

@@ -1,12 +1,12 @@
--- The pairs, the question, then the table with its half.
+-- The labels, the question, then the table with its half.
 use borrow.Author.Needs.{needs}
 use Rattle.dividing.proofs.divide.check_division.Statement.{statement}
 use Rattle.dividing.proofs.divide.check_division.Tie as tie
 use mathlib.Core.Path.{sym, _∙_}
-use Rattle.dividing.proofs.Division.{pairs-refused, question-sound, question-refused}
+use Rattle.dividing.proofs.Division.{labels-refused, question-sound, question-refused}
 
-check-pairs-requires : tie.Need-check-pairs-requires
-check-pairs-requires c κs = search needs
+check-requires : tie.Need-check-requires
+check-requires c κs = search needs
 
 enum-told : tie.Need-enum-told
 enum-told c = search needs
@@ -16,7 +16,7 @@ enum-known-refusal c = search needs
 
 returns : tie.Need-returns
 returns c =
-    pairs-refused _ _ _ _ _ (sym (c .before .before .before .check-pairs .ensures) ∙ c .before .refusal .given .1)
+    labels-refused _ _ _ _ _ (sym (c .before .before .before .check .ensures) ∙ c .before .refusal .given .1)
 
 check-formula-requires : tie.Need-check-formula-requires
 check-formula-requires c κs = search needs
@@ -39,14 +39,14 @@ then-requires c κs = search needs
 returns-2 : tie.Need-returns-2
 returns-2 c =
     question-sound _ _ _ _
-    (sym (c .before .before .before .before .before .before .check-pairs .ensures)
+    (sym (c .before .before .before .before .before .before .check .ensures)
     ∙ c .before .before .before .before .enum-told .given .1) _
     (sym (c .before .before .before .check-formula .ensures) ∙ c .before .enum-told2 .given .1) (c .check-half .ensures)
 
 returns-3 : tie.Need-returns-3
 returns-3 c =
     let c1 = c .before .before .before .before .before in
-    question-refused _ _ _ _ (sym (c1 .before .before .before .check-pairs .ensures) ∙ c1 .before .enum-told .given .1)
+    question-refused _ _ _ _ (sym (c1 .before .before .before .check .ensures) ∙ c1 .before .enum-told .given .1)
     _ _ _ (sym (c1 .check-formula .ensures) ∙ c .before .before .before .refusal2 .given .1)
     (c .before .check-table .ensures) (c .then .ensures)
 
@@ -54,7 +54,7 @@ pub check-division-spec : {M : Type 1} → statement M
 check-division-spec =
     tie.close
     (tie.spec
-    check-pairs-requires
+    check-requires
     enum-told
     enum-known-refusal
     returns

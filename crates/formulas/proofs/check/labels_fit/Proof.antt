@@ -4,7 +4,7 @@ use native.Mathlib.Omega.{arith}
 use mathlib.Core.Path.{_≡_, refl, sym, _∙_}
 use lib.ListN.{length}
 use borrow.Author.Tests.{not-true, not-false}
-use Rattle.hml.specs.Labels.{count}
+use Rattle.labels.specs.Labels.{count}
 use Rattle.labels.proofs.Slices.{rest-fewer}
 use Rattle.formulas.specs.Working.{labelsFit}
 use Rattle.formulas.proofs.FormulaLabels.{label-above, label-fits, no-label-left}
@@ -12,7 +12,7 @@ use Rattle.formulas.proofs.check.labels_fit.Statement.{statement}
 use Rattle.formulas.proofs.check.labels_fit.Tie as tie
 
 abbrev Inv-loop : tie.InvT-loop
-Inv-loop labels f rest₀ rest = labelsFit (count (labels .pairs)) f ≡ labelsFit (count (labels .pairs)) rest
+Inv-loop labels f rest₀ rest = labelsFit (count labels) f ≡ labelsFit (count labels) rest
 
 abbrev μ-loop : tie.MeasureT-loop
 μ-loop labels f rest₀ rest = length rest

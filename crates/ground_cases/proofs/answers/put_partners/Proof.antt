@@ -7,16 +7,16 @@ use Rattle.ground_cases.proofs.answers.put_partners.Statement.{statemen
 use Rattle.ground_cases.proofs.answers.put_partners.Tie as tie
 
 abbrev Inv-loop : tie.InvT-loop
-Inv-loop line₀ k labels at₀ code₀ line at code = (code ≤ 256) × (length line ≡ length line₀)
+Inv-loop line₀ labels at₀ code₀ line at code = (code ≤ 256) × (length line ≡ length line₀)
 
 abbrev μ-loop : tie.MeasureT-loop
-μ-loop line₀ k labels at₀ code₀ line at code = 256 - code
+μ-loop line₀ labels at₀ code₀ line at code = 256 - code
 
 loop-holds : tie.Need-loop-holds Inv-loop μ-loop
 loop-holds c = search needs
 
-cast-t10 : tie.Need-cast-t10 Inv-loop μ-loop
-cast-t10 c = search needs
+cast-t9 : tie.Need-cast-t9 Inv-loop μ-loop
+cast-t9 c = search needs
 
 partner-requires : tie.Need-partner-requires Inv-loop μ-loop
 partner-requires c κs = search needs
@@ -46,7 +46,7 @@ put-partners-spec =
     Inv-loop
     μ-loop
     loop-holds
-    cast-t10
+    cast-t9
     partner-requires
     put-partner-requires
     add-code

@@ -1,12 +1,12 @@
--- The pairs, the tables and halves, then whether the halves match.
+-- The labels, the tables and halves, then whether the halves match.
 use borrow.Author.Needs.{needs}
 use Rattle.joining.proofs.join.check_halves.Statement.{statement}
 use Rattle.joining.proofs.join.check_halves.Tie as tie
 use mathlib.Core.Path.{sym, _∙_}
-use Rattle.joining.proofs.JoinCalls.{runs-bytes, pairs-refuse, runs-refuse, halves-sound, halves-refused}
+use Rattle.joining.proofs.JoinCalls.{runs-bytes, labels-refuse, runs-refuse, halves-sound, halves-refused}
 
-check-pairs-requires : tie.Need-check-pairs-requires
-check-pairs-requires c κs = search needs
+check-requires : tie.Need-check-requires
+check-requires c κs = search needs
 
 enum-told : tie.Need-enum-told
 enum-told c = search needs
@@ -16,7 +16,7 @@ enum-known-refusal c = search needs
 
 returns : tie.Need-returns
 returns c =
-    pairs-refuse _ _ _ _ _ _ (sym (c .before .before .before .check-pairs .ensures) ∙ c .before .refusal .given .1)
+    labels-refuse _ _ _ _ _ _ (sym (c .before .before .before .check .ensures) ∙ c .before .refusal .given .1)
 
 check-runs-requires : tie.Need-check-runs-requires
 check-runs-requires c κs = search needs
@@ -32,8 +32,8 @@ returns-2 c =
     let c3 = c .before .before .before in
     let c4 = c3 .before in
     let c6 = c4 .before .before in
-    let pairs = sym (c6 .check-pairs .ensures) ∙ c4 .enum-told .given .1 in
-    runs-refuse _ _ _ _ _ pairs _ (sym (c3 .check-runs .ensures) ∙ c .before .refusal2 .given .1)
+    let labels = sym (c6 .check .ensures) ∙ c4 .enum-told .given .1 in
+    runs-refuse _ _ _ _ _ labels _ (sym (c3 .check-runs .ensures) ∙ c .before .refusal2 .given .1)
 
 halves-match-requires : tie.Need-halves-match-requires
 halves-match-requires c κs =
@@ -44,24 +44,24 @@ returns-3 c =
     let c4 = c .before .before .before .before in
     let c5 = c4 .before in
     let c7 = c5 .before .before in
-    let pairs = sym (c7 .check-pairs .ensures) ∙ c5 .enum-told .given .1 in
+    let labels = sym (c7 .check .ensures) ∙ c5 .enum-told .given .1 in
     let runs = sym (c4 .check-runs .ensures) ∙ c .before .before .enum-told2 .given .1 in
-    halves-sound _ _ _ _ _ pairs runs (sym (c .before .halves-match .ensures) ∙ c .if1 .taken)
+    halves-sound _ _ _ _ _ labels runs (sym (c .before .halves-match .ensures) ∙ c .if1 .taken)
 
 returns-4 : tie.Need-returns-4
 returns-4 c =
     let c4 = c .before .before .before .before in
     let c5 = c4 .before in
     let c7 = c5 .before .before in
-    let pairs = sym (c7 .check-pairs .ensures) ∙ c5 .enum-told .given .1 in
+    let labels = sym (c7 .check .ensures) ∙ c5 .enum-told .given .1 in
     let runs = sym (c4 .check-runs .ensures) ∙ c .before .before .enum-told2 .given .1 in
-    halves-refused _ _ _ _ _ pairs runs (sym (c .before .halves-match .ensures) ∙ c .if1 .left)
+    halves-refused _ _ _ _ _ labels runs (sym (c .before .halves-match .ensures) ∙ c .if1 .left)
 
 pub check-halves-spec : {M : Type 1} → statement M
 check-halves-spec =
     tie.close
     (tie.spec
-    check-pairs-requires
+    check-requires
     enum-told
     enum-known-refusal
     returns

@@ -9,7 +9,7 @@ use Rattle.joining.proofs.join.halves_match.Statement.{statement}
 use Rattle.joining.proofs.join.halves_match.Tie as tie
 
 abbrev Inv-loop : tie.InvT-loop
-Inv-loop labels left right i₀ i = Matching (labels .pairs) left right i
+Inv-loop labels left right i₀ i = Matching labels left right i
 
 abbrev μ-loop : tie.MeasureT-loop
 μ-loop labels left right i₀ i = length left / 2 - i

@@ -1,6 +1,5 @@
 -- What each half has at i.
 use mathlib.Core.Path.{sym, _∙_}
-use Rattle.labels.specs.Labels.{pairing}
 use Rattle.joining.proofs.Joined.{both-read, left-read, right-read, none-read}
 use borrow.Author.Needs.{needs}
 use Rattle.joining.proofs.join.label_at.Statement.{statement}
@@ -37,7 +36,6 @@ enum-told-4 : tie.Need-enum-told-4
 enum-told-4 c = search needs
 
 returns : tie.Need-returns
-unfolding pairing
 returns c =
     let c4 = c .before .before .before .before in
     let c6 = c4 .before .before in

@@ -19,7 +19,7 @@ use Rattle.joining.proofs.join.write_run.Statement.{statement}
 use Rattle.joining.proofs.join.write_run.Tie as tie
 
 abbrev Inv-loop : tie.InvT-loop
-Inv-loop labels left right out₀ i₀ out i = Joining (labels .pairs) left right out₀ out i
+Inv-loop labels left right out₀ i₀ out i = Joining labels left right out₀ out i
 
 abbrev μ-loop : tie.MeasureT-loop
 μ-loop labels left right out₀ i₀ out i = length left / 2 - i

@@ -5,14 +5,13 @@ use Prim.Native.Nat.{_-_, _/_}
 use lib.ListN.{length}
 use borrow.Author.Needs.{needs}
 use borrow.Author.Tests.{not-true, not-false}
-use Rattle.labels.specs.Labels.{pairing}
 use Rattle.machines.proofs.Steps.{step-found}
 use Rattle.machines.proofs.Joints.{Walked, walked-start, left-out, right-out, walked-end, walked-stop, walked-on}
 use Rattle.machines.proofs.joint.is_joint_run.Statement.{statement}
 use Rattle.machines.proofs.joint.is_joint_run.Tie as tie
 
 abbrev Inv-loop : tie.InvT-loop
-Inv-loop labels left right run i₀ i = Walked (labels .pairs) left right run i
+Inv-loop labels left right run i₀ i = Walked labels left right run i
 
 abbrev μ-loop : tie.MeasureT-loop
 μ-loop labels left right run i₀ i = length run / 3 - i
@@ -50,7 +49,6 @@ is-real-requires c κs =
     at-loop .before .before .before .before .before .before .before .before .before .before .pre .0
 
 returns-3 : tie.Need-returns-3 Inv-loop μ-loop
-unfolding pairing
 returns-3 c =
     let c3 = c .before .before .before in
     let c5 = c3 .before .before in
@@ -84,7 +82,6 @@ loop-less c =
     omega (arith, step-found _ _ _ (sym (c3 .step .given .1) ∙ c5 .joint-step .ensures) .within)
 
 loop-again : tie.Need-loop-again Inv-loop μ-loop
-unfolding pairing
 loop-again c =
     let c3 = c .before .before .before in
     let c5 = c3 .before .before in

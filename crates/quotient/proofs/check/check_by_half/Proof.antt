@@ -1,12 +1,12 @@
--- The pairs; the halves' checks decide where nothing asked is refused; else the tables, then what is asked.
+-- The labels; the halves' checks decide where nothing asked is refused; else the tables, then what is asked.
 use borrow.Author.Needs.{needs}
 use Rattle.quotient.proofs.check.check_by_half.Statement.{statement}
 use Rattle.quotient.proofs.check.check_by_half.Tie as tie
 use mathlib.Core.Path.{sym, _∙_}
-use Rattle.quotient.proofs.Judging.{pairs-decide, halves-decide, asked-decides}
+use Rattle.quotient.proofs.Judging.{labels-decide, halves-decide, asked-decides}
 
-check-pairs-requires : tie.Need-check-pairs-requires
-check-pairs-requires c κs = search needs
+check-requires : tie.Need-check-requires
+check-requires c κs = search needs
 
 enum-told : tie.Need-enum-told
 enum-told c = search needs
@@ -16,8 +16,8 @@ enum-known-refusal c = search needs
 
 returns : tie.Need-returns
 returns c =
-    pairs-decide _ _ _ _ _ _ _ _ _
-    (sym (c .before .before .before .check-pairs .ensures) ∙ c .before .refusal .given .1)
+    labels-decide _ _ _ _ _ _ _ _ _
+    (sym (c .before .before .before .check .ensures) ∙ c .before .refusal .given .1)
 
 check-asked-requires : tie.Need-check-asked-requires
 check-asked-requires c κs = search needs
@@ -52,7 +52,7 @@ returns-3 : tie.Need-returns-3
 returns-3 c =
     let c1 = c .before .before .before .before .before in
     asked-decides _ _ _ _ _ _ _ _
-    (sym (c1 .before .before .before .before .before .check-pairs .ensures)
+    (sym (c1 .before .before .before .before .before .check .ensures)
     ∙ c1 .before .before .before .enum-told .given .1) _
     (sym (c1 .before .before .check-asked .ensures) ∙ c1 .refusal2 .given .1)
     (c .before .before .before .check-table .ensures) (c .before .before .check-table2 .ensures)
@@ -62,7 +62,7 @@ pub check-by-half-spec : {M : Type 1} → statement M
 check-by-half-spec =
     tie.close
     (tie.spec
-    check-pairs-requires
+    check-requires
     enum-told
     enum-known-refusal
     returns

@@ -1,15 +1,15 @@
--- The pairs, what is asked and the split decide, or the division by the known half, cut at the point, of the splitting.
+-- The labels, what is asked and the split decide, or the division by the known half, cut at the point, of the splitting.
 use borrow.Author.Needs.{needs}
 use Rattle.quotient.proofs.number.by_number.Statement.{statement}
 use Rattle.quotient.proofs.number.by_number.Tie as tie
 use native.Mathlib.Omega.{arith}
 use mathlib.Core.Path.{sym, _∙_}
 use lib.Seq.{length-take-le}
-use Rattle.quotient.proofs.QuotientCalls.{pairs-refuse, asked-log-refuses, split-refuses, halves-room}
+use Rattle.quotient.proofs.QuotientCalls.{labels-refuse, asked-log-refuses, split-refuses, halves-room}
 use Rattle.quotient.proofs.QuotientCalls.{by-number-divided}
 
-check-pairs-requires : tie.Need-check-pairs-requires
-check-pairs-requires c κs = search needs
+check-requires : tie.Need-check-requires
+check-requires c κs = search needs
 
 enum-told : tie.Need-enum-told
 enum-told c = search needs
@@ -19,7 +19,7 @@ enum-known-refusal c = search needs
 
 returns : tie.Need-returns
 returns c =
-    pairs-refuse _ _ _ _ _ _ _ _ (sym (c .before .before .before .check-pairs .ensures) ∙ c .before .refusal .given .1)
+    labels-refuse _ _ _ _ _ _ _ _ (sym (c .before .before .before .check .ensures) ∙ c .before .refusal .given .1)
     _ _
 
 check-asked-log-requires : tie.Need-check-asked-log-requires
@@ -130,7 +130,7 @@ pub by-number-spec : {M : Type 1} → statement M
 by-number-spec =
     tie.close
     (tie.spec
-    check-pairs-requires
+    check-requires
     enum-told
     enum-known-refusal
     returns

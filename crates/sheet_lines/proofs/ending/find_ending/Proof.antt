@@ -22,7 +22,7 @@ slice-reshare-prefix-put-fields c =
     .before in
     omega (
       arith,
-      text-told (s .args .k) _ _ _ _ 0 _ _ (s .pre .1 .1 .0) _
+      text-told (s .args .labels) _ _ _ _ 0 _ _ (s .pre .1 .1 .0) _
           (sym (quotient-text .ensures .0) ∙ c .before .n .given .1) _ (quotient-text .ensures .1),
       s .pre .1 .1 .0,
       quotient-text .kept,
@@ -36,7 +36,7 @@ slice-aggregate-put-fields c =
     sym (length-take-le _ _
     (omega (
       arith,
-      text-told (s .args .k) _ _ _ _ 0 _ _ (s .pre .1 .1 .0) _
+      text-told (s .args .labels) _ _ _ _ 0 _ _ (s .pre .1 .1 .0) _
           (sym (quotient-text .ensures .0) ∙ c .before .before .n .given .1) _ (quotient-text .ensures .1),
       s .pre .1 .1 .0,
       quotient-text .kept,
@@ -51,7 +51,7 @@ put-fields-requires c κs =
     omega (
       arith,
       length-take (n .given .0 .0) (quotient-text .last .1 .1 .1 .1 .1 .1 .1 .1 .0),
-      text-told (s .args .k) _ _ _ _ 0 _ _ (s .pre .1 .1 .0) _ (sym (quotient-text .ensures .0) ∙ n .given .1) _
+      text-told (s .args .labels) _ _ _ _ 0 _ _ (s .pre .1 .1 .0) _ (sym (quotient-text .ensures .0) ∙ n .given .1) _
           (quotient-text .ensures .1),
       s .pre .1 .1,
     )
@@ -74,7 +74,7 @@ returns c =
     let c2 = c1 .before .before .before .before in
     let c3 = c2 .before .before .before .before in
     let s = c3 .before .before .before .before .before .before .before .before .before in
-    let x = fields-ending (s .args .k) _ _ _ _ (s .args .letter) _ _ (s .pre .1 .1 .0) _ _ (s .pre .1 .1 .1) _ _
+    let x = fields-ending (s .args .labels) _ _ _ _ (s .args .letter) _ _ (s .pre .1 .1 .0) _ _ (s .pre .1 .1 .1) _ _
     (sym (c3 .quotient-text .ensures .0) ∙ c2 .n .given .1) _ (c3 .quotient-text .ensures .1)
     (c1 .put-fields .ensures .0) (c1 .put-fields .ensures .1) in
     (x .0, (x .1, x .2))
@@ -91,7 +91,7 @@ returns-2 c =
     let c2 = c1 .before .before .before in
     let c3 = c2 .before .before .before .before in
     let s = c3 .before .before .before .before .before .before .before .before .before in
-    let x = refusal-ending (s .args .k) _ _ _ _ (s .args .letter) _ (s .args .text .now) (s .pre .1 .1 .0) _ _
+    let x = refusal-ending (s .args .labels) _ _ _ _ (s .args .letter) _ (s .args .text .now) (s .pre .1 .1 .0) _ _
     (s .pre .1 .1 .1) _ (c2 .refusal .given .0 .0) (sym (c3 .quotient-text .ensures .0) ∙ c2 .refusal .given .1)
     (c1 .put-refusal .ensures .0) (c1 .put-refusal .ensures .1) in
     (x .0, (x .1, x .2))

@@ -78,13 +78,13 @@ write-point-requires c κs =
     let n = s .pre .0 in
     let inv = loop .inv in
     let h : loop .i < s .args .first + s .args .due = omega arith in
-    let until = until-within (s .args .k) _ _ _ _ _ n _ _ (s .pre .1) _ h _
+    let until = until-within (s .args .labels) _ _ _ _ _ n _ _ (s .pre .1) _ h _
     (c .before .before .before .before .before .before .smaller .ensures) in (
       n .asked,
       (
         (
           c .before .before .before .before .before .before .before .before .before .back-depth .ensures .0,
-          point-within (s .args .k) _ _ _ _ _ n _ _ (s .pre .1) _ h,
+          point-within (s .args .labels) _ _ _ _ _ n _ _ (s .pre .1) _ h,
         ),
         (
           (until .0, until .1, rw (← n .counted) (n .few)),
@@ -101,7 +101,7 @@ sub-i c =
     let s = c .before .before .before .before .before .before .before .before .before .before .before .before .before
     .before .before .before .before .before .before .before .before .before in
     let h : loop .i < s .args .first + s .args .due = omega arith in
-    reached (s .args .k) _ _ _ _ _ (s .pre .0) _ _ (s .pre .1) _ h _
+    reached (s .args .labels) _ _ _ _ _ (s .pre .0) _ _ (s .pre .1) _ h _
     (c .before .before .before .before .before .before .before .before .before .before .before .before .before .smaller
     .ensures) _ _ _ _ _ _ (loop .inv .0) (c .before .before .before .before .before .before .write-point .ensures .0) .0
 
@@ -117,7 +117,7 @@ add-i c =
       arith,
       s .pre .1,
       sheet-small _ _ _ _ _ _ (s .pre .0),
-      next-within (s .args .k) _ _ _ _ _ (s .pre .0) _ _ (s .pre .1) _ h _
+      next-within (s .args .labels) _ _ _ _ _ (s .pre .0) _ _ (s .pre .1) _ h _
           (c .before .before .before .before .before .before .before .before .before .before .before .before .before
           .smaller .ensures) _ _ _ _ _ _ (loop .inv .0)
           (c .before .before .before .before .before .before .write-point .ensures .0),
@@ -137,7 +137,7 @@ returns c =
     let s = c .before .before .before .before .before .before .before .before .before .before .before .before .before
     .before .before .before .before .before .before .before .before .before .before .before in
     let h : loop .i < s .args .first + s .args .due = omega arith in
-    point-full (s .args .k) _ _ _ _ _ (s .pre .0) _ _ (s .pre .1) _ h _
+    point-full (s .args .labels) _ _ _ _ _ (s .pre .0) _ _ (s .pre .1) _ h _
     (c .before .before .before .before .before .before .before .before .before .before .before .before .before .before
     .before .smaller .ensures) _ _ _ _ _ _ (loop .inv .0)
     (c .before .before .before .before .before .before .before .before .write-point .ensures .0) (omega arith)
@@ -151,7 +151,7 @@ loop-less c =
     < s .args .first + s .args .due = omega arith in
     omega (
       arith,
-      lines-within (s .args .k) _ _ _ _ _ (s .pre .0) _ _ (s .pre .1) _ h _
+      lines-within (s .args .labels) _ _ _ _ _ (s .pre .0) _ _ (s .pre .1) _ h _
           (c .before .before .before .before .before .before .before .before .before .before .before .before .before
           .before .before .smaller .ensures),
     )
@@ -163,7 +163,7 @@ loop-again c =
     let h : c .before .before .before .before .before .before .before .before .before .before .before .before .before
     .before .before .before .before .loop .i
     < s .args .first + s .args .due = omega arith in (
-      point-done (s .args .k) _ _ _ _ _ (s .pre .0) _ _ (s .pre .1) _ h _
+      point-done (s .args .labels) _ _ _ _ _ (s .pre .0) _ _ (s .pre .1) _ h _
           (c .before .before .before .before .before .before .before .before .before .before .before .before .before
           .before .before .smaller .ensures) _ _ _ _ _ _
           (c .before .before .before .before .before .before .before .before .before .before .before .before .before
@@ -182,7 +182,7 @@ same-length-2 c = kept _ _ _ _ _ _ _ _ (c .before .loop .inv .0)
 returns-2 : tie.Need-returns-2 Inv-loop μ-loop
 returns-2 c =
     let s = c .before .before .before .before .before .before .before .before in
-    sheet-full (s .args .k) _ _ _ _ _ (s .pre .0) _ _ (s .pre .1) _ _ _ _ (c .before .loop .inv .0) (omega arith)
+    sheet-full (s .args .labels) _ _ _ _ _ (s .pre .0) _ _ (s .pre .1) _ _ _ _ (c .before .loop .inv .0) (omega arith)
 
 pub fill-spec : {M : Type 1} → statement M
 fill-spec =

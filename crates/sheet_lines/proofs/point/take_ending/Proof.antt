@@ -56,10 +56,10 @@ copy-requires c κs =
     omega (
       arith,
       ap length (standing-bytes
-          (endingIn (s .args .k) (s .args .left .now) (s .args .right .now) (s .args .window .now)
+          (endingIn (s .args .labels) (s .args .left .now) (s .args .right .now) (s .args .window .now)
           (s .args .question .now) (s .args .point .letter)) _ _ _ _ _ _ (s .pre .1 .1 .1) (s .pre .0 .0)
           (c .before .before .before .if2 .taken)),
-      (ending-short (s .args .k) (s .args .left .now) (s .args .right .now) (s .args .window .now)
+      (ending-short (s .args .labels) (s .args .left .now) (s .args .right .now) (s .args .window .now)
           (s .args .question .now) (s .args .point .letter) (s .args .t)),
       rest-length 12 (s .args .line .now),
       s .pre .1 .1 .0 .lineSize,
@@ -74,7 +74,8 @@ returns c =
     let s = c1 .before .before .before .before .before .before .before .before .before .before .before .before .before
     .before .before in
     let b = (standing-bytes
-    (endingIn (s .args .k) (s .args .left .now) (s .args .right .now) (s .args .window .now) (s .args .question .now)
+    (endingIn (s .args .labels) (s .args .left .now) (s .args .right .now) (s .args .window .now)
+    (s .args .question .now)
     (s .args .point .letter)) _ _ _ _ _ _ (s .pre .1 .1 .1) (s .pre .0 .0)
     (c1 .before .before .before .before .if2 .taken)) in
     let z = c1 .copy .ensures .0 ∙ ap length b in (
@@ -84,14 +85,14 @@ returns c =
             (omega (
               arith,
               ap length b,
-              (ending-short (s .args .k) (s .args .left .now) (s .args .right .now) (s .args .window .now)
+              (ending-short (s .args .labels) (s .args .left .now) (s .args .right .now) (s .args .window .now)
                   (s .args .question .now) (s .args .point .letter) (s .args .t)),
               s .pre .1 .1 .0 .lineSize,
             )) (c1 .copy .ensures .1) ∙ b,
         omega (
           arith,
           z,
-          (ending-short (s .args .k) (s .args .left .now) (s .args .right .now) (s .args .window .now)
+          (ending-short (s .args .labels) (s .args .left .now) (s .args .right .now) (s .args .window .now)
               (s .args .question .now) (s .args .point .letter) (s .args .t)),
         ),
       ),

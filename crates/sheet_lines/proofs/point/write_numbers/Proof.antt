@@ -105,7 +105,7 @@ remember-requires c κs =
     let s = c .before .before .before .before .before .before .before .before .before .before .before .before .before
     .before .before .before .before .before .before .before .before .before .before .before .before .before .before
     .before .before .before .before in (
-      ending-within (s .args .k) (s .args .left .now) (s .args .right .now) (s .args .window .now)
+      ending-within (s .args .labels) (s .args .left .now) (s .args .right .now) (s .args .window .now)
           (s .args .question .now) (s .args .point) _ _ _ _ _ _ _ _ _ _ _ _ (take-ending .ensures .1 .0) (loop .inv .1)
           (omega (arith, loop .inv .0 .room, kept _ _ _ _ _ _ _ _ (loop .inv .0)))
           (omega (
@@ -159,7 +159,8 @@ returns c =
     let s = c .before .before .before .before .before .before .before .before .before .before .before .before .before
     .before .before .before .before .before .before .before .before .before .before .before .before .before .before
     .before .before .before .before .before .before in (
-      turn-full (s .args .k) (s .args .left .now) (s .args .right .now) (s .args .window .now) (s .args .question .now)
+      turn-full (s .args .labels) (s .args .left .now) (s .args .right .now) (s .args .window .now)
+          (s .args .question .now)
           (s .args .point) _ _ _ _ _ _ _ _ _ _ _ _ (take-ending .ensures .1 .0) (loop .inv .1)
           (omega (arith, loop .inv .0 .room, kept _ _ _ _ _ _ _ _ (loop .inv .0)))
           (omega (
@@ -195,7 +196,7 @@ loop-again : tie.Need-loop-again Inv-loop μ-loop
 loop-again c = (
   turn-done (c .before .before .before .before .before .before .before .before .before .before .before .before .before
       .before .before .before .before .before .before .before .before .before .before .before .before .before .before
-      .before .before .before .before .before .before .args .k)
+      .before .before .before .before .before .before .args .labels)
       (c .before .before .before .before .before .before .before .before .before .before .before .before .before .before
       .before .before .before .before .before .before .before .before .before .before .before .before .before .before
       .before .before .before .before .before .args .left .now)
@@ -246,7 +247,7 @@ loop-again c = (
       )),
   turn-known (c .before .before .before .before .before .before .before .before .before .before .before .before .before
       .before .before .before .before .before .before .before .before .before .before .before .before .before .before
-      .before .before .before .before .before .before .args .k)
+      .before .before .before .before .before .before .args .labels)
       (c .before .before .before .before .before .before .before .before .before .before .before .before .before .before
       .before .before .before .before .before .before .before .before .before .before .before .before .before .before
       .before .before .before .before .before .args .left .now)

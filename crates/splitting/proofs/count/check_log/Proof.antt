@@ -1,12 +1,12 @@
--- The pairs decide, or the tables and the run.
+-- The labels decide, or the tables and the run.
 use borrow.Author.Needs.{needs}
 use Rattle.splitting.proofs.count.check_log.Statement.{statement}
 use Rattle.splitting.proofs.count.check_log.Tie as tie
 use mathlib.Core.Path.{sym, _∙_}
-use Rattle.splitting.proofs.SplitCalls.{pairs-refused, pairs-sound}
+use Rattle.splitting.proofs.SplitCalls.{labels-refused, labels-sound}
 
-check-pairs-requires : tie.Need-check-pairs-requires
-check-pairs-requires c κs = search needs
+check-requires : tie.Need-check-requires
+check-requires c κs = search needs
 
 enum-told : tie.Need-enum-told
 enum-told c = search needs
@@ -19,18 +19,18 @@ enum-known-refusal c = search needs
 
 returns : tie.Need-returns
 returns c =
-    pairs-sound _ _ _ _ (sym (c .before .before .before .check-pairs .ensures) ∙ c .before .enum-told .given .1) _
+    labels-sound _ _ _ _ (sym (c .before .before .before .check .ensures) ∙ c .before .enum-told .given .1) _
     (c .check-joint .ensures)
 
 returns-2 : tie.Need-returns-2
 returns-2 c =
-    pairs-refused _ _ _ _ _ (sym (c .before .before .before .check-pairs .ensures) ∙ c .before .refusal .given .1)
+    labels-refused _ _ _ _ _ (sym (c .before .before .before .check .ensures) ∙ c .before .refusal .given .1)
 
 pub check-log-spec : {M : Type 1} → statement M
 check-log-spec =
     tie.close
     (tie.spec
-    check-pairs-requires
+    check-requires
     enum-told
     check-joint-requires
     enum-known-refusal

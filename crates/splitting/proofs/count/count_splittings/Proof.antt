@@ -18,7 +18,7 @@ use Rattle.splitting.proofs.count.count_splittings.Tie as tie
 
 abbrev Inv-loop : tie.InvT-loop
 Inv-loop labels left right run splittings₀ i₀ splittings i =
-    (i ≤ length run / 3) × CountedTo (labels .pairs) left right run i splittings
+    (i ≤ length run / 3) × CountedTo labels left right run i splittings
 
 abbrev μ-loop : tie.MeasureT-loop
 μ-loop labels left right run splittings₀ i₀ splittings i = length run / 3 - i

@@ -23,11 +23,11 @@ write-halves-requires c κs =
     let e = sym (c .before .before .before .before .check-split .ensures) ∙ c .before .before .enum-told .given .1 in
     (split-log _ _ _ _ _ _ _ e, (split-below _ _ _ _ _ _ _ e, split-room _ _ _ _ _ _ _ e))
 
-mul-t19 : tie.Need-mul-t19
-mul-t19 c = search needs
+mul-t18 : tie.Need-mul-t18
+mul-t18 c = search needs
 
-add-t20 : tie.Need-add-t20
-add-t20 c = search needs
+add-t19 : tie.Need-add-t19
+add-t19 c = search needs
 
 same-length : tie.Need-same-length
 same-length c = search needs
@@ -51,8 +51,8 @@ split-spec =
     enum-known-refusal
     returns
     write-halves-requires
-    mul-t19
-    add-t20
+    mul-t18
+    add-t19
     same-length
     same-length-2
     returns-2)

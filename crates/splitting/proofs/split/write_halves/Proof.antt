@@ -19,7 +19,7 @@ use Rattle.splitting.proofs.split.write_halves.Tie as tie
 
 abbrev Inv-loop : tie.InvT-loop
 Inv-loop labels left right run number left-out₀ right-out₀ n₀ i₀ left-out right-out n i =
-    Unrolled (labels .pairs) left right run number left-out₀ right-out₀ i n left-out right-out
+    Unrolled labels left right run number left-out₀ right-out₀ i n left-out right-out
 
 abbrev μ-loop : tie.MeasureT-loop
 μ-loop labels left right run number left-out₀ right-out₀ n₀ i₀ left-out right-out n i = i

@@ -9,7 +9,7 @@ use Rattle.tables.proofs.check.check_rows.Statement.{statement}
 use Rattle.tables.proofs.check.check_rows.Tie as tie
 
 abbrev Inv-loop : tie.InvT-loop
-Inv-loop labels states table rows leaving₀ i₀ leaving i = Going (labels .pairs) states table i leaving
+Inv-loop labels states table rows leaving₀ i₀ leaving i = Going labels states table i leaving
 
 abbrev μ-loop : tie.MeasureT-loop
 μ-loop labels states table rows leaving₀ i₀ leaving i = rows - i

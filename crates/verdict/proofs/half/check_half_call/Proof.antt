@@ -1,12 +1,12 @@
--- The pairs, the other parts, then the point, then the half.
+-- The labels, the other parts, then the point, then the half.
 use borrow.Author.Needs.{needs}
 use Rattle.verdict.proofs.half.check_half_call.Statement.{statement}
 use Rattle.verdict.proofs.half.check_half_call.Tie as tie
 use mathlib.Core.Path.{sym, _∙_}
-use Rattle.verdict.proofs.Calls.{half-refused, half-beyond, half-judged, pairs-refused, pairs-sound}
+use Rattle.verdict.proofs.Calls.{half-refused, half-beyond, half-judged, labels-refused, labels-sound}
 
-check-pairs-requires : tie.Need-check-pairs-requires
-check-pairs-requires c κs = search needs
+check-requires : tie.Need-check-requires
+check-requires c κs = search needs
 
 enum-told : tie.Need-enum-told
 enum-told c = search needs
@@ -16,8 +16,8 @@ enum-known-refusal c = search needs
 
 returns : tie.Need-returns
 returns c =
-    let pairs = sym (c .before .before .before .check-pairs .ensures) ∙ c .before .refusal .given .1 in
-    half-refused _ _ _ _ _ _ (pairs-refused _ _ _ pairs)
+    let labels = sym (c .before .before .before .check .ensures) ∙ c .before .refusal .given .1 in
+    half-refused _ _ _ _ _ _ (labels-refused _ _ _ labels)
 
 check-table-requires : tie.Need-check-table-requires
 check-table-requires c κs = search needs
@@ -43,8 +43,8 @@ returns-2 c =
     let e = j .before in
     let p = e .before .before in
     let parts = rw (j .check-table .ensures, f .check-formula .ensures) at (t .then .ensures) in
-    let pairs = sym (p .check-pairs .ensures) ∙ e .enum-told .given .1 in
-    half-refused _ _ _ _ _ _ (pairs-sound _ _ _ pairs (sym parts ∙ b .parts .given .1))
+    let labels = sym (p .check .ensures) ∙ e .enum-told .given .1 in
+    half-refused _ _ _ _ _ _ (labels-sound _ _ _ labels (sym parts ∙ b .parts .given .1))
 
 is-beyond-requires : tie.Need-is-beyond-requires
 is-beyond-requires c κs = search needs
@@ -58,8 +58,8 @@ returns-3 c =
     let e = j .before in
     let p = e .before .before in
     let parts = rw (j .check-table .ensures, f .check-formula .ensures) at (t .then .ensures) in
-    let pairs = sym (p .check-pairs .ensures) ∙ e .enum-told .given .1 in
-    half-beyond _ _ _ _ _ (pairs-sound _ _ _ pairs (sym parts ∙ b .enum-told2 .given .1))
+    let labels = sym (p .check .ensures) ∙ e .enum-told .given .1 in
+    half-beyond _ _ _ _ _ (labels-sound _ _ _ labels (sym parts ∙ b .enum-told2 .given .1))
     (sym (c .before .is-beyond .ensures) ∙ c .if1 .taken)
 
 check-half-requires : tie.Need-check-half-requires
@@ -74,15 +74,15 @@ returns-4 c =
     let e = j .before in
     let p = e .before .before in
     let parts = rw (j .check-table .ensures, f .check-formula .ensures) at (t .then .ensures) in
-    let pairs = sym (p .check-pairs .ensures) ∙ e .enum-told .given .1 in
-    half-judged _ _ _ _ _ (pairs-sound _ _ _ pairs (sym parts ∙ b .enum-told2 .given .1))
+    let labels = sym (p .check .ensures) ∙ e .enum-told .given .1 in
+    half-judged _ _ _ _ _ (labels-sound _ _ _ labels (sym parts ∙ b .enum-told2 .given .1))
     (sym (c .before .before .is-beyond .ensures) ∙ c .before .if1 .left) _ (c .check-half .ensures)
 
 pub check-half-call-spec : {M : Type 1} → statement M
 check-half-call-spec =
     tie.close
     (tie.spec
-    check-pairs-requires
+    check-requires
     enum-told
     enum-known-refusal
     returns

@@ -1,12 +1,12 @@
--- The pairs, the other parts, then the point.
+-- The labels, the other parts, then the point.
 use borrow.Author.Needs.{needs}
 use Rattle.verdict.proofs.joint.check_joint_call.Statement.{statement}
 use Rattle.verdict.proofs.joint.check_joint_call.Tie as tie
 use mathlib.Core.Path.{sym, _∙_}
-use Rattle.verdict.proofs.Calls.{joint-refused, joint-beyond, joint-sound, pairs-refused, pairs-sound}
+use Rattle.verdict.proofs.Calls.{joint-refused, joint-beyond, joint-sound, labels-refused, labels-sound}
 
-check-pairs-requires : tie.Need-check-pairs-requires
-check-pairs-requires c κs = search needs
+check-requires : tie.Need-check-requires
+check-requires c κs = search needs
 
 enum-told : tie.Need-enum-told
 enum-told c = search needs
@@ -16,8 +16,8 @@ enum-known-refusal c = search needs
 
 returns : tie.Need-returns
 returns c =
-    let pairs = sym (c .before .before .before .check-pairs .ensures) ∙ c .before .refusal .given .1 in
-    joint-refused _ _ _ _ _ _ _ (pairs-refused _ _ _ pairs)
+    let labels = sym (c .before .before .before .check .ensures) ∙ c .before .refusal .given .1 in
+    joint-refused _ _ _ _ _ _ _ (labels-refused _ _ _ labels)
 
 check-joint-requires : tie.Need-check-joint-requires
 check-joint-requires c κs = search needs
@@ -43,8 +43,8 @@ returns-2 c =
     let e = j .before in
     let p = e .before .before in
     let parts = rw (j .check-joint .ensures, f .check-formula .ensures) at (t .then .ensures) in
-    let pairs = sym (p .check-pairs .ensures) ∙ e .enum-told .given .1 in
-    joint-refused _ _ _ _ _ _ _ (pairs-sound _ _ _ pairs (sym parts ∙ b .parts .given .1))
+    let labels = sym (p .check .ensures) ∙ e .enum-told .given .1 in
+    joint-refused _ _ _ _ _ _ _ (labels-sound _ _ _ labels (sym parts ∙ b .parts .given .1))
 
 returns-3 : tie.Need-returns-3
 returns-3 c =
@@ -55,8 +55,8 @@ returns-3 c =
     let e = j .before in
     let p = e .before .before in
     let parts = rw (j .check-joint .ensures, f .check-formula .ensures) at (t .then .ensures) in
-    let pairs = sym (p .check-pairs .ensures) ∙ e .enum-told .given .1 in
-    joint-beyond _ _ _ _ _ _ (pairs-sound _ _ _ pairs (sym parts ∙ b .enum-told2 .given .1)) (c .if1 .taken)
+    let labels = sym (p .check .ensures) ∙ e .enum-told .given .1 in
+    joint-beyond _ _ _ _ _ _ (labels-sound _ _ _ labels (sym parts ∙ b .enum-told2 .given .1)) (c .if1 .taken)
 
 returns-4 : tie.Need-returns-4
 returns-4 c =
@@ -67,14 +67,14 @@ returns-4 c =
     let e = j .before in
     let p = e .before .before in
     let parts = rw (j .check-joint .ensures, f .check-formula .ensures) at (t .then .ensures) in
-    let pairs = sym (p .check-pairs .ensures) ∙ e .enum-told .given .1 in
-    joint-sound _ _ _ _ _ _ (pairs-sound _ _ _ pairs (sym parts ∙ b .enum-told2 .given .1)) (c .if1 .left)
+    let labels = sym (p .check .ensures) ∙ e .enum-told .given .1 in
+    joint-sound _ _ _ _ _ _ (labels-sound _ _ _ labels (sym parts ∙ b .enum-told2 .given .1)) (c .if1 .left)
 
 pub check-joint-call-spec : {M : Type 1} → statement M
 check-joint-call-spec =
     tie.close
     (tie.spec
-    check-pairs-requires
+    check-requires
     enum-told
     enum-known-refusal
     returns

@@ -1,20 +1,28 @@
 -- The byte is there, or the record begins past the end.
-use mathlib.Core.Path.{refl}
+use mathlib.Core.Path.{_∙_}
 use Rattle.casebook.specs.Records.{labelsOf}
 use Rattle.casebook.proofs.Records.{labels-outside}
 use borrow.Author.Needs.{needs}
 use Rattle.casebook.proofs.record.Record.labels.Statement.{statement}
 use Rattle.casebook.proofs.record.Record.labels.Tie as tie
 
-returns : tie.Need-returns
-returns c = labels-outside _ _ (c .if1 .taken)
+of-pairs-requires : tie.Need-of-pairs-requires
+of-pairs-requires c κs = search needs
 
-shared-slice-read-t7 : tie.Need-shared-slice-read-t7
-shared-slice-read-t7 c = search needs
+returns : tie.Need-returns
+returns c = c .of-pairs .ensures ∙ labels-outside _ _ (c .before .if1 .taken)
+
+shared-slice-read-of-pairs : tie.Need-shared-slice-read-of-pairs
+shared-slice-read-of-pairs c = search needs
+
+of-pairs-requires-2 : tie.Need-of-pairs-requires-2
+of-pairs-requires-2 c κs = search needs
 
 returns-2 : tie.Need-returns-2
 unfolding labelsOf
-returns-2 c = refl
+returns-2 c = c .of-pairs2 .ensures
 
 pub labels-spec : {M : Type 1} → statement M
-labels-spec = tie.close (tie.spec returns shared-slice-read-t7 returns-2)
+labels-spec =
+    tie.close
+    (tie.spec of-pairs-requires returns shared-slice-read-of-pairs of-pairs-requires-2 returns-2)
