@@ -1,7 +1,6 @@
 -- The quotient of a forward modality is its disjuncts, as they are listed, joined by "or".
 use Prim.Native.Nat.{ℕ, _+_, _≤_, _<_}
 use mathlib.Core.Path.{_≡_, refl, sym, _∙_, ap}
-use mathlib.Core.Logic.{inl, inr}
 use mathlib.Core.Bool.{Bool, true, false, cond}
 use mathlib.Core.List.{List, [], _∷_, _++_, List·Memᴰ·head as here, List·Memᴰ·tail as there}
 use mathlib.Core.Option.{Option, none, some}
@@ -21,10 +20,11 @@ use Rattle.labels.proofs.Slices.{rest, rest-of}
 use Rattle.tables.specs.Tables.{tableOf, SoundTable}
 use Rattle.tables.proofs.SoundTables.{no-idle-label}
 use Rattle.halves.specs.Runs.{stepOf}
+use Rattle.formulas.specs.Operators.{isForward}
 use Rattle.formulas.specs.Working.{treeOf, Part}
-use Rattle.formulas.proofs.Operators.{at}
+use Rattle.formulas.proofs.Operators.{Unary, ForwardTree, forward-label, forward-idle, forward-tree}
 use Rattle.formulas.proofs.Operands.{operand-is}
-use Rattle.dividing.specs.Working.{Behind, Forward, Listed, one, more, aloneIn, shakenBy, shakenIn, disjunctsOf}
+use Rattle.dividing.specs.Working.{Behind, Listed, one, more, aloneIn, shakenBy, shakenIn, disjunctsOf}
 use Rattle.dividing.specs.Working.{text, firstText, texts}
 use Rattle.dividing.proofs.Texts.{silent-same}
 
@@ -122,23 +122,27 @@ module _ (labels : Labels) (t f : List ℕ) (r : Run ℕ) where
 
 -- so the texts of the listed disjuncts are the text of the whole: by a label, and by idle
 module _ (labels : Labels) (t sizes f : List ℕ) (p : Part sizes f) (r : Run ℕ) where
-  label-texts : SoundTable labels t → getD f 0 0 ≡ 5
+  label-texts : SoundTable labels t → getD f 0 0 ≡ 5 → Unary f (fwd (getD f 1 0))
       → texts labels t (rest 2 f) r (disjunctsOf labels t (getD f 0 0) (getD f 1 0) (last r)) ≡ text labels t f r
   unfolding disjunctsOf text quotient spell stepOf
-  label-texts s e = rw (e, operand-is sizes f p (fwd (getD f 1 0)) (at f (p .tree) 5 e), silent-same (getD f 1 0))
+  label-texts s e u = rw (e, operand-is sizes f p (fwd (getD f 1 0)) u, silent-same (getD f 1 0))
       (spelled-ors labels t (rest 2 f) r 5 (getD f 1 0) 255 (last r)
       (fwd (getD f 1 0) (quotient (pairing labels) (tableOf t) (treeOf (rest 2 f)) (r ▸ idle))) refl
       (spelled-others labels t (rest 2 f) r labels (getD f 1 0) (last r) s))
 
-  idle-texts : (q : ℕ) → getD f 0 0 ≡ 7
+  idle-texts : (q : ℕ) → getD f 0 0 ≡ 7 → Unary f fwdIdle
       → texts labels t (rest 2 f) r (disjunctsOf labels t (getD f 0 0) (getD f 1 0) q) ≡ text labels t f r
   unfolding disjunctsOf texts firstText text quotient spell stepOf
-  idle-texts q e = rw (e, operand-is sizes f p fwdIdle (at f (p .tree) 7 e))
+  idle-texts q e u = rw (e, operand-is sizes f p fwdIdle u)
 
-  pub forward-texts : (q : ℕ) → SoundTable labels t → Forward (getD f 0 0) → last r ≡ q
+  pub forward-texts : (q : ℕ) → SoundTable labels t → isForward (getD f 0 0) ≡ true → last r ≡ q
       → texts labels t (rest 2 f) r (disjunctsOf labels t (getD f 0 0) (getD f 1 0) q) ≡ text labels t f r
-  forward-texts q s (inl e) z = rw (← z) (label-texts s e)
-  forward-texts q s (inr e) z = idle-texts q e
+  forward-texts q s o z = go (forward-tree f (p .tree) o)
+    where
+      go : ForwardTree f
+          → texts labels t (rest 2 f) r (disjunctsOf labels t (getD f 0 0) (getD f 1 0) q) ≡ text labels t f r
+      go (forward-label e u) = rw (← z) (label-texts s e u)
+      go (forward-idle e u) = idle-texts q e u
 
 -- there is one at least, and its idle keeps the state
 pub forward-listed : (labels : Labels) (t : List ℕ) (o a q : ℕ) → SoundTable labels t

@@ -26,15 +26,15 @@ use Rattle.halves.specs.Halves.{halfOf}
 use Rattle.halves.specs.Steps.{stepStruct, stepRead}
 use Rattle.halves.proofs.HalfBuffers.{half-empty, half-step}
 use Rattle.halves.specs.Working.{HeldHalf}
+use Rattle.formulas.specs.Operators.{isBack, isConnective}
 use Rattle.formulas.specs.Working.{treeOf, Part}
 use Rattle.formulas.proofs.Measures.{size-some}
-use Rattle.formulas.proofs.Operators.{at}
-use Rattle.formulas.proofs.Operands.{Connective, operand-is, operands-are, leaf-operator}
+use Rattle.formulas.proofs.Operators.{at, BackTree, back-label, back-idle, back-tree}
+use Rattle.formulas.proofs.Operands.{AndOr, operand-is, operands-are, connectives, leaf-operator}
 use Rattle.dividing.specs.declared.node.Node.{Node}
 use Rattle.dividing.specs.declared.node.Past.{Past}
 use Rattle.dividing.specs.declared.node.Past.the-variants as past
 use Rattle.dividing.specs.Working.{Behind, nodeOver, backByPartner, pastMove, pastOf, lastRead, pastRead, text}
-use Rattle.dividing.proofs.Readiness.{Back, Inner}
 
 -- the bytes of a back modality's quotient: a node over other bytes, or false
 unfoldable overText : Past → List ℕ → List ℕ
@@ -72,7 +72,7 @@ module _ (labels : Labels) (t : List ℕ) where
       text-not e = rw (operand-is sizes f p not (at f (p .tree) 2 e), e)
 
       -- "and" and "or"
-      module _ (o : Connective (getD f 0 0)) (m : ℕ) (e₀ : m ≡ getD sizes (length f / 2 - 2) 0) where
+      module _ (o : AndOr (getD f 0 0)) (m : ℕ) (e₀ : m ≡ getD sizes (length f / 2 - 2) 0) where
         pub text-both : Behind ((getD f 0 0 ∷ 0 ∷ []) ++ text labels t (rest 2 f) r)
             (text labels t (rest (2 * m + 2) f) r) (text labels t f r)
         unfolding Behind text quotient spell
@@ -83,33 +83,37 @@ module _ (labels : Labels) (t : List ℕ) where
             (⊎-elim (λ z. rw z (sym (ap (λ l. 3 ∷ 0 ∷ l) e))) (λ z. rw z (sym (ap (λ l. 4 ∷ 0 ∷ l) e))) o)
 
       -- the first operand's bytes are among them
-      pub text-inner : Inner (getD f 0 0)
+      pub text-connective : isConnective (getD f 0 0) ≡ true
           → length ((getD f 0 0 ∷ 0 ∷ []) ++ text labels t (rest 2 f) r) ≤ length (text labels t f r)
       unfolding Behind
-      text-inner (inl e) = omega (arith, ap length (text-not e))
-      text-inner (inr o) = let b = text-both o (getD sizes (length f / 2 - 2) 0) refl in
-          omega (
-            arith,
-            ap length b,
-            length-append ((getD f 0 0 ∷ 0 ∷ []) ++ text labels t (rest 2 f) r)
-                (text labels t (rest (2 * getD sizes (length f / 2 - 2) 0 + 2) f) r),
-          )
+      text-connective i = go (connectives (getD f 0 0) i)
+        where
+          go : (getD f 0 0 ≡ 2) ⊎ AndOr (getD f 0 0)
+              → length ((getD f 0 0 ∷ 0 ∷ []) ++ text labels t (rest 2 f) r) ≤ length (text labels t f r)
+          go (inl e) = omega (arith, ap length (text-not e))
+          go (inr o) = let b = text-both o (getD sizes (length f / 2 - 2) 0) refl in
+              omega (
+                arith,
+                ap length b,
+                length-append ((getD f 0 0 ∷ 0 ∷ []) ++ text labels t (rest 2 f) r)
+                    (text labels t (rest (2 * getD sizes (length f / 2 - 2) 0 + 2) f) r),
+              )
 
     -- a back modality on the run in the first n bytes of xs
-    module _ (xs : List ℕ) (n : ℕ) (h : HeldHalf xs n) (o : Back (getD f 0 0)) where
+    module _ (xs : List ℕ) (n : ℕ) (h : HeldHalf xs n) (o : isBack (getD f 0 0) ≡ true) where
       past-empty : n < 3 → 1 ∷ 0 ∷ [] ≡ text labels t f (halfOf (take n xs))
       unfolding text quotient spell
-      past-empty l = ⊎-elim
-          (λ e. rw (operand-is sizes f p (back (getD f 1 0)) (at f (p .tree) 6 e), half-empty xs n h l))
-          (λ e. rw (operand-is sizes f p backIdle (at f (p .tree) 8 e), half-empty xs n h l)) o
+      past-empty l = go (back-tree f (p .tree) o)
+        where
+          go : BackTree f → 1 ∷ 0 ∷ [] ≡ text labels t f (halfOf (take n xs))
+          go (back-label e u) = rw (operand-is sizes f p (back (getD f 1 0)) u, half-empty xs n h l)
+          go (back-idle e u) = rw (operand-is sizes f p backIdle u, half-empty xs n h l)
 
       -- by the last step: the node that stands over the quotient by the run without it, or false
       step-text : (x : Step ℕ) (r : Run ℕ) → text labels t f (r ▸ x)
           ≡ overText (pastOf labels (getD f 0 0) (getD f 1 0) (stepStruct x)) (text labels t (rest 2 f) r)
       unfolding text quotient spell pastOf pastMove overText stepStruct
-      step-text x r = ⊎-elim
-          (λ e. rw (operand-is sizes f p (back (getD f 1 0)) (at f (p .tree) 6 e), e) (by-label x))
-          (λ e. rw (operand-is sizes f p backIdle (at f (p .tree) 8 e), e) (by-idle x)) o
+      step-text x r = go (back-tree f (p .tree) o)
         where
           ψ : Formula
           ψ = quotient (pairing labels) (tableOf t) (treeOf (rest 2 f)) r
@@ -133,6 +137,11 @@ module _ (labels : Labels) (t : List ℕ) where
               ≡ overText (pastOf labels 8 (getD f 1 0) (stepStruct x)) (text labels t (rest 2 f) r)
           by-idle idle = refl
           by-idle (move b q) = refl
+
+          go : BackTree f → text labels t f (r ▸ x)
+              ≡ overText (pastOf labels (getD f 0 0) (getD f 1 0) (stepStruct x)) (text labels t (rest 2 f) r)
+          go (back-label e u) = rw (operand-is sizes f p (back (getD f 1 0)) u, e) (by-label x)
+          go (back-idle e u) = rw (operand-is sizes f p backIdle u, e) (by-idle x)
 
       -- what is read of the run
       abbrev pastHere : Past

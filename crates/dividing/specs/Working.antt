@@ -1,7 +1,6 @@
 -- How the code works: what functions ask for and promise that serve others. No call's promise cites this file.
 use Prim.Native.Nat.{ℕ, _+_, _-_, _*_, _/_, _≤_}
 use mathlib.Core.Path.{_≡_}
-use mathlib.Core.Logic.{_⊎_}
 use mathlib.Core.Bool.{Bool, _&&_, cond}
 use mathlib.Core.List.{List, [], _∷_, _++_}
 use mathlib.Core.Option.{Option, none, some}
@@ -99,10 +98,6 @@ texts labels t f r (o ∷ a ∷ b ∷ q ∷ d ∷ ds) =
 pub data Listed (q : ℕ) : List ℕ → Type 0 where
   one : {o a b to : ℕ} → (b ≡ 255 → to ≡ q) → Listed q (o ∷ a ∷ b ∷ to ∷ [])
   more : {o a b to : ℕ} {ds : List ℕ} → (b ≡ 255 → to ≡ q) → Listed q ds → Listed q (o ∷ a ∷ b ∷ to ∷ ds)
-
--- a forward modality, by a label or by idle
-abbrev pub Forward : ℕ → Type 0
-Forward o = (o ≡ 5) ⊎ (o ≡ 7)
 
 -- the first n bytes of xs are a half run, with room behind it for `steps` steps and those that the first tree of f
 -- looks ahead; sizes has the sizes of f's trees

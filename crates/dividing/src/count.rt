@@ -2,14 +2,18 @@
 use crate::disjuncts::list_disjuncts;
 use crate::node::Past;
 use crate::node::past_node;
+use formulas::node::is_forward;
+use formulas::node::is_modality;
 use labels::label::Label;
 use labels::label::Labels;
 ghost use mathlib.Core.Path.{_≡_};
+ghost use mathlib.Core.Bool.{true};
 ghost use Prim.Native.Nat.{_+_, _-_, _*_, _≤_, min};
 ghost use lib.ListN.{length, getD, take};
 ghost use Rattle.tables.specs.Tables.{SoundTable};
 ghost use Rattle.halves.specs.Halves.{halfOf};
-ghost use Rattle.dividing.specs.Working.{Ready, Forward, Listed, text, texts, firstText};
+ghost use Rattle.formulas.specs.Operators.{isForward, isModality};
+ghost use Rattle.dividing.specs.Working.{Ready, Listed, text, texts, firstText};
 
 // The nodes of the quotient of the first tree of f by the run in the first len bytes, or limit + 1 if they are more
 // than the limit.
@@ -36,7 +40,7 @@ pub(crate) fn count_tree(
     if limit == 0 {
         return 1;
     }
-    if 4 < operator {
+    if is_modality(operator) {
         return count_modal(labels, table, sizes, run, len, f, limit);
     }
     let n = count_tree(labels, table, sizes, run, len, &f[2..], limit - 1);
@@ -53,7 +57,7 @@ pub(crate) fn count_tree(
     1 + n + m
 }
 
-// The same for a modality: operators 5 to 8.
+// The same for a modality.
 fn count_modal(
     labels: Labels,
     table: &[u8],
@@ -65,16 +69,13 @@ fn count_modal(
 ) -> usize
     requires { ⌜ SoundTable labels (now table) ⌝ }
     requires { ⌜ Ready (now sizes) (now run) len 0 (now f) ⌝ }
-    requires { ⌜ (1 ≤ limit) × (limit ≤ 4096) × (5 ≤ getD (now f) 0 0) ⌝ }
+    requires { ⌜ (1 ≤ limit) × (limit ≤ 4096) × (isModality (getD (now f) 0 0) ≡ true) ⌝ }
     ensures { λ r. ⌜ 2 * r ≡ min (length (text labels (now (table .entry)) (now (f .entry))
         (halfOf (take len (now (run .entry)))))) (2 * limit + 2) ⌝ }
     ensures { λ r. ⌜ now (run .exit) ≡ now (run .entry) ⌝ }
 {
     let operator = f[0];
-    if operator == 5 {
-        return count_forward(labels, table, sizes, run, len, f, limit);
-    }
-    if operator == 7 {
+    if is_forward(operator) {
         return count_forward(labels, table, sizes, run, len, f, limit);
     }
     let bytes: &[u8] = run;
@@ -87,7 +88,7 @@ fn count_modal(
     }
 }
 
-// The same for a forward modality: operators 5 and 7.
+// The same for a forward modality.
 fn count_forward(
     labels: Labels,
     table: &[u8],
@@ -99,7 +100,7 @@ fn count_forward(
 ) -> usize
     requires { ⌜ SoundTable labels (now table) ⌝ }
     requires { ⌜ Ready (now sizes) (now run) len 0 (now f) ⌝ }
-    requires { ⌜ (limit ≤ 4096) × Forward (getD (now f) 0 0) ⌝ }
+    requires { ⌜ (limit ≤ 4096) × (isForward (getD (now f) 0 0) ≡ true) ⌝ }
     ensures { λ r. ⌜ 2 * r ≡ min (length (text labels (now (table .entry)) (now (f .entry))
         (halfOf (take len (now (run .entry)))))) (2 * limit + 2) ⌝ }
     ensures { λ r. ⌜ now (run .exit) ≡ now (run .entry) ⌝ }

@@ -3,15 +3,19 @@ use crate::disjuncts::list_disjuncts;
 use crate::node::Past;
 use crate::node::past_node;
 use crate::node::put_node;
+use formulas::node::is_forward;
+use formulas::node::is_modality;
 use labels::label::Label;
 use labels::label::Labels;
 ghost use mathlib.Core.Path.{_≡_};
+ghost use mathlib.Core.Bool.{true};
 ghost use Prim.Native.Nat.{_-_, _≤_};
 ghost use lib.ListN.{length, getD, take};
 ghost use Rattle.labels.specs.Refusals.{inFront};
 ghost use Rattle.tables.specs.Tables.{SoundTable};
 ghost use Rattle.halves.specs.Halves.{halfOf};
-ghost use Rattle.dividing.specs.Working.{Ready, Forward, Listed, text, texts, firstText};
+ghost use Rattle.formulas.specs.Operators.{isForward, isModality};
+ghost use Rattle.dividing.specs.Working.{Ready, Listed, text, texts, firstText};
 
 // Writes the quotient of the first tree of f by the run in the first len bytes. Gives how many bytes it has.
 pub(crate) fn write_tree(
@@ -33,7 +37,7 @@ pub(crate) fn write_tree(
     ensures { λ r. ⌜ now (run .exit) ≡ now (run .entry) ⌝ }
 {
     let operator = f[0];
-    if 4 < operator {
+    if is_modality(operator) {
         return write_modal(labels, table, sizes, run, len, f, out);
     }
     put_node(out, operator, 0);
@@ -52,7 +56,7 @@ pub(crate) fn write_tree(
     at + m
 }
 
-// The same for a modality: operators 5 to 8.
+// The same for a modality.
 fn write_modal(
     labels: Labels,
     table: &[u8],
@@ -64,7 +68,7 @@ fn write_modal(
 ) -> usize
     requires { ⌜ SoundTable labels (now table) ⌝ }
     requires { ⌜ Ready (now sizes) (now run) len 0 (now f) ⌝ }
-    requires { ⌜ 5 ≤ getD (now f) 0 0 ⌝ }
+    requires { ⌜ isModality (getD (now f) 0 0) ≡ true ⌝ }
     requires { ⌜ length (text labels (now table) (now f) (halfOf (take len (now run)))) ≤ length (now out) ⌝ }
     ensures { λ r. ⌜ r ≡ length (text labels (now (table .entry)) (now (f .entry))
         (halfOf (take len (now (run .entry))))) ⌝ }
@@ -73,10 +77,7 @@ fn write_modal(
     ensures { λ r. ⌜ now (run .exit) ≡ now (run .entry) ⌝ }
 {
     let operator = f[0];
-    if operator == 5 {
-        return write_forward(labels, table, sizes, run, len, f, out);
-    }
-    if operator == 7 {
+    if is_forward(operator) {
         return write_forward(labels, table, sizes, run, len, f, out);
     }
     let bytes: &[u8] = run;
@@ -94,7 +95,7 @@ fn write_modal(
     }
 }
 
-// The same for a forward modality: operators 5 and 7.
+// The same for a forward modality.
 fn write_forward(
     labels: Labels,
     table: &[u8],
@@ -106,7 +107,7 @@ fn write_forward(
 ) -> usize
     requires { ⌜ SoundTable labels (now table) ⌝ }
     requires { ⌜ Ready (now sizes) (now run) len 0 (now f) ⌝ }
-    requires { ⌜ Forward (getD (now f) 0 0) ⌝ }
+    requires { ⌜ isForward (getD (now f) 0 0) ≡ true ⌝ }
     requires { ⌜ length (text labels (now table) (now f) (halfOf (take len (now run)))) ≤ length (now out) ⌝ }
     ensures { λ r. ⌜ r ≡ length (text labels (now (table .entry)) (now (f .entry))
         (halfOf (take len (now (run .entry))))) ⌝ }

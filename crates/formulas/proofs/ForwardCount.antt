@@ -1,14 +1,14 @@
 -- The count of forward modalities: node by node, and against the depth to which they nest.
 use Prim.Native.Nat.{ℕ, _+_, _≤_, _<_}
 use mathlib.Core.Path.{_≡_, refl, sym, ap}
-use mathlib.Core.Bool.{true, false, _||_}
+use mathlib.Core.Bool.{true, false}
 use mathlib.Core.List.{List, [], _∷_}
 use native.Mathlib.Omega.{arith}
 use lib.ListN.{length, getD}
-use lib.Dec.{eqb}
 use Rattle.labels.proofs.Slices.{rest, rest-of, rest-length}
 use Rattle.hml.specs.Formula.{Formula, top, bottom, not, and, or, fwd, back, fwdIdle, backIdle, nesting}
 use Rattle.hml.specs.Spell.{spell}
+use Rattle.formulas.specs.Operators.{isForward}
 use Rattle.formulas.specs.Working.{forwardsIn, Tree, treeOf}
 use Rattle.formulas.proofs.Measures.{forward}
 use Rattle.formulas.proofs.Operators.{tree-spell}
@@ -31,11 +31,11 @@ module _ (f : List ℕ) where
 
   module _ (n : ℕ) (bs : List ℕ) (so : Counting f n bs) where
     -- a node that looks forward, and one that does not
-    pub count-forward : 2 ≤ length bs → (eqb (getD bs 0 0) 5 || eqb (getD bs 0 0) 7) ≡ true → (m : ℕ) → m ≡ n + 1
+    pub count-forward : 2 ≤ length bs → isForward (getD bs 0 0) ≡ true → (m : ℕ) → m ≡ n + 1
         → Counting f m (rest 2 bs)
     count-forward h e m q = omega (arith, so, rw e at (first-forward bs h), rest-length 2 bs, q)
 
-    pub count-other : 2 ≤ length bs → (eqb (getD bs 0 0) 5 || eqb (getD bs 0 0) 7) ≡ false → (m : ℕ) → m ≡ n
+    pub count-other : 2 ≤ length bs → isForward (getD bs 0 0) ≡ false → (m : ℕ) → m ≡ n
         → Counting f m (rest 2 bs)
     count-other h e m q = omega (arith, so, rw e at (first-forward bs h), rest-length 2 bs, q)
 
@@ -51,7 +51,7 @@ module _ (f : List ℕ) where
 
 -- the forward modalities of a formula nest no deeper than there are of them
 pub spelled-nesting : (φ : Formula) (bs : List ℕ) → nesting φ + forwardsIn bs ≤ forwardsIn (spell φ bs)
-unfolding forwardsIn spell nesting
+unfolding forwardsIn isForward spell nesting
 spelled-nesting top bs = omega arith
 spelled-nesting bottom bs = omega arith
 spelled-nesting (not φ) bs = omega (arith, spelled-nesting φ bs)

@@ -1,3 +1,4 @@
+pub mod OperatorTable
 pub mod Nodes
 pub mod Trees
 pub mod FormulaLabels

@@ -1,37 +1,23 @@
 -- The measure of a tree by its first node: the second operand begins where the first one ends.
 use Prim.Native.Nat.{ℕ, _+_, _-_, _*_, _≤_, max}
 use mathlib.Core.Path.{_≡_, refl, sym, _∙_, ap}
-use mathlib.Core.Bool.{cond, _||_}
-use mathlib.Core.List.{List, [], _∷_, _++_}
+use mathlib.Core.Bool.{cond}
+use mathlib.Core.List.{List, []}
 use native.Mathlib.Omega.{arith}
 use lib.ListN.{length, getD, drop}
 use lib.Seq.{drop-at}
-use lib.Dec.{eqb}
 use Rattle.labels.proofs.Slices.{rest, rest-of}
 use Rattle.hml.specs.Formula.{Formula, top, bottom, not, and, or, fwd, back, fwdIdle, backIdle, size, nesting}
 use Rattle.hml.specs.Working.{backs}
 use Rattle.hml.specs.Spell.{spell}
-use Rattle.hml.proofs.Spelling.{length-spell, parse-spell}
-use Rattle.formulas.specs.Working.{nodeOf, operandsOf, Tree, measuredAs, measureOf, operandsIn}
+use Rattle.hml.proofs.Spelling.{length-spell, spell-append, parse-spell}
+use Rattle.formulas.specs.Operators.{isForward, isBack}
+use Rattle.formulas.specs.Working.{nodeBy, nodeOf, Tree, measuredAs, measureOf, operandsIn}
 use Rattle.formulas.specs.declared.tree.Measure.{Measure}
-
--- a formula's bytes stand in front of the others
-spell-append : (φ : Formula) (xs ys : List ℕ) → spell φ (xs ++ ys) ≡ spell φ xs ++ ys
-unfolding spell
-spell-append top xs ys = refl
-spell-append bottom xs ys = refl
-spell-append (not φ) xs ys = ap (λ l. 2 ∷ 0 ∷ l) (spell-append φ xs ys)
-spell-append (and φ ψ) xs ys =
-    ap (λ l. 3 ∷ 0 ∷ l) (ap (spell φ) (spell-append ψ xs ys) ∙ spell-append φ (spell ψ xs) ys)
-spell-append (or φ ψ) xs ys = ap (λ l. 4 ∷ 0 ∷ l) (ap (spell φ) (spell-append ψ xs ys) ∙ spell-append φ (spell ψ xs) ys)
-spell-append (fwd a φ) xs ys = ap (λ l. 5 ∷ a ∷ l) (spell-append φ xs ys)
-spell-append (back a φ) xs ys = ap (λ l. 6 ∷ a ∷ l) (spell-append φ xs ys)
-spell-append (fwdIdle φ) xs ys = ap (λ l. 7 ∷ 0 ∷ l) (spell-append φ xs ys)
-spell-append (backIdle φ) xs ys = ap (λ l. 8 ∷ 0 ∷ l) (spell-append φ xs ys)
 
 -- behind a formula's bytes stand the others
 pub spell-drop : (φ : Formula) (bs : List ℕ) → drop (2 * size φ) (spell φ bs) ≡ bs
-spell-drop φ bs = rw (spell-append φ [] bs) (drop-at (spell φ []) bs (2 * size φ) (omega (arith, length-spell φ [])))
+spell-drop φ bs = rw (spell-append φ bs) (drop-at (spell φ []) bs (2 * size φ) (omega (arith, length-spell φ [])))
 
 pub size-some : (φ : Formula) → 1 ≤ size φ
 unfolding size
@@ -70,10 +56,10 @@ measure-spell φ rest = rw (parse-spell φ rest)
 
 -- 1 if the first node looks forward; 1 if it looks back
 abbrev pub forward : List ℕ → ℕ
-forward f = cond (eqb (getD f 0 0) 5 || eqb (getD f 0 0) 7) 1 0
+forward f = cond (isForward (getD f 0 0)) 1 0
 
 abbrev pub backward : List ℕ → ℕ
-backward f = cond (eqb (getD f 0 0) 6 || eqb (getD f 0 0) 8) 1 0
+backward f = cond (isBack (getD f 0 0)) 1 0
 
 abbrev pub behind : List ℕ → Measure
 behind f = measureOf (drop 2 f)
@@ -118,7 +104,7 @@ view-two φ ψ χ rest d s n b =
 
 view-spell : (φ : Formula) (rest : List ℕ)
     → View (spell φ rest) (operandsIn (nodeOf (getD (spell φ rest) 0 0) (getD (spell φ rest) 1 0)))
-unfolding spell nodeOf operandsOf size nesting backs
+unfolding spell nodeOf nodeBy size nesting backs isForward isBack
 view-spell top rest = view-leaf top rest refl refl refl
 view-spell bottom rest = view-leaf bottom rest refl refl refl
 view-spell (not φ) rest = view-one (not φ) φ rest refl refl (omega arith) (omega arith)

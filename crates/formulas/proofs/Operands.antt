@@ -2,26 +2,35 @@
 use Prim.Native.Nat.{ℕ, zero, suc, _+_, _-_, _*_, _/_, _≤_, _<_, max}
 use mathlib.Core.Path.{_≡_, refl, sym, _∙_, ap}
 use mathlib.Core.Logic.{_⊎_, inl, inr, ⊎-elim}
-use mathlib.Core.Bool.{Bool, true, false, cond, _&&_}
+use mathlib.Core.Bool.{Bool, true, false, cond, _&&_, _||_, or-false}
 use mathlib.Core.List.{List, []}
+use mathlib.Core.Option.{Option, none, some}
 use native.Mathlib.Omega.{arith}
 use lib.ListN.{length, getD, drop, length-drop}
 use lib.Seq.{drop-drop}
-use lib.Dec.{eqb}
+use lib.Dec.{eqb, ltb, leb}
+use borrow.Author.Tests.{ne-eqb, le-ltb}
+use Rattle.hml.proofs.Tests.{both-true, decides, decided-or, decided-same}
+use Rattle.hml.specs.Lists.{present}
 use Rattle.labels.specs.Labels.{count}
-use Rattle.hml.specs.Formula.{Formula, and, or, size, nesting, labelled}
+use Rattle.hml.specs.Formula.{Formula, and, or, fwd, back, fwdIdle, backIdle, size, nesting, labelled}
 use Rattle.labels.proofs.Slices.{rest, rest-of}
 use Rattle.labels.specs.declared.label.Labels.{Labels}
-use Rattle.formulas.specs.Working.{Tree, treeOf, Part, treeSize, sizesOver}
+use Rattle.formulas.specs.Operators.{Operator, operatorOf, isOperator, isForward, isBack, isModality}
+use Rattle.formulas.specs.Operators.{isConnective}
+use Rattle.formulas.specs.Working.{nodeBy, nodeOf, Tree, treeOf, Part, treeSize, sizesOver}
 use Rattle.formulas.specs.Formulas.{Legal}
 use Rattle.formulas.proofs.Measures.{size-some}
-use Rattle.formulas.proofs.Operators.{At, Unary, Binary, at, tree-spell}
-use Rattle.formulas.proofs.TreeSizes.{size-spell, sized-room, sized-part, sized-first, sizes-over}
+use Rattle.formulas.proofs.OperatorTable.{forward-numbers, connective-numbers, operator-numbers}
+use Rattle.formulas.proofs.Operators.{Unary, Binary, at, tree-spell, node-room, ForwardTree, BackTree}
+use Rattle.formulas.proofs.Operators.{forward-label, forward-idle, back-label, back-idle}
+use Rattle.formulas.proofs.Operators.{forward-tree, back-tree}
+use Rattle.formulas.proofs.TreeSizes.{bad-size, size-spell, sized-room, sized-part, sized-first, sizes-over}
 use Rattle.formulas.proofs.Checking.{formula-length}
 
 -- an operator with two operands is "and" or "or"
-abbrev pub Connective : ℕ → Type 0
-Connective o = (o ≡ 3) ⊎ (o ≡ 4)
+abbrev pub AndOr : ℕ → Type 0
+AndOr o = (o ≡ 3) ⊎ (o ≡ 4)
 
 abbrev pub connected : ℕ → Formula → Formula → Formula
 connected o φ ψ = cond (eqb o 3) (and φ ψ) (or φ ψ)
@@ -40,7 +49,7 @@ module _ (sizes f : List ℕ) (p : Part sizes f) where
   operand-is g u = rw (rest-of 2 f) (u .is)
 
   -- the operands of one that has two: the second begins where the first one ends, which the sizes tell
-  module _ (o : Connective (getD f 0 0)) where
+  module _ (o : AndOr (getD f 0 0)) where
     two : Binary f (connected (getD f 0 0))
     two = ⊎-elim
         (λ e. rw e (at f (p .tree) 3 e))
@@ -112,34 +121,89 @@ labelled-connected n o φ ψ = go (eqb o 3)
     go true = refl
     go false = refl
 
--- an operator from 5 to 8, by the tests that it failed
-pub back-operator : (f : List ℕ) → Tree f → 5 ≤ getD f 0 0 → (getD f 0 0 ≡ 5 → ⊥) → (getD f 0 0 ≡ 7 → ⊥)
-    → (getD f 0 0 ≡ 6) ⊎ (getD f 0 0 ≡ 8)
-back-operator f t a b c = go (getD f 0 0) a b c (λ o e. at f t o e)
-  where
-    go : (o : ℕ) → 5 ≤ o → (o ≡ 5 → ⊥) → (o ≡ 7 → ⊥) → ((x : ℕ) → o ≡ x → At x f) → (o ≡ 6) ⊎ (o ≡ 8)
-    go zero a b c w = absurd (omega arith)
-    go (suc zero) a b c w = absurd (omega arith)
-    go (suc (suc zero)) a b c w = absurd (omega arith)
-    go (suc (suc (suc zero))) a b c w = absurd (omega arith)
-    go (suc (suc (suc (suc zero)))) a b c w = absurd (omega arith)
-    go (suc (suc (suc (suc (suc zero))))) a b c w = absurd (b refl)
-    go (suc (suc (suc (suc (suc (suc zero)))))) a b c w = inl refl
-    go (suc (suc (suc (suc (suc (suc (suc zero))))))) a b c w = absurd (c refl)
-    go (suc (suc (suc (suc (suc (suc (suc (suc zero)))))))) a b c w = inr refl
-    go (suc (suc (suc (suc (suc (suc (suc (suc (suc o))))))))) a b c w =
-        absurd (w (suc (suc (suc (suc (suc (suc (suc (suc (suc o))))))))) refl)
+-- the operand of a modality: the modality nests so much deeper, and its operand's labels are in range if its own are
+pub record Operand (f : List ℕ) (deeper : ℕ) : Type 0 where
+  pub over : Formula → Formula
+  pub tree : Unary f over
+  pub nests : (φ : Formula) → nesting (over φ) ≡ deeper + nesting φ
+  pub ranged : (n : ℕ) (φ : Formula) → labelled n (over φ) ≡ true → labelled n φ ≡ true
 
--- an operator below 2 is a leaf's; one from 2 to 4 that is not 2 has two operands
+module _ (f : List ℕ) (t : Tree f) where
+  pub forward-operand : isForward (getD f 0 0) ≡ true → Operand f 1
+  unfolding nesting labelled
+  forward-operand e = go (forward-tree f t e)
+    where
+      go : ForwardTree f → Operand f 1
+      go (forward-label z u) = record {
+        over = fwd (getD f 1 0);
+        tree = u;
+        nests = λ φ. refl;
+        ranged = λ n φ l. both-true {a = leb (getD f 1 0) n} {b = labelled n φ} l .1;
+      }
+      go (forward-idle z u) = record { over = fwdIdle; tree = u; nests = λ φ. refl; ranged = λ n φ l. l }
+
+  pub back-operand : isBack (getD f 0 0) ≡ true → Operand f 0
+  unfolding nesting labelled
+  back-operand e = go (back-tree f t e)
+    where
+      go : BackTree f → Operand f 0
+      go (back-label z u) = record {
+        over = back (getD f 1 0);
+        tree = u;
+        nests = λ φ. omega arith;
+        ranged = λ n φ l. both-true {a = leb (getD f 1 0) n} {b = labelled n φ} l .1;
+      }
+      go (back-idle z u) = record { over = backIdle; tree = u; nests = λ φ. omega arith; ranged = λ n φ l. l }
+
+  -- the operator of a tree is in the table
+  pub tree-operator : isOperator (getD f 0 0) ≡ true
+  unfolding isOperator nodeOf nodeBy
+  tree-operator = go (operatorOf (getD f 0 0)) refl
+    where
+      go : (w : Option Operator) → operatorOf (getD f 0 0) ≡ w → present (λ x. true) w ≡ true
+      go none e =
+          absurd (omega (arith, bad-size f (node-room f t) (rw e), tree-size f t, size-some (treeOf f)))
+      go (some x) e = refl
+
+  -- so it is true or false, a connective or a modality: what it is, by the tests that it failed
+  any-class : (ltb (getD f 0 0) 2 || (isConnective (getD f 0 0) || isModality (getD f 0 0))) ≡ true
+  any-class = sym (operator-numbers (getD f 0 0)) ∙ tree-operator
+
+  module _ (h : 2 ≤ getD f 0 0) where
+    larger-class : (isConnective (getD f 0 0) || isModality (getD f 0 0)) ≡ true
+    larger-class = rw (le-ltb (getD f 0 0) 2 h) at any-class
+
+    pub connective-operator : isModality (getD f 0 0) ≡ false → isConnective (getD f 0 0) ≡ true
+    connective-operator e = sym (or-false _) ∙ (rw e at larger-class)
+
+    pub modality-operator : isConnective (getD f 0 0) ≡ false → isModality (getD f 0 0) ≡ true
+    modality-operator e = rw e at larger-class
+
+-- a modality that does not look forward looks back
+pub back-operator : (o : ℕ) → isModality o ≡ true → isForward o ≡ false → isBack o ≡ true
+unfolding isModality
+back-operator o e n = rw n at e
+
+-- an operator that is neither of the two that look forward
+pub no-forward : (o : ℕ) → (o ≡ 5 → ⊥) → (o ≡ 7 → ⊥) → isForward o ≡ false
+no-forward o a b = forward-numbers o ∙ rw (ne-eqb o 5 a, ne-eqb o 7 b)
+
+-- a connective is "not", or has two operands
+pub connectives : (o : ℕ) → isConnective o ≡ true → (o ≡ 2) ⊎ AndOr o
+connectives o e =
+    decides (decided-or (decided-same o 2) (decided-or (decided-same o 3) (decided-same o 4))) .0
+    (sym (connective-numbers o) ∙ e)
+
+pub and-or : (o : ℕ) → isConnective o ≡ true → (o ≡ 2 → ⊥) → AndOr o
+and-or o e n = ⊎-elim (λ z. absurd (n z)) (λ z. z) (connectives o e)
+
+-- an operator below 2 is a leaf's, and none other is
 pub leaf-operator : (o : ℕ) → o < 2 → (o ≡ 0) ⊎ (o ≡ 1)
 leaf-operator zero h = inl refl
 leaf-operator (suc zero) h = inr refl
 leaf-operator (suc (suc o)) h = absurd (omega arith)
 
-pub connective-operator : (o : ℕ) → 2 ≤ o → o ≤ 4 → (o ≡ 2 → ⊥) → Connective o
-connective-operator zero a b n = absurd (omega arith)
-connective-operator (suc zero) a b n = absurd (omega arith)
-connective-operator (suc (suc zero)) a b n = absurd (n refl)
-connective-operator (suc (suc (suc zero))) a b n = inl refl
-connective-operator (suc (suc (suc (suc zero)))) a b n = inr refl
-connective-operator (suc (suc (suc (suc (suc o))))) a b n = absurd (omega arith)
+pub two-up : (o : ℕ) → (o ≡ 0 → ⊥) → (o ≡ 1 → ⊥) → 2 ≤ o
+two-up zero a b = absurd (a refl)
+two-up (suc zero) a b = absurd (b refl)
+two-up (suc (suc o)) a b = omega arith

@@ -1,13 +1,18 @@
 -- The first tree of some bytes by its operator: what it is made of, and where its operands begin.
 use Prim.Native.Nat.{ℕ, zero, suc, _+_, _*_, _≤_}
 use mathlib.Core.Path.{_≡_, refl, sym, _∙_, ap, subst}
+use mathlib.Core.Logic.{⊎-elim}
+use mathlib.Core.Bool.{true}
 use mathlib.Core.List.{List}
 use native.Mathlib.Omega.{arith}
 use lib.ListN.{length, getD, drop}
 use Rattle.hml.specs.Formula.{Formula, top, bottom, not, and, or, fwd, back, fwdIdle, backIdle, size}
 use Rattle.hml.specs.Spell.{spell}
 use Rattle.hml.proofs.Spelling.{length-spell, parse-spell}
+use Rattle.hml.proofs.Tests.{decides, decided-or, decided-same}
+use Rattle.formulas.specs.Operators.{isForward, isBack}
 use Rattle.formulas.specs.Working.{Tree, treeIn, treeOf}
+use Rattle.formulas.proofs.OperatorTable.{forward-numbers, back-numbers}
 use Rattle.formulas.proofs.Measures.{spell-drop, size-some}
 
 -- the first tree of what spells one is that
@@ -77,6 +82,26 @@ at-spell (backIdle φ) rest = one φ backIdle rest refl
 pub at : (f : List ℕ) → Tree f → (o : ℕ) → getD f 0 0 ≡ o → At o f
 unfolding Tree
 at f (φ, rest, e) o h = subst (λ (o : ℕ). At o f) h (rw e (at-spell φ rest))
+
+-- a tree whose operator looks forward, and one whose operator looks back, by the operators that do
+pub data ForwardTree (f : List ℕ) : Type 0 where
+  forward-label : getD f 0 0 ≡ 5 → Unary f (fwd (getD f 1 0)) → ForwardTree f
+  forward-idle : getD f 0 0 ≡ 7 → Unary f fwdIdle → ForwardTree f
+
+pub data BackTree (f : List ℕ) : Type 0 where
+  back-label : getD f 0 0 ≡ 6 → Unary f (back (getD f 1 0)) → BackTree f
+  back-idle : getD f 0 0 ≡ 8 → Unary f backIdle → BackTree f
+
+module _ (f : List ℕ) (t : Tree f) where
+  pub forward-tree : isForward (getD f 0 0) ≡ true → ForwardTree f
+  forward-tree e =
+      ⊎-elim (λ z. forward-label z (at f t 5 z)) (λ z. forward-idle z (at f t 7 z))
+      (decides (decided-or (decided-same _ 5) (decided-same _ 7)) .0 (sym (forward-numbers _) ∙ e))
+
+  pub back-tree : isBack (getD f 0 0) ≡ true → BackTree f
+  back-tree e =
+      ⊎-elim (λ z. back-label z (at f t 6 z)) (λ z. back-idle z (at f t 8 z))
+      (decides (decided-or (decided-same _ 6) (decided-same _ 8)) .0 (sym (back-numbers _) ∙ e))
 
 -- a tree has a node
 pub tree-some : (f : List ℕ) → Tree f → 2 * size (treeOf f) ≤ length f

@@ -11,13 +11,15 @@ use lib.Seq.{take-all, take-at, take-take, take-suc, drop-cons, drop-drop, getD-
 use lib.Dec.{ltb}
 use borrow.Author.Tests.{ltb-true, ltb-false}
 use Rattle.hml.proofs.Tests.{apart}
-use Rattle.hml.specs.Formula.{Formula, top, bottom, not, and, or, fwd, back, fwdIdle, backIdle, size}
+use Rattle.hml.specs.Formula.{Formula, size}
 use Rattle.hml.specs.Spell.{spell, Shape, leaf, unary, binary, bad, shape, next, trees, single, parse}
 use Rattle.hml.proofs.Spelling.{length-spell, parse-spell, parse-sound}
-use Rattle.formulas.specs.Working.{operandsOf, nodeOf, sizeIn, treeSize, sizesOf, sizesOver, Sized, Tree}
+use Rattle.formulas.specs.Working.{nodeOf, sizeIn, treeSize, sizesOf, sizesOver, Sized, Tree}
 use Rattle.formulas.specs.Working.{measureOf, operandsIn, sizeBehind}
 use Rattle.formulas.specs.declared.node.Node.{Node}
 use Rattle.formulas.specs.declared.node.Node.the-variants as node
+use Rattle.formulas.proofs.OperatorTable.{Agrees, none-due, one-due, two-due, nothing, agrees}
+use Rattle.formulas.proofs.OperatorTable.{shapeNode, shape-node}
 use Rattle.formulas.proofs.Measures.{spell-drop, size-some, measure-spell, first-operand, second-operand}
 
 -- bytes that spell a tree have its size
@@ -75,36 +77,6 @@ module _ (f : List ℕ) where
   unfolding Tree
   measured-size (φ, bs, s) = rw (s, measure-spell φ bs, size-spell φ bs)
 
--- what a node makes of the trees behind it
-data Made (o a : ℕ) : Node → Type 0 where
-  made0 : (φ : Formula) → ((bs : List ℕ) → spell φ bs ≡ o ∷ a ∷ bs) → Made o a (node.Operands 0)
-  made1 : (g : Formula → Formula) → ((φ : Formula) (bs : List ℕ) → spell (g φ) bs ≡ o ∷ a ∷ spell φ bs)
-      → Made o a (node.Operands 1)
-  made2 : (g : Formula → Formula → Formula)
-      → ((φ ψ : Formula) (bs : List ℕ) → spell (g φ ψ) bs ≡ o ∷ a ∷ spell φ (spell ψ bs)) → Made o a (node.Operands 2)
-  nothing : Made o a node.Bad
-
--- by the table of operators
-made : (o a : ℕ) → Made o a (nodeOf o a)
-unfolding nodeOf operandsOf spell
-made zero zero = made0 top (λ bs. refl)
-made zero (suc a) = nothing
-made (suc zero) zero = made0 bottom (λ bs. refl)
-made (suc zero) (suc a) = nothing
-made (suc (suc zero)) zero = made1 not (λ φ bs. refl)
-made (suc (suc zero)) (suc a) = nothing
-made (suc (suc (suc zero))) zero = made2 and (λ φ ψ bs. refl)
-made (suc (suc (suc zero))) (suc a) = nothing
-made (suc (suc (suc (suc zero)))) zero = made2 or (λ φ ψ bs. refl)
-made (suc (suc (suc (suc zero)))) (suc a) = nothing
-made (suc (suc (suc (suc (suc zero))))) a = made1 (fwd a) (λ φ bs. refl)
-made (suc (suc (suc (suc (suc (suc zero)))))) a = made1 (back a) (λ φ bs. refl)
-made (suc (suc (suc (suc (suc (suc (suc zero))))))) zero = made1 fwdIdle (λ φ bs. refl)
-made (suc (suc (suc (suc (suc (suc (suc zero))))))) (suc a) = nothing
-made (suc (suc (suc (suc (suc (suc (suc (suc zero)))))))) zero = made1 backIdle (λ φ bs. refl)
-made (suc (suc (suc (suc (suc (suc (suc (suc zero)))))))) (suc a) = nothing
-made (suc (suc (suc (suc (suc (suc (suc (suc (suc o))))))))) a = nothing
-
 -- the first node of some bytes
 abbrev first : List ℕ → Node
 first f = nodeOf (getD f 0 0) (getD f 1 0)
@@ -125,10 +97,11 @@ module _ (f : List ℕ) (room : 2 ≤ length f) where
 
   -- a bad node begins no tree
   pub bad-size : node.Bad ≡ first f → 0 ≡ treeSize f
-  unfolding nodeOf operandsOf treeSize sizeIn parse trees
-  bad-size e = go (shape (getD f 0 0) (getD f 1 0)) e ∙ ap treeSize (sym split)
+  unfolding treeSize sizeIn parse trees
+  bad-size e =
+      go (shape (getD f 0 0) (getD f 1 0)) (e ∙ shape-node (getD f 0 0) (getD f 1 0)) ∙ ap treeSize (sym split)
     where
-      go : (s : Shape) → node.Bad ≡ operandsOf s → 0 ≡ sizeIn (single (next s 0 (λ m. trees (drop 2 f) m)))
+      go : (s : Shape) → node.Bad ≡ shapeNode s → 0 ≡ sizeIn (single (next s 0 (λ m. trees (drop 2 f) m)))
       go (leaf φ) e = absurd (apart cc)
       go (unary g) e = absurd (apart cc)
       go (binary g) e = absurd (apart cc)
@@ -137,13 +110,13 @@ module _ (f : List ℕ) (room : 2 ≤ length f) where
   module _ (k : ℕ) (e : node.Operands k ≡ first f) where
     -- a node without operands is a tree
     pub leaf-size : k ≡ 0 → 1 ≡ treeSize f
-    leaf-size k0 = go (made (getD f 0 0) (getD f 1 0)) e
+    leaf-size k0 = go (agrees (getD f 0 0) (getD f 1 0)) e
       where
-        go : {o : Node} → Made (getD f 0 0) (getD f 1 0) o → node.Operands k ≡ o → 1 ≡ treeSize f
-        go (made0 φ s) e = omega (arith, spelled-size φ (drop 2 f) (split ∙ sym (s (drop 2 f))), length-drop 2 f)
-        go (made1 g s) e = absurd (omega (arith, k0, ap operandsIn e))
-        go (made2 g s) e = absurd (omega (arith, k0, ap operandsIn e))
-        go nothing e = absurd (apart cc)
+        go : {o : Node} → Agrees (getD f 0 0) (getD f 1 0) o → node.Operands k ≡ o → 1 ≡ treeSize f
+        go (none-due φ x s d) e = omega (arith, spelled-size φ (drop 2 f) (split ∙ sym (s (drop 2 f))), length-drop 2 f)
+        go (one-due g x s d) e = absurd (omega (arith, k0, ap operandsIn e))
+        go (two-due g x s d) e = absurd (omega (arith, k0, ap operandsIn e))
+        go (nothing x) e = absurd (apart cc)
 
     -- n is the size of the first operand
     module _ (k0 : k ≡ 0 → ⊥) (n : ℕ) (q : n ≡ treeSize (drop 2 f)) where
@@ -159,12 +132,12 @@ module _ (f : List ℕ) (room : 2 ≤ length f) where
 
         pub one-size : k ≡ 1 → 1 + n ≡ treeSize f
         unfolding Tree
-        one-size k1 = go (made (getD f 0 0) (getD f 1 0)) e first-tree
+        one-size k1 = go (agrees (getD f 0 0) (getD f 1 0)) e first-tree
           where
-            go : {o : Node} → Made (getD f 0 0) (getD f 1 0) o → node.Operands k ≡ o → Tree (drop 2 f)
+            go : {o : Node} → Agrees (getD f 0 0) (getD f 1 0) o → node.Operands k ≡ o → Tree (drop 2 f)
                 → 1 + n ≡ treeSize f
-            go (made0 φ s) e t = absurd (omega (arith, k1, ap operandsIn e))
-            go (made1 g s) e (φ, bs, t) =
+            go (none-due φ x s d) e t = absurd (omega (arith, k1, ap operandsIn e))
+            go (one-due g x s d) e (φ, bs, t) =
                 omega (
                   arith,
                   q,
@@ -173,8 +146,8 @@ module _ (f : List ℕ) (room : 2 ≤ length f) where
                   ap length t ∙ length-spell φ bs,
                   length-drop 2 f,
                 )
-            go (made2 g s) e t = absurd (omega (arith, k1, ap operandsIn e))
-            go nothing e t = absurd (apart cc)
+            go (two-due g x s d) e t = absurd (omega (arith, k1, ap operandsIn e))
+            go (nothing x) e t = absurd (apart cc)
 
         -- m is the size of the second operand, which begins where the first one ends
         module _ (k1 : k ≡ 1 → ⊥) (m : ℕ) (z : m ≡ treeSize (drop (2 * n) (drop 2 f))) where
@@ -189,14 +162,14 @@ module _ (f : List ℕ) (room : 2 ≤ length f) where
           pub two-size : (m ≡ 0 → ⊥) → 1 + n + m ≡ treeSize f
           unfolding Tree
           two-size some-second =
-              go (made (getD f 0 0) (getD f 1 0)) e first-tree
+              go (agrees (getD f 0 0) (getD f 1 0)) e first-tree
               (size-tree (drop (2 * n) (drop 2 f)) (λ w. some-second (z ∙ w)))
             where
-              go : {o : Node} → Made (getD f 0 0) (getD f 1 0) o → node.Operands k ≡ o → Tree (drop 2 f)
+              go : {o : Node} → Agrees (getD f 0 0) (getD f 1 0) o → node.Operands k ≡ o → Tree (drop 2 f)
                   → Tree (drop (2 * n) (drop 2 f)) → 1 + n + m ≡ treeSize f
-              go (made0 φ s) e t u = absurd (k0 (ap operandsIn e))
-              go (made1 g s) e t u = absurd (k1 (ap operandsIn e))
-              go (made2 g s) e (φ, bs, t) (ψ, cs, u) =
+              go (none-due φ x s d) e t u = absurd (k0 (ap operandsIn e))
+              go (one-due g x s d) e t u = absurd (k1 (ap operandsIn e))
+              go (two-due g x s d) e (φ, bs, t) (ψ, cs, u) =
                   let w : n ≡ size φ = q ∙ ap treeSize t ∙ size-spell φ bs in
                   let d : drop (2 * n) (drop 2 f) ≡ bs = rw (w, t) (spell-drop φ bs) in
                   let b : bs ≡ spell ψ cs = sym d ∙ u in
@@ -210,7 +183,7 @@ module _ (f : List ℕ) (room : 2 ≤ length f) where
                     ap length b ∙ length-spell ψ cs,
                     length-drop 2 f,
                   )
-              go nothing e t u = absurd (apart cc)
+              go (nothing x) e t u = absurd (apart cc)
 
 -- one size for each node
 pub length-sizes : (f : List ℕ) → length (sizesOf f) ≡ length f / 2

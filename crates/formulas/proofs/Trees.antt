@@ -11,21 +11,20 @@ use Rattle.hml.specs.Formula.{Formula}
 use Rattle.hml.specs.Spell.{spell, Shape, leaf, unary, binary, bad, shape, Read, build0, build1, build2, next, trees}
 use Rattle.hml.specs.Spell.{single, parse}
 use Rattle.hml.proofs.Spelling.{length-spell, parse-sound}
-use Rattle.formulas.specs.Working.{operandsOf, nodeOf, endOf, treeEnd}
+use Rattle.formulas.specs.Working.{nodeOf, endOf, treeEnd}
+use Rattle.formulas.proofs.OperatorTable.{shapeNode, shape-node}
 use Rattle.formulas.specs.declared.node.Node.the-variants as node
 use Rattle.formulas.specs.declared.tree.TreeEnd.the-variants as end
 
 -- a node has at most two operands
-few-operands : (s : Shape) (m : ℕ) → node.Operands m ≡ operandsOf s → m ≤ 2
-unfolding operandsOf
+few-operands : (s : Shape) (m : ℕ) → node.Operands m ≡ shapeNode s → m ≤ 2
 few-operands (leaf φ) m e = let q : m ≡ 0 = cc in omega (arith, q)
 few-operands (unary f) m e = let q : m ≡ 1 = cc in omega (arith, q)
 few-operands (binary f) m e = let q : m ≡ 2 = cc in omega (arith, q)
 few-operands bad m e = absurd (apart cc)
 
 pub operands-few : (o a m : ℕ) → node.Operands m ≡ nodeOf o a → m ≤ 2
-unfolding nodeOf
-operands-few o a m e = few-operands (shape o a) m e
+operands-few o a m e = few-operands (shape o a) m (e ∙ shape-node o a)
 
 -- as many formulas are read as were due
 abbrev Counted : ℕ → Read → Type 0
@@ -68,9 +67,8 @@ restOf none = none
 restOf (some t) = some (t .1)
 
 -- a node leaves the end to its operands and what was due beside it
-rest-next : (s : Shape) (n m : ℕ) (more : ℕ → Read) → ((d : ℕ) → Counted d (more d)) → node.Operands m ≡ operandsOf s
+rest-next : (s : Shape) (n m : ℕ) (more : ℕ → Read) → ((d : ℕ) → Counted d (more d)) → node.Operands m ≡ shapeNode s
     → restOf (next s n more) ≡ restOf (more (n + m))
-unfolding operandsOf
 rest-next (leaf φ) n m more h e = let q : n + m ≡ n = (let z : m ≡ 0 = cc in omega (arith, z)) in rw q (go (more n))
   where
     go : (t : Read) → restOf (build0 φ t) ≡ restOf t
@@ -94,8 +92,7 @@ rest-next (binary f) n m more h e =
     go (some (φ ∷ ψ ∷ φs, bs)) c = refl
 rest-next bad n m more h e = absurd (apart cc)
 
-rest-bad : (s : Shape) (n : ℕ) (more : ℕ → Read) → node.Bad ≡ operandsOf s → restOf (next s n more) ≡ none
-unfolding operandsOf
+rest-bad : (s : Shape) (n : ℕ) (more : ℕ → Read) → node.Bad ≡ shapeNode s → restOf (next s n more) ≡ none
 rest-bad (leaf φ) n more e = absurd (apart cc)
 rest-bad (unary f) n more e = absurd (apart cc)
 rest-bad (binary f) n more e = absurd (apart cc)
@@ -178,18 +175,16 @@ module _ (f : List ℕ) where
             ∙ ap (λ l. restOf (trees l (suc (due - 1)))) node-first
 
         pub seek-bad : node.Bad ≡ nodeOf (getD f at 0) (getD f (at + 1) 0) → end.Nowhere ≡ treeEnd f
-        unfolding nodeOf
         seek-bad e =
             nowhere (here ∙ rest-bad (shape (getD f at 0) (getD f (at + 1) 0)) (due - 1)
-            (λ m. trees (drop (at + 2) f) m) e)
+            (λ m. trees (drop (at + 2) f) m) (e ∙ shape-node (getD f at 0) (getD f (at + 1) 0)))
 
         pub seek-on : (m : ℕ) → node.Operands m ≡ nodeOf (getD f at 0) (getD f (at + 1) 0)
             → Seeking f (due - 1 + m) (at + 2)
-        unfolding nodeOf
         seek-on m e = record {
           within = omega arith;
-          few = omega (arith, few-operands (shape (getD f at 0) (getD f (at + 1) 0)) m e, g .few);
+          few = omega (arith, operands-few (getD f at 0) (getD f (at + 1) 0) m e, g .few);
           same =
               here ∙ rest-next (shape (getD f at 0) (getD f (at + 1) 0)) (due - 1) m (λ d. trees (drop (at + 2) f) d)
-              (λ d. counted (drop (at + 2) f) d) e;
+              (λ d. counted (drop (at + 2) f) d) (e ∙ shape-node (getD f at 0) (getD f (at + 1) 0));
         }

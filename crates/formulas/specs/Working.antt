@@ -1,31 +1,35 @@
 -- How the code works: what functions ask for and promise that serve others. No call's promise cites this file.
-use Prim.Native.Nat.{ℕ, _-_, _*_, _+_, _/_}
-use mathlib.Core.Bool.{Bool, true, _&&_, cond, _||_}
+use Prim.Native.Nat.{ℕ, zero, suc, _-_, _*_, _+_, _/_}
+use mathlib.Core.Bool.{Bool, true, false, _&&_, cond}
 use mathlib.Core.List.{List, [], _∷_, _++_}
 use mathlib.Core.Option.{Option, none, some}
 use lib.ListN.{length, getD, take, drop}
-use lib.Dec.{leb, eqb}
+use lib.Dec.{leb}
 use Rattle.hml.specs.Formula.{Formula, size, nesting, top}
 use Rattle.hml.specs.Working.{backs}
-use Rattle.hml.specs.Spell.{parse, Shape, leaf, unary, binary, bad, shape, spell}
+use Rattle.hml.specs.Spell.{parse, spell}
 use Rattle.formulas.specs.declared.node.Node.{Node}
 use Rattle.formulas.specs.declared.node.Node.the-variants as node
 use Rattle.formulas.specs.declared.tree.Measure.{Measure}
 use Rattle.formulas.specs.declared.tree.TreeEnd.{TreeEnd}
 use Rattle.formulas.specs.declared.tree.TreeEnd.the-variants as end
 use mathlib.Core.Path.{_≡_}
+use Rattle.formulas.specs.Operators.{Operator, operatorOf, isForward}
 use Rattle.formulas.specs.Formulas.{formulaOf}
 
--- how many operands a node has: the theory's table of operators (Spell) says so, and that a label byte is 0 where the
--- operator has no label
-unfoldable pub operandsOf : Shape → Node
-operandsOf (leaf φ) = node.Operands 0
-operandsOf (unary f) = node.Operands 1
-operandsOf (binary f) = node.Operands 2
-operandsOf bad = node.Bad
+-- "(0 where the operator has none)"
+abbrev pub fits : Bool → ℕ → Bool
+fits true a = true
+fits false zero = true
+fits false (suc a) = false
+
+-- how many operands a node has, by its operator and its label byte
+unfoldable pub nodeBy : Option Operator → ℕ → Node
+nodeBy none a = node.Bad
+nodeBy (some x) a = cond (fits (x .labelled) a) (node.Operands (x .operands)) node.Bad
 
 unfoldable pub nodeOf : ℕ → ℕ → Node
-nodeOf o a = operandsOf (shape o a)
+nodeOf o a = nodeBy (operatorOf o) a
 
 -- where the first tree of the bytes ends, if there is one: two bytes a node behind its start
 unfoldable pub endOf : Option (Formula × List ℕ) → TreeEnd
@@ -56,11 +60,11 @@ backsIn (some φ) = backs φ
 unfoldable pub backsOf : List ℕ → ℕ
 backsOf f = backsIn (formulaOf f)
 
--- the nodes of operators 5 and 7; a byte that fills no node is none
+-- the nodes that look forward; a byte that fills no node is none
 unfoldable pub forwardsIn : List ℕ → ℕ
 forwardsIn [] = 0
 forwardsIn (o ∷ []) = 0
-forwardsIn (o ∷ a ∷ bytes) = cond (eqb o 5 || eqb o 7) 1 0 + forwardsIn bytes
+forwardsIn (o ∷ a ∷ bytes) = cond (isForward o) 1 0 + forwardsIn bytes
 
 -- the size of the first tree of the bytes; 0 where they begin with none
 unfoldable pub sizeIn : Option (Formula × List ℕ) → ℕ

@@ -1,9 +1,7 @@
-// The table of operators that checks go by: how many operands a node has, and whether its label byte fits. What each
-// operator means is in verdict (src/search.rt, src/back.rt) and dividing (src/node.rt, src/disjuncts.rt, src/count.rt,
-// src/write.rt).
+// The table of operators (specs/Operators) in code, and the nodes that checks go by. What each operator means is in
+// verdict (src/search.rt, src/back.rt) and dividing (src/node.rt, src/disjuncts.rt, src/count.rt, src/write.rt).
 ghost use mathlib.Core.Path.{_≡_};
-ghost use mathlib.Core.Bool.{_||_};
-ghost use lib.Dec.{eqb};
+ghost use Rattle.formulas.specs.Operators.{isForward, isBack, isModality, isConnective, takesLabel};
 ghost use Rattle.formulas.specs.Working.{nodeOf};
 
 // A node by the number of its operands; or bytes that are none.
@@ -12,25 +10,21 @@ pub enum Node {
     Bad,
 }
 
-// The node of an operator and a label byte. Operators 5 and 6 have a label, the others have 0 in its place.
+// The node of an operator and a label byte, which is 0 where the operator takes no label.
 pub(crate) fn read_node(operator: u8, label: u8) -> Node
     ensures { λ r. ⌜ r ≡ nodeOf operator label ⌝ }
 {
-    if operator == 5 {
-        return Node::Operands(1);
-    }
-    if operator == 6 {
+    if takes_label(operator) {
         return Node::Operands(1);
     }
     if label != 0 {
         return Node::Bad;
     }
-    unlabelled(operator)
+    operands(operator)
 }
 
-// The node of an operator that has no label: true and false, not, and and or, the two idle modalities.
-fn unlabelled(operator: u8) -> Node
-    requires { ⌜ ((operator ≡ 5 → ⊥) × (operator ≡ 6 → ⊥)) ⌝ }
+// The node of an operator whose label byte fits: how many operands it has.
+pub fn operands(operator: u8) -> Node
     ensures { λ r. ⌜ r ≡ nodeOf operator 0 ⌝ }
 {
     if operator <= 1 {
@@ -48,22 +42,58 @@ fn unlabelled(operator: u8) -> Node
     Node::Bad
 }
 
-// Operators 5 and 7 look forward.
-pub(crate) fn is_forward(operator: u8) -> bool
-    ensures { λ r. ⌜ r ≡ (eqb operator 5 || eqb operator 7) ⌝ }
+// Operators 5 and 6 take a label.
+pub fn takes_label(operator: u8) -> bool
+    ensures { λ r. ⌜ r ≡ takesLabel operator ⌝ }
 {
     if operator == 5 {
         return true;
     }
-    operator == 7
+    operator == 6
+}
+
+// Operators 5 and 7 look forward.
+pub fn is_forward(operator: u8) -> bool
+    ensures { λ r. ⌜ r ≡ isForward operator ⌝ }
+{
+    if operator != 5 {
+        return operator == 7;
+    }
+    true
 }
 
 // Operators 6 and 8 look back.
-pub(crate) fn is_back(operator: u8) -> bool
-    ensures { λ r. ⌜ r ≡ (eqb operator 6 || eqb operator 8) ⌝ }
+pub fn is_back(operator: u8) -> bool
+    ensures { λ r. ⌜ r ≡ isBack operator ⌝ }
 {
     if operator != 6 {
         return operator == 8;
     }
     true
+}
+
+// The modalities look forward or back. True, false and the connectives stand before them: one comparison settles these.
+pub fn is_modality(operator: u8) -> bool
+    ensures { λ r. ⌜ r ≡ isModality operator ⌝ }
+{
+    if operator < 5 {
+        return false;
+    }
+    if is_forward(operator) {
+        return true;
+    }
+    is_back(operator)
+}
+
+// Is the operator "not", "and" or "or"?
+pub fn is_connective(operator: u8) -> bool
+    ensures { λ r. ⌜ r ≡ isConnective operator ⌝ }
+{
+    if operator == 2 {
+        return true;
+    }
+    if operator == 3 {
+        return true;
+    }
+    operator == 4
 }

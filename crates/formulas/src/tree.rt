@@ -4,10 +4,10 @@ use crate::node::is_back;
 use crate::node::is_forward;
 use crate::node::read_node;
 ghost use mathlib.Core.Path.{_≡_};
-ghost use mathlib.Core.Bool.{_||_, cond};
+ghost use mathlib.Core.Bool.{cond};
 ghost use Prim.Native.Nat.{_+_, _≤_, max};
 ghost use lib.ListN.{getD, length};
-ghost use lib.Dec.{eqb};
+ghost use Rattle.formulas.specs.Operators.{isForward, isBack};
 ghost use Rattle.formulas.specs.Working.{nodeOf, treeEnd, Tree, measureOf, operandsIn};
 
 // Where the first tree of some bytes ends.
@@ -87,7 +87,7 @@ fn operands_of(f: &[u8]) -> usize
 // 1 if the first node looks forward, else 0.
 fn depth(f: &[u8]) -> usize
     requires { ⌜ 2 ≤ length (now f) ⌝ }
-    ensures { λ r. ⌜ r ≡ cond (eqb (getD (now (f .entry)) 0 0) 5 || eqb (getD (now (f .entry)) 0 0) 7) 1 0 ⌝ }
+    ensures { λ r. ⌜ r ≡ cond (isForward (getD (now (f .entry)) 0 0)) 1 0 ⌝ }
     ensures small { λ r. ⌜ r ≤ 1 ⌝ }
 {
     if is_forward(f[0]) {
@@ -99,7 +99,7 @@ fn depth(f: &[u8]) -> usize
 // 1 if the first node looks back, else 0.
 fn back(f: &[u8]) -> usize
     requires { ⌜ 2 ≤ length (now f) ⌝ }
-    ensures { λ r. ⌜ r ≡ cond (eqb (getD (now (f .entry)) 0 0) 6 || eqb (getD (now (f .entry)) 0 0) 8) 1 0 ⌝ }
+    ensures { λ r. ⌜ r ≡ cond (isBack (getD (now (f .entry)) 0 0)) 1 0 ⌝ }
     ensures small { λ r. ⌜ r ≤ 1 ⌝ }
 {
     if is_back(f[0]) {

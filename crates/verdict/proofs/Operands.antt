@@ -1,7 +1,7 @@
 -- The verdict of a formula from those of its operands, by its operator.
-use Prim.Native.Nat.{ℕ, zero, suc, _+_, _-_, _*_, _/_, _≤_, _<_, max}
+use Prim.Native.Nat.{ℕ, _+_, _-_, _*_, _/_, _≤_, _<_, max}
 use mathlib.Core.Path.{_≡_, refl, sym, _∙_, ap}
-use mathlib.Core.Logic.{_⊎_, inl, inr, ⊎-elim}
+use mathlib.Core.Logic.{⊎-elim}
 use mathlib.Core.Bool.{Bool, true, false, cond, _&&_, _||_, not as negate, false≢true, Bool·beq, and-false}
 use mathlib.Core.List.{List}
 use native.Mathlib.Omega.{arith}
@@ -10,9 +10,9 @@ use lib.Seq.{getD-take, length-take-le}
 use lib.Dec.{eqb, leb}
 use borrow.Author.Tests.{leb-true}
 use Rattle.hml.specs.Lists.{same}
-use Rattle.hml.proofs.Tests.{both-true, Decides, decides, decided-or, decided-same}
+use Rattle.hml.proofs.Tests.{both-true}
 use Rattle.hml.specs.System.{Run, _▸_, move, idle}
-use Rattle.hml.specs.Formula.{Formula, not, and, or, fwd, back, fwdIdle, backIdle, size, nesting, labelled, holds}
+use Rattle.hml.specs.Formula.{Formula, not, fwd, fwdIdle, size, nesting, labelled, holds}
 use Rattle.labels.specs.Labels.{count}
 use Rattle.labels.proofs.Labels.{count-most}
 use Rattle.labels.specs.declared.label.Labels.{Labels}
@@ -24,37 +24,12 @@ use Rattle.machines.specs.declared.step.JointRead.the-variants as read
 use Rattle.machines.proofs.Steps.{step-there}
 use Rattle.machines.proofs.Buffers.{held-empty, held-shorter, held-step}
 use Rattle.machines.specs.Working.{Held}
+use Rattle.formulas.specs.Operators.{isBack}
 use Rattle.formulas.specs.Working.{Tree, treeOf, Part}
-use Rattle.formulas.proofs.Operators.{Unary, at}
-use Rattle.formulas.proofs.Operands.{Connective, connected, operand-part, operand-is, first-part, second-part}
+use Rattle.formulas.proofs.Operators.{Unary, at, BackTree, back-label, back-idle, back-tree}
+use Rattle.formulas.proofs.Operands.{AndOr, connected, operand-part, operand-is, first-part, second-part, back-operand}
 use Rattle.formulas.proofs.Operands.{size-read, second-room, operands-are, nesting-connected, labelled-connected}
 use Rattle.verdict.specs.Working.{Ready, Shown, grants, judged}
-
--- the operator, from the tests that it passed and failed
-pub five-up : (o : ℕ) → (o ≡ 0 → ⊥) → (o ≡ 1 → ⊥) → (o ≡ 2 → ⊥) × (o ≡ 3 → ⊥) × (o ≡ 4 → ⊥) → 5 ≤ o
-five-up zero a b c = absurd (a refl)
-five-up (suc zero) a b c = absurd (b refl)
-five-up (suc (suc zero)) a b c = absurd (c .0 refl)
-five-up (suc (suc (suc zero))) a b c = absurd (c .1 refl)
-five-up (suc (suc (suc (suc zero)))) a b c = absurd (c .2 refl)
-five-up (suc (suc (suc (suc (suc o))))) a b c = omega arith
-
--- is the operator "not", "and" or "or"?
-abbrev isConnective : ℕ → Bool
-isConnective o = eqb o 2 || (eqb o 3 || eqb o 4)
-
-connective-decides : (o : ℕ) → Decides ((o ≡ 2) ⊎ Connective o) (isConnective o)
-connective-decides o = decided-or (decided-same o 2) (decided-or (decided-same o 3) (decided-same o 4))
-
-pub connective : (o : ℕ) (b : Bool) → b ≡ isConnective o → b ≡ true → (o ≡ 2 → ⊥) → Connective o
-connective o b p e n = ⊎-elim (λ z. absurd (n z)) (λ z. z) (decides (connective-decides o) .0 (sym p ∙ e))
-
-pub no-connective : (o : ℕ) (b : Bool) → b ≡ isConnective o → b ≡ false
-    → (o ≡ 2 → ⊥) × (o ≡ 3 → ⊥) × (o ≡ 4 → ⊥)
-no-connective o b p e = (λ h. none (inl h), λ h. none (inr (inl h)), λ h. none (inr (inr h)))
-  where
-    none : (o ≡ 2) ⊎ Connective o → ⊥
-    none h = false≢true (sym (sym p ∙ e) ∙ decides (connective-decides o) .1 h)
 
 first-true : (a b : Bool) → (a && b) ≡ true → a ≡ true
 first-true a b e = both-true {a = a} {b = b} e .0
@@ -104,16 +79,14 @@ module _ (k : Labels) (sizes xs : List ℕ) (n : ℕ) (f : List ℕ) (y : Ready 
   unfolding labelled nesting
   idle-ready e = operand-ready fwdIdle (at f (y .tree) 7 e) n 1 (y .held) (λ l. l) (omega arith)
 
-  pub back-ready : (getD f 0 0 ≡ 6) ⊎ (getD f 0 0 ≡ 8) → 5 ≤ n → Ready k sizes xs (n - 3) 0 (rest 2 f)
-  unfolding labelled nesting
-  back-ready (inl e) l =
-      operand-ready (back (getD f 1 0)) (at f (y .tree) 6 e) (n - 3) 0 (held-shorter xs n (y .held) l)
-      (second-true (leb (getD f 1 0) (count k)) _) (omega arith)
-  back-ready (inr e) l =
-      operand-ready backIdle (at f (y .tree) 8 e) (n - 3) 0 (held-shorter xs n (y .held) l) (λ l. l) (omega arith)
+  pub back-ready : isBack (getD f 0 0) ≡ true → 5 ≤ n → Ready k sizes xs (n - 3) 0 (rest 2 f)
+  back-ready o l =
+      let w = back-operand f (y .tree) o in
+      operand-ready (w .over) (w .tree) (n - 3) 0 (held-shorter xs n (y .held) l) (w .ranged (count k) _)
+      (omega (arith, w .nests (treeOf (rest 2 f))))
 
   -- the same for the operands of "and" and "or": the second begins where the first one ends, which the sizes tell
-  module _ (o : Connective (getD f 0 0)) where
+  module _ (o : AndOr (getD f 0 0)) where
     pub read-size : (4 ≤ length f) × (length f / 2 - 2 < length sizes)
     read-size = size-read sizes f part o
 
@@ -186,7 +159,7 @@ module _ (labels : Labels) (l r f : List ℕ) (j : Run (ℕ × ℕ)) (t : Tree f
   judged-idle b u e p = rw (at f t 7 e .is) (rw (rest-of 2 f) at p)
 
   -- "and" and "or": the first operand settles it, or the second does
-  module _ (o : Connective (getD f 0 0)) (a : Bool) (p : a ≡ judged labels l r (treeOf (rest 2 f)) j) where
+  module _ (o : AndOr (getD f 0 0)) (a : Bool) (p : a ≡ judged labels l r (treeOf (rest 2 f)) j) where
     first-judged : a ≡ judged labels l r (treeOf (drop 2 f)) j
     first-judged = rw (rest-of 2 f) at p
 
@@ -261,7 +234,7 @@ module _
         ∙ going-end _ (judged-not labels l r left run (g .ready .tree) _ e refl);
   }
 
-  module _ (o : Connective (getD left 0 0)) (a : Bool) (p : a ≡ judged labels l r (treeOf (rest 2 left)) run) where
+  module _ (o : AndOr (getD left 0 0)) (a : Bool) (p : a ≡ judged labels l r (treeOf (rest 2 left)) run) where
     pub going-settled : Bool·beq a (eqb (getD left 0 0) 4) ≡ true
         → Bool·beq a even ≡ judged labels l r (treeOf f) run
     going-settled s = going-end a (judged-settled labels l r left run (g .ready .tree) o a p s)
@@ -279,12 +252,15 @@ module _
 -- a back modality, on the run in the first n bytes of xs
 module _
     (labels : Labels) (l r f xs : List ℕ) (n : ℕ) (t : Tree f) (h : Held xs n)
-    (o : (getD f 0 0 ≡ 6) ⊎ (getD f 0 0 ≡ 8)) where
+    (o : isBack (getD f 0 0) ≡ true) where
   -- on the empty run it fails
   pub back-empty : n < 5 → false ≡ judged labels l r (treeOf f) (jointOf (take n xs))
   unfolding judged holds
-  back-empty s =
-      ⊎-elim (λ e. rw (at f t 6 e .is, held-empty xs n h s)) (λ e. rw (at f t 8 e .is, held-empty xs n h s)) o
+  back-empty s = go (back-tree f t o)
+    where
+      go : BackTree f → false ≡ judged labels l r (treeOf f) (jointOf (take n xs))
+      go (back-label e u) = rw (u .is, held-empty xs n h s)
+      go (back-idle e u) = rw (u .is, held-empty xs n h s)
 
   module _ (s : 5 ≤ n) where
     -- the last step, as it is read
@@ -310,16 +286,16 @@ module _
     back-step : (a : ℕ) (u : ℕ × ℕ) (j : Run (ℕ × ℕ))
         → judged labels l r (treeOf f) (j ▸ stepOf a u) ≡ (granted a && judged labels l r (treeOf (drop 2 f)) j)
     unfolding judged holds stepOf
-    back-step a u j = go (eqb a 255) o
+    back-step a u j = go (eqb a 255) (back-tree f t o)
       where
-        go : (b : Bool) → (getD f 0 0 ≡ 6) ⊎ (getD f 0 0 ≡ 8)
+        go : (b : Bool) → BackTree f
             → judged labels l r (treeOf f) (j ▸ cond b idle (move a u))
             ≡ (cond b (eqb (getD f 0 0) 8) (eqb (getD f 0 0) 6 && eqb a (getD f 1 0))
             && judged labels l r (treeOf (drop 2 f)) j)
-        go true (inl e) = rw (at f t 6 e .is, e)
-        go true (inr e) = rw (at f t 8 e .is, e)
-        go false (inl e) = rw (at f t 6 e .is, e)
-        go false (inr e) = rw (at f t 8 e .is, e)
+        go true (back-label e w) = rw (w .is, e)
+        go true (back-idle e w) = rw (w .is, e)
+        go false (back-label e w) = rw (w .is, e)
+        go false (back-idle e w) = rw (w .is, e)
 
     back-judged : judged labels l r (treeOf f) (jointOf (take n xs))
         ≡ (grants (getD f 0 0) (getD f 1 0) (jointRead (take n xs) (n / 3 - 1))

@@ -11,21 +11,22 @@ use crate::trial::Moves;
 use crate::trial::Trial;
 use crate::trial::grid_by;
 use crate::trial::place_by;
+use formulas::node::is_connective;
 use halves::step::Move;
 use labels::label::Label;
 use labels::label::Labels;
 use labels::label::Partner;
 ghost use mathlib.Core.Path.{_≡_};
 ghost use Prim.Native.Nat.{ℕ, _+_, _-_, _*_, _≤_};
-ghost use mathlib.Core.Bool.{_||_};
+ghost use mathlib.Core.Bool.{true, false};
 ghost use lib.ListN.{getD, take, drop, set};
-ghost use lib.Dec.{eqb};
 ghost use Rattle.hml.specs.Lists.{present};
 ghost use Rattle.hml.specs.System.{_▸_};
 ghost use Rattle.hml.specs.Formula.{fwd};
 ghost use Rattle.labels.specs.Labels.{pairing};
 ghost use Rattle.halves.specs.Runs.{stepOf};
 ghost use Rattle.machines.specs.Joints.{jointOf};
+ghost use Rattle.formulas.specs.Operators.{isModality, isConnective};
 ghost use Rattle.formulas.specs.Working.{treeOf};
 ghost use Rattle.verdict.specs.Working.{
   Grids,
@@ -81,19 +82,6 @@ pub(crate) fn holds<'a>(
     last == even
 }
 
-// Is the operator "not", "and" or "or"?
-fn is_connective(operator: u8) -> bool
-    ensures { λ r. ⌜ r ≡ (eqb operator 2 || (eqb operator 3 || eqb operator 4)) ⌝ }
-{
-    if operator == 2 {
-        return true;
-    }
-    if operator == 3 {
-        return true;
-    }
-    operator == 4
-}
-
 // The same for true, false and the modalities.
 fn judge<'a>(
     labels: Labels,
@@ -106,7 +94,7 @@ fn judge<'a>(
 ) -> bool
     requires { ⌜ Grids (now left) (now right) ⌝ }
     requires { ⌜ Ready labels (now sizes) (now run) len 0 (now f) ⌝ }
-    requires { ⌜ ((getD (now f) 0 0 ≡ 2 → ⊥) × (getD (now f) 0 0 ≡ 3 → ⊥) × (getD (now f) 0 0 ≡ 4 → ⊥)) ⌝ }
+    requires { ⌜ isConnective (getD (now f) 0 0) ≡ false ⌝ }
     ensures { λ r. ⌜ r ≡ judged labels (now (left .entry)) (now (right .entry))
         (treeOf (now (f .entry))) (jointOf (take len (now (run .entry)))) ⌝ }
     ensures { λ r. ⌜ now (run .exit) ≡ now (run .entry) ⌝ }
@@ -121,7 +109,7 @@ fn judge<'a>(
     modal(labels, left, right, sizes, run, len, f)
 }
 
-// The same for a modality: operators 5 to 8.
+// The same for a modality.
 fn modal<'a>(
     labels: Labels,
     left: &'a [u8; 1088],
@@ -133,7 +121,7 @@ fn modal<'a>(
 ) -> bool
     requires { ⌜ Grids (now left) (now right) ⌝ }
     requires { ⌜ Ready labels (now sizes) (now run) len 0 (now f) ⌝ }
-    requires { ⌜ 5 ≤ getD (now f) 0 0 ⌝ }
+    requires { ⌜ isModality (getD (now f) 0 0) ≡ true ⌝ }
     ensures { λ r. ⌜ r ≡ judged labels (now (left .entry)) (now (right .entry))
         (treeOf (now (f .entry))) (jointOf (take len (now (run .entry)))) ⌝ }
     ensures { λ r. ⌜ now (run .exit) ≡ now (run .entry) ⌝ }

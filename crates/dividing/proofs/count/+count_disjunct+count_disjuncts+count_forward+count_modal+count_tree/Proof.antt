@@ -33,6 +33,7 @@ use Rattle.dividing.proofs.count.+count_disjunct+count_disjuncts+count_
   count-tree-shared-slice-read-operator,
   count-tree-returns,
   count-tree-returns-2,
+  count-tree-is-modality-requires,
   count-tree-count-modal-requires,
   count-tree-returns-3,
   count-tree-sub-count-tree,
@@ -61,10 +62,9 @@ use Rattle.dividing.proofs.count.+count_disjunct+count_disjuncts+count_
 }
 use Rattle.dividing.proofs.count.+count_disjunct+count_disjuncts+count_forward+count_modal+count_tree.Proof.Modalities.{
   count-modal-shared-slice-read-operator,
+  count-modal-is-forward-requires,
   count-modal-count-forward-requires,
   count-modal-returns,
-  count-modal-count-forward-requires-2,
-  count-modal-returns-2,
   count-modal-shared-slice-read-t12,
   count-modal-slice-aggregate-past-node,
   count-modal-past-node-requires,
@@ -77,8 +77,8 @@ use Rattle.dividing.proofs.count.+count_disjunct+count_disjuncts+count_
   count-modal-count-tree-requires,
   count-modal-add-result,
   count-modal-enum-told-2,
+  count-modal-returns-2,
   count-modal-returns-3,
-  count-modal-returns-4,
 }
 use Rattle.dividing.proofs.count.+count_disjunct+count_disjuncts+count_forward+count_modal+count_tree.Proof.Forwards.{
   count-forward-shared-slice-read-list-disjuncts,
@@ -200,10 +200,9 @@ pub +count-disjunct+count-disjuncts+count-forward+count-modal+count-tree-spec :
     (λ t. count-modal-lts.spec (count-modal-claims t) (count-modal-at t)
     count-modal.Post
     (count-modal-shared-slice-read-operator t)
+    (count-modal-is-forward-requires t)
     (count-modal-count-forward-requires t)
     (count-modal-returns t)
-    (count-modal-count-forward-requires-2 t)
-    (count-modal-returns-2 t)
     (count-modal-shared-slice-read-t12 t)
     (count-modal-slice-aggregate-past-node t)
     (count-modal-past-node-requires t)
@@ -216,13 +215,14 @@ pub +count-disjunct+count-disjuncts+count-forward+count-modal+count-tree-spec :
     (count-modal-count-tree-requires t)
     (count-modal-add-result t)
     (count-modal-enum-told-2 t)
-    (count-modal-returns-3 t)
-    (count-modal-returns-4 t))
+    (count-modal-returns-2 t)
+    (count-modal-returns-3 t))
     λ t. count-tree-lts.spec (count-tree-claims t) (count-tree-at t)
     count-tree.Post
     (count-tree-shared-slice-read-operator t)
     (count-tree-returns t)
     (count-tree-returns-2 t)
+    (count-tree-is-modality-requires t)
     (count-tree-count-modal-requires t)
     (count-tree-returns-3 t)
     (count-tree-sub-count-tree t)

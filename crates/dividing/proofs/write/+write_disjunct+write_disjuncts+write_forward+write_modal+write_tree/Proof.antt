@@ -32,6 +32,7 @@ use Rattle.dividing.proofs.write.+write_disjunct+write_disjuncts+write_
 }
 use Rattle.dividing.proofs.write.+write_disjunct+write_disjuncts+write_forward+write_modal+write_tree.Proof.Trees.{
   write-tree-shared-slice-read-operator,
+  write-tree-is-modality-requires,
   write-tree-write-modal-requires,
   write-tree-same-length,
   write-tree-returns,
@@ -66,12 +67,10 @@ use Rattle.dividing.proofs.write.+write_disjunct+write_disjuncts+write_
 }
 use Rattle.dividing.proofs.write.+write_disjunct+write_disjuncts+write_forward+write_modal+write_tree.Proof.Modalities.{
   write-modal-shared-slice-read-operator,
+  write-modal-is-forward-requires,
   write-modal-write-forward-requires,
   write-modal-same-length,
   write-modal-returns,
-  write-modal-write-forward-requires-2,
-  write-modal-same-length-2,
-  write-modal-returns-2,
   write-modal-shared-slice-read-t14,
   write-modal-slice-aggregate-past-node,
   write-modal-past-node-requires,
@@ -88,10 +87,10 @@ use Rattle.dividing.proofs.write.+write_disjunct+write_disjuncts+write_
   write-modal-add-result,
   write-modal-enum-told,
   write-modal-put-node-requires-2,
+  write-modal-same-length-2,
+  write-modal-returns-2,
   write-modal-same-length-3,
   write-modal-returns-3,
-  write-modal-same-length-4,
-  write-modal-returns-4,
 }
 use Rattle.dividing.proofs.write.+write_disjunct+write_disjuncts+write_forward+write_modal+write_tree.Proof.Forwards.{
   write-forward-shared-slice-read-list-disjuncts,
@@ -231,12 +230,10 @@ pub +write-disjunct+write-disjuncts+write-forward+write-modal+write-tree-spec :
     (λ t. write-modal-lts.spec (write-modal-claims t) (write-modal-at t)
     write-modal.Post
     (write-modal-shared-slice-read-operator t)
+    (write-modal-is-forward-requires t)
     (write-modal-write-forward-requires t)
     (write-modal-same-length t)
     (write-modal-returns t)
-    (write-modal-write-forward-requires-2 t)
-    (write-modal-same-length-2 t)
-    (write-modal-returns-2 t)
     (write-modal-shared-slice-read-t14 t)
     (write-modal-slice-aggregate-past-node t)
     (write-modal-past-node-requires t)
@@ -253,13 +250,14 @@ pub +write-disjunct+write-disjuncts+write-forward+write-modal+write-tree-spec :
     (write-modal-add-result t)
     (write-modal-enum-told t)
     (write-modal-put-node-requires-2 t)
+    (write-modal-same-length-2 t)
+    (write-modal-returns-2 t)
     (write-modal-same-length-3 t)
-    (write-modal-returns-3 t)
-    (write-modal-same-length-4 t)
-    (write-modal-returns-4 t))
+    (write-modal-returns-3 t))
     λ t. write-tree-lts.spec (write-tree-claims t) (write-tree-at t)
     write-tree.Post
     (write-tree-shared-slice-read-operator t)
+    (write-tree-is-modality-requires t)
     (write-tree-write-modal-requires t)
     (write-tree-same-length t)
     (write-tree-returns t)

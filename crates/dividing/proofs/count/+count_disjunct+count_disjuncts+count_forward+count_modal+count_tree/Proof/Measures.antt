@@ -18,6 +18,8 @@ use Rattle.dividing.proofs.count.+count_disjunct+count_disjuncts+count_
 use Rattle.dividing.proofs.count.count_tree.Reads as count-tree
 use Rattle.dividing.proofs.count.count_tree.Kinds as count-tree-kinds
 use Rattle.dividing.proofs.count.+count_disjunct+count_disjuncts+count_forward+count_modal+count_tree.Lts-count_tree as count-tree-lts
+use Rattle.formulas.proofs.node.is_forward.Reads as is-forward-reads
+use Rattle.formulas.proofs.node.is_modality.Reads as is-modality-reads
 use Rattle.dividing.proofs.disjuncts.list_disjuncts.Reads as list-disjuncts-reads
 use Rattle.dividing.proofs.node.past_node.Reads as past-node-reads
 use lib.ListN.{length}
@@ -114,6 +116,8 @@ count-forward-claims t =
 
 abbrev pub count-modal-claims : ℕ → count-modal-lts.Claims
 count-modal-claims t = (
+  is-forward-reads.Asked,
+  is-forward-reads.Learnt,
   count-forward-below t,
   count-forward.Post,
   past-node-reads.Asked,
@@ -123,4 +127,11 @@ count-modal-claims t = (
 )
 
 abbrev pub count-tree-claims : ℕ → count-tree-lts.Claims
-count-tree-claims t = (count-modal-below t, count-modal.Post, count-tree-below t, count-tree.Post)
+count-tree-claims t = (
+  is-modality-reads.Asked,
+  is-modality-reads.Learnt,
+  count-modal-below t,
+  count-modal.Post,
+  count-tree-below t,
+  count-tree.Post,
+)

@@ -3,7 +3,6 @@ use Prim.Native.Nat.{ℕ, _-_}
 use Rattle.dividing.proofs.count.count_modal.Reads as count-modal
 use Rattle.dividing.proofs.count.+count_disjunct+count_disjuncts+count_forward+count_modal+count_tree.Lts-count_modal as count-modal-lts
 use mathlib.Core.Path.{refl, sym, _∙_}
-use mathlib.Core.Logic.{inl, inr}
 use native.Mathlib.Omega.{arith}
 use lib.Seq.{length-take-le}
 use borrow.Author.Needs.{needs}
@@ -25,27 +24,20 @@ count-modal-shared-slice-read-operator t c =
     let y = s .pre .1 .1 .0 in
     omega (arith, node-room _ (y .part .tree))
 
+pub count-modal-is-forward-requires : (t : ℕ)
+    → count-modal-lts.Need-is-forward-requires (count-modal-claims t) (count-modal-at t) count-modal.Post
+count-modal-is-forward-requires t c κs = tt
+
 pub count-modal-count-forward-requires : (t : ℕ)
     → count-modal-lts.Need-count-forward-requires (count-modal-claims t) (count-modal-at t) count-modal.Post
 count-modal-count-forward-requires t c κs =
-    let s = c .before .before .before .before .before in
+    let s = c .before .before .before .before .before .before in
     let y = s .pre .1 .1 .0 in
-    (omega (arith, s .pre .0), (s .pre .1 .0, (y, (s .pre .1 .1 .1 .1, inl (c .before .if1 .taken)))))
+    (omega (arith, s .pre .0), (s .pre .1 .0, (y, (s .pre .1 .1 .1 .1, sym (c .before .before .is-forward .ensures) ∙ c .before .if1 .taken))))
 
 pub count-modal-returns : (t : ℕ)
     → count-modal-lts.Need-returns (count-modal-claims t) (count-modal-at t) count-modal.Post
 count-modal-returns t c = c .count-forward .ensures
-
-pub count-modal-count-forward-requires-2 : (t : ℕ)
-    → count-modal-lts.Need-count-forward-requires-2 (count-modal-claims t) (count-modal-at t) count-modal.Post
-count-modal-count-forward-requires-2 t c κs =
-    let s = c .before .before .before .before .before .before in
-    let y = s .pre .1 .1 .0 in
-    (omega (arith, s .pre .0), (s .pre .1 .0, (y, (s .pre .1 .1 .1 .1, inr (c .before .if2 .taken)))))
-
-pub count-modal-returns-2 : (t : ℕ)
-    → count-modal-lts.Need-returns-2 (count-modal-claims t) (count-modal-at t) count-modal.Post
-count-modal-returns-2 t c = c .count-forward2 .ensures
 
 pub count-modal-shared-slice-read-t12 : (t : ℕ)
     → count-modal-lts.Need-shared-slice-read-t12 (count-modal-claims t) (count-modal-at t) count-modal.Post
@@ -78,7 +70,7 @@ count-modal-sub-count-tree t c =
     let s = c9 .before .before .before .before in
     let y = s .pre .1 .1 .0 in
     let f = s .args .f .now in
-    let o = back-operator f (y .part .tree) (s .pre .1 .1 .1 .2) (c9 .if1 .left) (c8 .if2 .left) in
+    let o = back-operator _ (s .pre .1 .1 .1 .2) (sym (c9 .is-forward .ensures) ∙ c8 .if1 .left) in
     let read = sym (c .before .enum-told .given .1) ∙ c3 .past-node .ensures in
     omega (
       arith,
@@ -122,7 +114,7 @@ count-modal-count-tree-requires t c κs =
     let s = c10 .before .before .before .before in
     let y = s .pre .1 .1 .0 in
     let f = s .args .f .now in
-    let o = back-operator f (y .part .tree) (s .pre .1 .1 .1 .2) (c10 .if1 .left) (c9 .if2 .left) in
+    let o = back-operator _ (s .pre .1 .1 .1 .2) (sym (c10 .is-forward .ensures) ∙ c9 .if1 .left) in
     let read = sym (c .before .before .enum-told .given .1) ∙ c4 .past-node .ensures in
     let l = texts.past-step _ (s .args .table .now) _ f (y .part) (s .args .run .now) (s .args .len) (y .held) o _
     read in (
@@ -141,9 +133,9 @@ pub count-modal-enum-told-2 : (t : ℕ)
     → count-modal-lts.Need-enum-told-2 (count-modal-claims t) (count-modal-at t) count-modal.Post
 count-modal-enum-told-2 t c = search needs
 
-pub count-modal-returns-3 : (t : ℕ)
-    → count-modal-lts.Need-returns-3 (count-modal-claims t) (count-modal-at t) count-modal.Post
-count-modal-returns-3 t c =
+pub count-modal-returns-2 : (t : ℕ)
+    → count-modal-lts.Need-returns-2 (count-modal-claims t) (count-modal-at t) count-modal.Post
+count-modal-returns-2 t c =
     let c3 = c .before .before .before in
     let c5 = c3 .before .before in
     let c10 = c5 .before .before .before .before .before in
@@ -151,20 +143,20 @@ count-modal-returns-3 t c =
     let s = c11 .before .before .before .before in
     let y = s .pre .1 .1 .0 in
     let f = s .args .f .now in
-    let o = back-operator f (y .part .tree) (s .pre .1 .1 .1 .2) (c11 .if1 .left) (c10 .if2 .left) in
+    let o = back-operator _ (s .pre .1 .1 .1 .2) (sym (c11 .is-forward .ensures) ∙ c10 .if1 .left) in
     let read = sym (c3 .enum-told .given .1) ∙ c5 .past-node .ensures in
     let over = texts.past-over _ _ _ f (y .part) (s .args .run .now) (s .args .len) (y .held) o _ read in
     (counting.count-over _ _ _ _ _ _ over (s .pre .1 .1 .1 .0) (c .count-tree .ensures .0), c .count-tree .ensures .1)
 
-pub count-modal-returns-4 : (t : ℕ)
-    → count-modal-lts.Need-returns-4 (count-modal-claims t) (count-modal-at t) count-modal.Post
-count-modal-returns-4 t c =
+pub count-modal-returns-3 : (t : ℕ)
+    → count-modal-lts.Need-returns-3 (count-modal-claims t) (count-modal-at t) count-modal.Post
+count-modal-returns-3 t c =
     let c7 = c .before .before .before .before .before .before .before in
     let c8 = c7 .before in
     let s = c8 .before .before .before .before in
     let y = s .pre .1 .1 .0 in
     let f = s .args .f .now in
-    let o = back-operator f (y .part .tree) (s .pre .1 .1 .1 .2) (c8 .if1 .left) (c7 .if2 .left) in
+    let o = back-operator _ (s .pre .1 .1 .1 .2) (sym (c8 .is-forward .ensures) ∙ c7 .if1 .left) in
     let read = sym (c .enum-told2 .given .1) ∙ c .before .before .past-node .ensures in (
       counting.count-leaf _ _ _ _
           (texts.past-fails _ _ _ f (y .part) (s .args .run .now) (s .args .len) (y .held) o read),

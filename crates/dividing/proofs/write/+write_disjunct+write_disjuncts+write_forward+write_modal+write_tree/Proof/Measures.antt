@@ -18,6 +18,8 @@ use Rattle.dividing.proofs.write.+write_disjunct+write_disjuncts+write_
 use Rattle.dividing.proofs.write.write_tree.Reads as write-tree
 use Rattle.dividing.proofs.write.write_tree.Kinds as write-tree-kinds
 use Rattle.dividing.proofs.write.+write_disjunct+write_disjuncts+write_forward+write_modal+write_tree.Lts-write_tree as write-tree-lts
+use Rattle.formulas.proofs.node.is_forward.Reads as is-forward-reads
+use Rattle.formulas.proofs.node.is_modality.Reads as is-modality-reads
 use Rattle.dividing.proofs.disjuncts.list_disjuncts.Reads as list-disjuncts-reads
 use Rattle.dividing.proofs.node.past_node.Reads as past-node-reads
 use Rattle.dividing.proofs.node.put_node.Reads as put-node-reads
@@ -122,6 +124,8 @@ write-forward-claims t =
 
 abbrev pub write-modal-claims : ℕ → write-modal-lts.Claims
 write-modal-claims t = (
+  is-forward-reads.Asked,
+  is-forward-reads.Learnt,
   write-forward-below t,
   write-forward.Post,
   past-node-reads.Asked,
@@ -134,6 +138,8 @@ write-modal-claims t = (
 
 abbrev pub write-tree-claims : ℕ → write-tree-lts.Claims
 write-tree-claims t = (
+  is-modality-reads.Asked,
+  is-modality-reads.Learnt,
   write-modal-below t,
   write-modal.Post,
   put-node-reads.Asked,

@@ -3,7 +3,6 @@ use Prim.Native.Nat.{ℕ, _-_}
 use Rattle.dividing.proofs.write.write_modal.Reads as write-modal
 use Rattle.dividing.proofs.write.+write_disjunct+write_disjuncts+write_forward+write_modal+write_tree.Lts-write_modal as write-modal-lts
 use mathlib.Core.Path.{refl, sym, _∙_}
-use mathlib.Core.Logic.{inl, inr}
 use native.Mathlib.Omega.{arith}
 use borrow.Author.Needs.{needs}
 use lib.ListN.{take}
@@ -28,39 +27,26 @@ write-modal-shared-slice-read-operator t c =
     let y = s .pre .1 .1 .0 in
     omega (arith, node-room _ (y .part .tree))
 
+pub write-modal-is-forward-requires : (t : ℕ)
+    → write-modal-lts.Need-is-forward-requires (write-modal-claims t) (write-modal-at t) write-modal.Post
+write-modal-is-forward-requires t c κs = tt
+
 pub write-modal-write-forward-requires : (t : ℕ)
     → write-modal-lts.Need-write-forward-requires (write-modal-claims t) (write-modal-at t) write-modal.Post
 write-modal-write-forward-requires t c κs =
-    let s = c .before .before .before .before .before .before .before in
+    let s = c .before .before .before .before .before .before .before .before in
     let y = s .pre .1 .1 .0 in
-    (omega (arith, s .pre .0), (s .pre .1 .0, (y, (inl (c .before .before .if1 .taken), s .pre .1 .1 .1 .1))))
+    (omega (arith, s .pre .0), (s .pre .1 .0, (y, (sym (c .before .before .before .is-forward .ensures) ∙ c .before .before .if1 .taken, s .pre .1 .1 .1 .1))))
 
 pub write-modal-same-length : (t : ℕ)
     → write-modal-lts.Need-same-length (write-modal-claims t) (write-modal-at t) write-modal.Post
 write-modal-same-length t c =
-    let s = c .before .before .before .before .before .before .before .before .before .before in
+    let s = c .before .before .before .before .before .before .before .before .before .before .before in
     front-length _ _ _ (c .before .before .write-forward .ensures .1 .0) (s .pre .1 .1 .1 .1)
 
 pub write-modal-returns : (t : ℕ)
     → write-modal-lts.Need-returns (write-modal-claims t) (write-modal-at t) write-modal.Post
 write-modal-returns t c = c .before .before .write-forward .ensures
-
-pub write-modal-write-forward-requires-2 : (t : ℕ)
-    → write-modal-lts.Need-write-forward-requires-2 (write-modal-claims t) (write-modal-at t) write-modal.Post
-write-modal-write-forward-requires-2 t c κs =
-    let s = c .before .before .before .before .before .before .before .before in
-    let y = s .pre .1 .1 .0 in
-    (omega (arith, s .pre .0), (s .pre .1 .0, (y, (inr (c .before .before .if2 .taken), s .pre .1 .1 .1 .1))))
-
-pub write-modal-same-length-2 : (t : ℕ)
-    → write-modal-lts.Need-same-length-2 (write-modal-claims t) (write-modal-at t) write-modal.Post
-write-modal-same-length-2 t c =
-    let s = c .before .before .before .before .before .before .before .before .before .before .before in
-    front-length _ _ _ (c .before .before .write-forward2 .ensures .1 .0) (s .pre .1 .1 .1 .1)
-
-pub write-modal-returns-2 : (t : ℕ)
-    → write-modal-lts.Need-returns-2 (write-modal-claims t) (write-modal-at t) write-modal.Post
-write-modal-returns-2 t c = c .before .before .write-forward2 .ensures
 
 pub write-modal-shared-slice-read-t14 : (t : ℕ)
     → write-modal-lts.Need-shared-slice-read-t14 (write-modal-claims t) (write-modal-at t) write-modal.Post
@@ -104,7 +90,7 @@ write-modal-sub-write-tree t c =
     let s = c15 .before .before .before .before .before in
     let y = s .pre .1 .1 .0 in
     let f = s .args .f .now in
-    let o = back-operator f (y .part .tree) (s .pre .1 .1 .1 .0) (c15 .if1 .left) (c14 .if2 .left) in
+    let o = back-operator _ (s .pre .1 .1 .1 .0) (sym (c15 .is-forward .ensures) ∙ c14 .if1 .left) in
     let read = sym (c7 .node .given .1) ∙ c9 .past-node .ensures in
     omega (
       arith,
@@ -172,7 +158,7 @@ write-modal-write-tree-requires t c κs =
     let y = s .pre .1 .1 .0 in
     let f = s .args .f .now in
     let room = s .pre .1 .1 .1 .1 in
-    let o = back-operator f (y .part .tree) (s .pre .1 .1 .1 .0) (c17 .if1 .left) (c16 .if2 .left) in
+    let o = back-operator _ (s .pre .1 .1 .1 .0) (sym (c17 .is-forward .ensures) ∙ c16 .if1 .left) in
     let read = sym (c9 .node .given .1) ∙ c11 .past-node .ensures in
     let over = texts.past-over _ _ _ f (y .part) (s .args .run .now) (s .args .len) (y .held) o _ read in
     let l = texts.past-step _ (s .args .table .now) _ f (y .part) (s .args .run .now) (s .args .len) (y .held) o _
@@ -193,7 +179,7 @@ write-modal-add-result t c =
     let y = s .pre .1 .1 .0 in
     let f = s .args .f .now in
     let room = s .pre .1 .1 .1 .1 in
-    let o = back-operator f (y .part .tree) (s .pre .1 .1 .1 .0) (c20 .if1 .left) (c19 .if2 .left) in
+    let o = back-operator _ (s .pre .1 .1 .1 .0) (sym (c20 .is-forward .ensures) ∙ c19 .if1 .left) in
     let read = sym (c12 .node .given .1) ∙ c14 .past-node .ensures in
     let over = texts.past-over _ _ _ f (y .part) (s .args .run .now) (s .args .len) (y .held) o _ read in
     let whole = node-over-length _ _ _ _ over (c .before .before .write-tree .ensures .0) in
@@ -213,9 +199,9 @@ write-modal-put-node-requires-2 t c κs =
     (halfOf (take (s .args .len) (s .args .run .now))) in
     omega (arith, room, some)
 
-pub write-modal-same-length-3 : (t : ℕ)
-    → write-modal-lts.Need-same-length-3 (write-modal-claims t) (write-modal-at t) write-modal.Post
-write-modal-same-length-3 t c =
+pub write-modal-same-length-2 : (t : ℕ)
+    → write-modal-lts.Need-same-length-2 (write-modal-claims t) (write-modal-at t) write-modal.Post
+write-modal-same-length-2 t c =
     let c8 = c .before .before .before .before .before .before .before .before in
     let c12 = c8 .before .before .before .before in
     let c14 = c12 .before .before in
@@ -225,14 +211,14 @@ write-modal-same-length-3 t c =
     let y = s .pre .1 .1 .0 in
     let f = s .args .f .now in
     let room = s .pre .1 .1 .1 .1 in
-    let o = back-operator f (y .part .tree) (s .pre .1 .1 .1 .0) (c20 .if1 .left) (c19 .if2 .left) in
+    let o = back-operator _ (s .pre .1 .1 .1 .0) (sym (c20 .is-forward .ensures) ∙ c19 .if1 .left) in
     let read = sym (c12 .node .given .1) ∙ c14 .past-node .ensures in
     let over = texts.past-over _ _ _ f (y .part) (s .args .run .now) (s .args .len) (y .held) o _ read in
     second-length _ _ _ _ _ _ 2 over refl (c8 .put-node .ensures) (c .before .before .write-tree .ensures .1 .0) room
 
-pub write-modal-returns-3 : (t : ℕ)
-    → write-modal-lts.Need-returns-3 (write-modal-claims t) (write-modal-at t) write-modal.Post
-write-modal-returns-3 t c =
+pub write-modal-returns-2 : (t : ℕ)
+    → write-modal-lts.Need-returns-2 (write-modal-claims t) (write-modal-at t) write-modal.Post
+write-modal-returns-2 t c =
     let c8 = c .before .before .before .before .before .before .before .before in
     let c12 = c8 .before .before .before .before in
     let c14 = c12 .before .before in
@@ -241,16 +227,16 @@ write-modal-returns-3 t c =
     let s = c20 .before .before .before .before .before in
     let y = s .pre .1 .1 .0 in
     let f = s .args .f .now in
-    let o = back-operator f (y .part .tree) (s .pre .1 .1 .1 .0) (c20 .if1 .left) (c19 .if2 .left) in
+    let o = back-operator _ (s .pre .1 .1 .1 .0) (sym (c20 .is-forward .ensures) ∙ c19 .if1 .left) in
     let read = sym (c12 .node .given .1) ∙ c14 .past-node .ensures in
     let over = texts.past-over _ _ _ f (y .part) (s .args .run .now) (s .args .len) (y .held) o _ read in
     let tree = c .before .before .write-tree .ensures in
     let p = two-pieces _ _ _ _ _ _ 2 _ over refl (c8 .put-node .ensures) (tree .0) (tree .1 .0) in
     (p .0, (p .1, tree .1 .1))
 
-pub write-modal-same-length-4 : (t : ℕ)
-    → write-modal-lts.Need-same-length-4 (write-modal-claims t) (write-modal-at t) write-modal.Post
-write-modal-same-length-4 t c =
+pub write-modal-same-length-3 : (t : ℕ)
+    → write-modal-lts.Need-same-length-3 (write-modal-claims t) (write-modal-at t) write-modal.Post
+write-modal-same-length-3 t c =
     let c8 = c .before .before .before .before .before .before .before .before in
     let c17 = c8 .before .before .before .before .before .before .before .before .before in
     let s = c17 in
@@ -259,9 +245,9 @@ write-modal-same-length-4 t c =
     (halfOf (take (s .args .len) (s .args .run .now))) in
     front-length _ _ _ (c .before .before .put-node2 .ensures) (omega (arith, room, some))
 
-pub write-modal-returns-4 : (t : ℕ)
-    → write-modal-lts.Need-returns-4 (write-modal-claims t) (write-modal-at t) write-modal.Post
-write-modal-returns-4 t c =
+pub write-modal-returns-3 : (t : ℕ)
+    → write-modal-lts.Need-returns-3 (write-modal-claims t) (write-modal-at t) write-modal.Post
+write-modal-returns-3 t c =
     let c4 = c .before .before .before .before in
     let c6 = c4 .before .before in
     let c11 = c6 .before .before .before .before .before in
@@ -269,7 +255,7 @@ write-modal-returns-4 t c =
     let s = c12 .before .before .before .before .before in
     let y = s .pre .1 .1 .0 in
     let f = s .args .f .now in
-    let o = back-operator f (y .part .tree) (s .pre .1 .1 .1 .0) (c12 .if1 .left) (c11 .if2 .left) in
+    let o = back-operator _ (s .pre .1 .1 .1 .0) (sym (c12 .is-forward .ensures) ∙ c11 .if1 .left) in
     let read = sym (c4 .enum-told .given .1) ∙ c6 .past-node .ensures in
     let fails = texts.past-fails _ _ _ f (y .part) (s .args .run .now) (s .args .len) (y .held) o read in
     let p = one-piece _ _ _ _ 2 fails refl (c .before .before .put-node2 .ensures) in

@@ -2,18 +2,18 @@
 use Prim.Native.Nat.{ℕ, _+_, _-_, _*_, _/_, _≤_}
 use Rattle.dividing.proofs.write.write_tree.Reads as write-tree
 use Rattle.dividing.proofs.write.+write_disjunct+write_disjuncts+write_forward+write_modal+write_tree.Lts-write_tree as write-tree-lts
-use mathlib.Core.Path.{refl, _∙_}
+use mathlib.Core.Path.{refl, sym, _∙_}
 use mathlib.Core.List.{[], _∷_, _++_}
 use native.Mathlib.Omega.{arith}
 use lib.ListN.{length, getD, take}
 use Rattle.labels.proofs.Slices.{rest, rest-length}
 use Rattle.halves.specs.Halves.{halfOf}
 use Rattle.formulas.proofs.Operators.{node-room}
-use Rattle.formulas.proofs.Operands.{size-read, second-room, connective-operator}
+use Rattle.formulas.proofs.Operands.{size-read, second-room, and-or, connective-operator}
 use Rattle.dividing.specs.Working.{text}
 use Rattle.labels.proofs.Outputs.{front-length}
 use Rattle.dividing.proofs.Pieces.{one-piece, joined, two-pieces, second-fits, second-length}
-use Rattle.dividing.proofs.Readiness.{inner, inner-ready, second-ready}
+use Rattle.dividing.proofs.Readiness.{connective-ready, second-ready}
 use Rattle.dividing.proofs.Texts as texts
 use Rattle.dividing.proofs.write.+write_disjunct+write_disjuncts+write_forward+write_modal+write_tree.Proof.Measures.{
   write-tree-at,
@@ -27,17 +27,23 @@ write-tree-shared-slice-read-operator t c =
     let y = s .pre .1 .1 .0 in
     omega (arith, node-room _ (y .part .tree))
 
+pub write-tree-is-modality-requires : (t : ℕ)
+    → write-tree-lts.Need-is-modality-requires (write-tree-claims t) (write-tree-at t) write-tree.Post
+write-tree-is-modality-requires t c κs = tt
+
 pub write-tree-write-modal-requires : (t : ℕ)
     → write-tree-lts.Need-write-modal-requires (write-tree-claims t) (write-tree-at t) write-tree.Post
 write-tree-write-modal-requires t c κs =
-    let s = c .before .before .before .before .before .before .before in
+    let s = c .before .before .before .before .before .before .before .before in
     let y = s .pre .1 .1 .0 in
-    (omega (arith, s .pre .0), (s .pre .1 .0, (y, (c .before .before .if1 .taken, s .pre .1 .1 .1))))
+    let i = c .before .before in
+    let o = sym (i .before .is-modality .ensures) ∙ i .if1 .taken in
+    (omega (arith, s .pre .0), (s .pre .1 .0, (y, (o, s .pre .1 .1 .1))))
 
 pub write-tree-same-length : (t : ℕ)
     → write-tree-lts.Need-same-length (write-tree-claims t) (write-tree-at t) write-tree.Post
 write-tree-same-length t c =
-    let s = c .before .before .before .before .before .before .before .before .before .before in
+    let s = c .before .before .before .before .before .before .before .before .before .before .before in
     front-length _ _ _ (c .before .before .write-modal .ensures .1 .0) (s .pre .1 .1 .1)
 
 pub write-tree-returns : (t : ℕ) → write-tree-lts.Need-returns (write-tree-claims t) (write-tree-at t) write-tree.Post
@@ -46,7 +52,7 @@ write-tree-returns t c = c .before .before .write-modal .ensures
 pub write-tree-put-node-requires : (t : ℕ)
     → write-tree-lts.Need-put-node-requires (write-tree-claims t) (write-tree-at t) write-tree.Post
 write-tree-put-node-requires t c κs =
-    let s = c .before .before .before .before .before .before in
+    let s = c .before .before .before .before .before .before .before in
     let f = s .args .f .now in
     let xs = s .args .run .now in
     let n = s .args .len in
@@ -57,7 +63,7 @@ write-tree-put-node-requires t c κs =
 pub write-tree-same-length-2 : (t : ℕ)
     → write-tree-lts.Need-same-length-2 (write-tree-claims t) (write-tree-at t) write-tree.Post
 write-tree-same-length-2 t c =
-    let s = c .before .before .before .before .before .before .before .before .before .before in
+    let s = c .before .before .before .before .before .before .before .before .before .before .before in
     let f = s .args .f .now in
     let xs = s .args .run .now in
     let n = s .args .len in
@@ -69,7 +75,7 @@ write-tree-same-length-2 t c =
 pub write-tree-returns-2 : (t : ℕ)
     → write-tree-lts.Need-returns-2 (write-tree-claims t) (write-tree-at t) write-tree.Post
 write-tree-returns-2 t c =
-    let s = c .before .before .before .before .before .before .before .before .before .before in
+    let s = c .before .before .before .before .before .before .before .before .before .before .before in
     let y = s .pre .1 .1 .0 in
     let f = s .args .f .now in
     let xs = s .args .run .now in
@@ -82,14 +88,14 @@ write-tree-returns-2 t c =
 pub write-tree-sub-write-tree : (t : ℕ)
     → write-tree-lts.Need-sub-write-tree (write-tree-claims t) (write-tree-at t) write-tree.Post
 write-tree-sub-write-tree t c =
-    let s = c .before .before .before .before .before .before .before .before .before .before .before in
+    let s = c .before .before .before .before .before .before .before .before .before .before .before .before in
     let y = s .pre .1 .1 .0 in
     omega (arith, node-room _ (y .part .tree))
 
 pub write-tree-part-write-tree-start : (t : ℕ)
     → write-tree-lts.Need-part-write-tree-start (write-tree-claims t) (write-tree-at t) write-tree.Post
 write-tree-part-write-tree-start t c =
-    let s = c .before .before .before .before .before .before .before .before .before .before .before in
+    let s = c .before .before .before .before .before .before .before .before .before .before .before .before in
     let y = s .pre .1 .1 .0 in
     omega (arith, node-room _ (y .part .tree))
 
@@ -100,7 +106,7 @@ write-tree-part-write-tree-end t c = omega arith
 pub write-tree-sub-write-tree-2 : (t : ℕ)
     → write-tree-lts.Need-sub-write-tree-2 (write-tree-claims t) (write-tree-at t) write-tree.Post
 write-tree-sub-write-tree-2 t c =
-    let s = c .before .before .before .before .before .before .before .before .before .before .before .before in
+    let s = c .before .before .before .before .before .before .before .before .before .before .before .before .before in
     let f = s .args .f .now in
     let xs = s .args .run .now in
     let n = s .args .len in
@@ -117,7 +123,7 @@ write-tree-sub-write-tree-2 t c =
 pub write-tree-part-write-tree-start-2 : (t : ℕ)
     → write-tree-lts.Need-part-write-tree-start-2 (write-tree-claims t) (write-tree-at t) write-tree.Post
 write-tree-part-write-tree-start-2 t c =
-    let s = c .before .before .before .before .before .before .before .before .before .before .before .before in
+    let s = c .before .before .before .before .before .before .before .before .before .before .before .before .before in
     let f = s .args .f .now in
     let xs = s .args .run .now in
     let n = s .args .len in
@@ -138,24 +144,24 @@ write-tree-part-write-tree-end-2 t c = omega arith
 pub write-tree-write-tree-requires : (t : ℕ)
     → write-tree-lts.Need-write-tree-requires (write-tree-claims t) (write-tree-at t) write-tree.Post
 write-tree-write-tree-requires t c κs =
-    let s = c .before .before .before .before .before .before .before .before .before .before .before .before .before in
+    let s = c .before .before .before .before .before .before .before .before .before .before .before .before .before .before in
     let y = s .pre .1 .1 .0 in
     let f = s .args .f .now in
     let xs = s .args .run .now in
     let n = s .args .len in
     let r = halfOf (take n xs) in
     let room = s .pre .1 .1 .1 in
-    let i = inner _ (c .before .before .before .if2 .left)
-    (c .before .before .before .before .before .before .before .before .if1 .left) in
+    let i = connective-operator _ (y .part .tree) (c .before .before .before .if2 .left)
+    (sym (c .before .before .before .before .before .before .before .before .before .is-modality .ensures) ∙ c .before .before .before .before .before .before .before .before .if1 .left) in
     let j = joined (getD f 0 0 ∷ 0 ∷ []) (text (s .args .labels) (s .args .table .now) (rest 2 f) r) in
     let inside : length ((getD f 0 0 ∷ 0 ∷ []) ++ text (s .args .labels) (s .args .table .now) (rest 2 f) r)
     ≤ length (s .args .out .now) =
-    omega (arith, texts.text-inner (s .args .labels) (s .args .table .now) _ f (y .part) r i, room) in (
+    omega (arith, texts.text-connective (s .args .labels) (s .args .table .now) _ f (y .part) r i, room) in (
       omega (arith, s .pre .0, rest-length 2 f, node-room _ (y .part .tree)),
       (
         s .pre .1 .0,
         (
-          inner-ready _ _ _ _ y i,
+          connective-ready _ _ _ _ y i,
           second-fits _ _ _ _ j inside _ _ 2 refl refl
               (c .before .before .before .before .before .before .put-node .ensures),
         ),
@@ -165,19 +171,19 @@ write-tree-write-tree-requires t c κs =
 pub write-tree-add-at : (t : ℕ) → write-tree-lts.Need-add-at (write-tree-claims t) (write-tree-at t) write-tree.Post
 write-tree-add-at t c =
     let s = c .before .before .before .before .before .before .before .before .before .before .before .before .before
-    .before .before .before in
+    .before .before .before .before in
     let y = s .pre .1 .1 .0 in
     let f = s .args .f .now in
     let xs = s .args .run .now in
     let n = s .args .len in
     let r = halfOf (take n xs) in
     let room = s .pre .1 .1 .1 in
-    let i = inner _ (c .before .before .before .before .before .before .if2 .left)
-    (c .before .before .before .before .before .before .before .before .before .before .before .if1 .left) in
+    let i = connective-operator _ (y .part .tree) (c .before .before .before .before .before .before .if2 .left)
+    (sym (c .before .before .before .before .before .before .before .before .before .before .before .before .is-modality .ensures) ∙ c .before .before .before .before .before .before .before .before .before .before .before .if1 .left) in
     let j = joined (getD f 0 0 ∷ 0 ∷ []) (text (s .args .labels) (s .args .table .now) (rest 2 f) r) in
     let inside : length ((getD f 0 0 ∷ 0 ∷ []) ++ text (s .args .labels) (s .args .table .now) (rest 2 f) r)
     ≤ length (s .args .out .now) =
-    omega (arith, texts.text-inner (s .args .labels) (s .args .table .now) _ f (y .part) r i, room) in
+    omega (arith, texts.text-connective (s .args .labels) (s .args .table .now) _ f (y .part) r i, room) in
     omega (
       arith,
       c .before .before .write-tree .ensures .0,
@@ -190,19 +196,19 @@ pub write-tree-same-length-3 : (t : ℕ)
     → write-tree-lts.Need-same-length-3 (write-tree-claims t) (write-tree-at t) write-tree.Post
 write-tree-same-length-3 t c =
     let s = c .before .before .before .before .before .before .before .before .before .before .before .before .before
-    .before .before .before .before in
+    .before .before .before .before .before in
     let y = s .pre .1 .1 .0 in
     let f = s .args .f .now in
     let xs = s .args .run .now in
     let n = s .args .len in
     let r = halfOf (take n xs) in
     let room = s .pre .1 .1 .1 in
-    let i = inner _ (c .before .before .before .before .before .before .before .if2 .left)
-    (c .before .before .before .before .before .before .before .before .before .before .before .before .if1 .left) in
+    let i = connective-operator _ (y .part .tree) (c .before .before .before .before .before .before .before .if2 .left)
+    (sym (c .before .before .before .before .before .before .before .before .before .before .before .before .before .is-modality .ensures) ∙ c .before .before .before .before .before .before .before .before .before .before .before .before .if1 .left) in
     let j = joined (getD f 0 0 ∷ 0 ∷ []) (text (s .args .labels) (s .args .table .now) (rest 2 f) r) in
     let inside : length ((getD f 0 0 ∷ 0 ∷ []) ++ text (s .args .labels) (s .args .table .now) (rest 2 f) r)
     ≤ length (s .args .out .now) =
-    omega (arith, texts.text-inner (s .args .labels) (s .args .table .now) _ f (y .part) r i, room) in
+    omega (arith, texts.text-connective (s .args .labels) (s .args .table .now) _ f (y .part) r i, room) in
     second-length _ _ _ _ _ _ 2 j refl
     (c .before .before .before .before .before .before .before .before .before .before .put-node .ensures)
     (c .before .before .before .write-tree .ensures .1 .0) inside
@@ -212,7 +218,7 @@ pub write-tree-returns-3 : (t : ℕ)
 write-tree-returns-3 t c =
     let c1 = c .before .before .before in
     let c2 = c1 .before .before .before .before .before .before .before in
-    let s = c2 .before .before .before .before .before .before .before in
+    let s = c2 .before .before .before .before .before .before .before .before in
     let y = s .pre .1 .1 .0 in
     let f = s .args .f .now in
     let xs = s .args .run .now in
@@ -225,47 +231,43 @@ write-tree-returns-3 t c =
 pub write-tree-sub-size : (t : ℕ) → write-tree-lts.Need-sub-size (write-tree-claims t) (write-tree-at t) write-tree.Post
 write-tree-sub-size t c =
     let s = c .before .before .before .before .before .before .before .before .before .before .before .before .before
-    .before .before .before .before in
+    .before .before .before .before .before in
     let y = s .pre .1 .1 .0 in
     let f = s .args .f .now in
-    let o = connective-operator _ (c .before .before .before .before .before .before .before .if2 .left)
-    (c .before .before .before .before .before .before .before .before .before .before .before .before .if1 .left)
-    (c .if3 .left) in
+    let o = and-or _ (connective-operator _ (y .part .tree) (c .before .before .before .before .before .before .before .if2 .left)
+    (sym (c .before .before .before .before .before .before .before .before .before .before .before .before .before .is-modality .ensures) ∙ c .before .before .before .before .before .before .before .before .before .before .before .before .if1 .left)) (c .if3 .left) in
     omega (arith, size-read _ f (y .part) o, y .slots)
 
 pub write-tree-mul-size : (t : ℕ) → write-tree-lts.Need-mul-size (write-tree-claims t) (write-tree-at t) write-tree.Post
 write-tree-mul-size t c =
     let s = c .before .before .before .before .before .before .before .before .before .before .before .before .before
-    .before .before .before .before in
+    .before .before .before .before .before in
     let y = s .pre .1 .1 .0 in
     let f = s .args .f .now in
-    let o = connective-operator _ (c .before .before .before .before .before .before .before .if2 .left)
-    (c .before .before .before .before .before .before .before .before .before .before .before .before .if1 .left)
-    (c .if3 .left) in
+    let o = and-or _ (connective-operator _ (y .part .tree) (c .before .before .before .before .before .before .before .if2 .left)
+    (sym (c .before .before .before .before .before .before .before .before .before .before .before .before .before .is-modality .ensures) ∙ c .before .before .before .before .before .before .before .before .before .before .before .before .if1 .left)) (c .if3 .left) in
     omega (arith, size-read _ f (y .part) o, y .slots)
 
 pub write-tree-element-copy-out-size : (t : ℕ)
     → write-tree-lts.Need-element-copy-out-size (write-tree-claims t) (write-tree-at t) write-tree.Post
 write-tree-element-copy-out-size t c =
     let s = c .before .before .before .before .before .before .before .before .before .before .before .before .before
-    .before .before .before .before in
+    .before .before .before .before .before in
     let y = s .pre .1 .1 .0 in
     let f = s .args .f .now in
-    let o = connective-operator _ (c .before .before .before .before .before .before .before .if2 .left)
-    (c .before .before .before .before .before .before .before .before .before .before .before .before .if1 .left)
-    (c .if3 .left) in
+    let o = and-or _ (connective-operator _ (y .part .tree) (c .before .before .before .before .before .before .before .if2 .left)
+    (sym (c .before .before .before .before .before .before .before .before .before .before .before .before .before .is-modality .ensures) ∙ c .before .before .before .before .before .before .before .before .before .before .before .before .if1 .left)) (c .if3 .left) in
     omega (arith, size-read _ f (y .part) o, y .slots)
 
 pub write-tree-mul-second : (t : ℕ)
     → write-tree-lts.Need-mul-second (write-tree-claims t) (write-tree-at t) write-tree.Post
 write-tree-mul-second t c =
     let s = c .before .before .before .before .before .before .before .before .before .before .before .before .before
-    .before .before .before .before .before in
+    .before .before .before .before .before .before in
     let y = s .pre .1 .1 .0 in
     let f = s .args .f .now in
-    let o = connective-operator _ (c .before .before .before .before .before .before .before .before .if2 .left)
-    (c .before .before .before .before .before .before .before .before .before .before .before .before .before .if1
-    .left) (c .before .if3 .left) in
+    let o = and-or _ (connective-operator _ (y .part .tree) (c .before .before .before .before .before .before .before .before .if2 .left)
+    (sym (c .before .before .before .before .before .before .before .before .before .before .before .before .before .before .is-modality .ensures) ∙ c .before .before .before .before .before .before .before .before .before .before .before .before .before .if1 .left)) (c .before .if3 .left) in
     let m = getD (s .args .sizes .now) (length f / 2 - 2) 0 in
     omega (arith, second-room _ f (y .part) o m refl, s .good)
 
@@ -273,12 +275,11 @@ pub write-tree-add-second : (t : ℕ)
     → write-tree-lts.Need-add-second (write-tree-claims t) (write-tree-at t) write-tree.Post
 write-tree-add-second t c =
     let s = c .before .before .before .before .before .before .before .before .before .before .before .before .before
-    .before .before .before .before .before in
+    .before .before .before .before .before .before in
     let y = s .pre .1 .1 .0 in
     let f = s .args .f .now in
-    let o = connective-operator _ (c .before .before .before .before .before .before .before .before .if2 .left)
-    (c .before .before .before .before .before .before .before .before .before .before .before .before .before .if1
-    .left) (c .before .if3 .left) in
+    let o = and-or _ (connective-operator _ (y .part .tree) (c .before .before .before .before .before .before .before .before .if2 .left)
+    (sym (c .before .before .before .before .before .before .before .before .before .before .before .before .before .before .is-modality .ensures) ∙ c .before .before .before .before .before .before .before .before .before .before .before .before .before .if1 .left)) (c .before .if3 .left) in
     let m = getD (s .args .sizes .now) (length f / 2 - 2) 0 in
     omega (arith, second-room _ f (y .part) o m refl, s .good)
 
@@ -287,10 +288,11 @@ pub write-tree-sub-second : (t : ℕ)
 write-tree-sub-second t c =
     let c1 = c .before .before .before .before .before .before .before .before in
     let c2 = c1 .before .before .before .before .before in
-    let s = c2 .before .before .before .before .before in
+    let s = c2 .before .before .before .before .before .before in
     let y = s .pre .1 .1 .0 in
     let f = s .args .f .now in
-    let o = connective-operator _ (c1 .if2 .left) (c2 .if1 .left) (c .before .if3 .left) in
+    let o = and-or _ (connective-operator _ (y .part .tree) (c1 .if2 .left)
+    (sym (c2 .before .is-modality .ensures) ∙ c2 .if1 .left)) (c .before .if3 .left) in
     let m = getD (s .args .sizes .now) (length f / 2 - 2) 0 in
     second-room _ f (y .part) o m refl
 
@@ -299,10 +301,11 @@ pub write-tree-part-second-start : (t : ℕ)
 write-tree-part-second-start t c =
     let c1 = c .before .before .before .before .before .before .before .before in
     let c2 = c1 .before .before .before .before .before in
-    let s = c2 .before .before .before .before .before in
+    let s = c2 .before .before .before .before .before .before in
     let y = s .pre .1 .1 .0 in
     let f = s .args .f .now in
-    let o = connective-operator _ (c1 .if2 .left) (c2 .if1 .left) (c .before .if3 .left) in
+    let o = and-or _ (connective-operator _ (y .part .tree) (c1 .if2 .left)
+    (sym (c2 .before .is-modality .ensures) ∙ c2 .if1 .left)) (c .before .if3 .left) in
     let m = getD (s .args .sizes .now) (length f / 2 - 2) 0 in
     second-room _ f (y .part) o m refl
 
@@ -315,20 +318,21 @@ pub write-tree-sub-write-tree-3 : (t : ℕ)
 write-tree-sub-write-tree-3 t c =
     let at-write-tree = c .before .before .before .before .before .before .write-tree in
     let s = c .before .before .before .before .before .before .before .before .before .before .before .before .before
-    .before .before .before .before .before .before .before in
+    .before .before .before .before .before .before .before .before in
     let y = s .pre .1 .1 .0 in
     let f = s .args .f .now in
     let xs = s .args .run .now in
     let n = s .args .len in
     let r = halfOf (take n xs) in
     let room = s .pre .1 .1 .1 in
-    let i = inner _ (c .before .before .before .before .before .before .before .before .before .before .if2 .left)
-    (c .before .before .before .before .before .before .before .before .before .before .before .before .before .before
+    let i = connective-operator _ (y .part .tree) (c .before .before .before .before .before .before .before .before .before .before .if2 .left)
+    (sym (c .before .before .before .before .before .before .before .before .before .before .before .before .before .before
+    .before .before .is-modality .ensures) ∙ c .before .before .before .before .before .before .before .before .before .before .before .before .before .before
     .before .if1 .left) in
     let j = joined (getD f 0 0 ∷ 0 ∷ []) (text (s .args .labels) (s .args .table .now) (rest 2 f) r) in
     let inside : length ((getD f 0 0 ∷ 0 ∷ []) ++ text (s .args .labels) (s .args .table .now) (rest 2 f) r)
     ≤ length (s .args .out .now) =
-    omega (arith, texts.text-inner (s .args .labels) (s .args .table .now) _ f (y .part) r i, room) in
+    omega (arith, texts.text-connective (s .args .labels) (s .args .table .now) _ f (y .part) r i, room) in
     let w = two-pieces _ _ _ _ _ _ 2 _ j refl
     (c .before .before .before .before .before .before .before .before .before .before .before .before .before .put-node
     .ensures) (at-write-tree .ensures .0) (at-write-tree .ensures .1 .0) in
@@ -339,20 +343,21 @@ pub write-tree-part-write-tree-start-3 : (t : ℕ)
 write-tree-part-write-tree-start-3 t c =
     let at-write-tree = c .before .before .before .before .before .before .write-tree in
     let s = c .before .before .before .before .before .before .before .before .before .before .before .before .before
-    .before .before .before .before .before .before .before in
+    .before .before .before .before .before .before .before .before in
     let y = s .pre .1 .1 .0 in
     let f = s .args .f .now in
     let xs = s .args .run .now in
     let n = s .args .len in
     let r = halfOf (take n xs) in
     let room = s .pre .1 .1 .1 in
-    let i = inner _ (c .before .before .before .before .before .before .before .before .before .before .if2 .left)
-    (c .before .before .before .before .before .before .before .before .before .before .before .before .before .before
+    let i = connective-operator _ (y .part .tree) (c .before .before .before .before .before .before .before .before .before .before .if2 .left)
+    (sym (c .before .before .before .before .before .before .before .before .before .before .before .before .before .before
+    .before .before .is-modality .ensures) ∙ c .before .before .before .before .before .before .before .before .before .before .before .before .before .before
     .before .if1 .left) in
     let j = joined (getD f 0 0 ∷ 0 ∷ []) (text (s .args .labels) (s .args .table .now) (rest 2 f) r) in
     let inside : length ((getD f 0 0 ∷ 0 ∷ []) ++ text (s .args .labels) (s .args .table .now) (rest 2 f) r)
     ≤ length (s .args .out .now) =
-    omega (arith, texts.text-inner (s .args .labels) (s .args .table .now) _ f (y .part) r i, room) in
+    omega (arith, texts.text-connective (s .args .labels) (s .args .table .now) _ f (y .part) r i, room) in
     let w = two-pieces _ _ _ _ _ _ 2 _ j refl
     (c .before .before .before .before .before .before .before .before .before .before .before .before .before .put-node
     .ensures) (at-write-tree .ensures .0) (at-write-tree .ensures .1 .0) in
@@ -367,7 +372,7 @@ pub write-tree-write-tree-requires-2 : (t : ℕ)
 write-tree-write-tree-requires-2 t c κs =
     let at-write-tree = c .before .before .before .before .before .before .before .write-tree in
     let s = c .before .before .before .before .before .before .before .before .before .before .before .before .before
-    .before .before .before .before .before .before .before .before in
+    .before .before .before .before .before .before .before .before .before in
     let y = s .pre .1 .1 .0 in
     let f = s .args .f .now in
     let xs = s .args .run .now in
@@ -375,10 +380,10 @@ write-tree-write-tree-requires-2 t c κs =
     let r = halfOf (take n xs) in
     let room = s .pre .1 .1 .1 in
     let j = joined (getD f 0 0 ∷ 0 ∷ []) (text (s .args .labels) (s .args .table .now) (rest 2 f) r) in
-    let o = connective-operator _
-    (c .before .before .before .before .before .before .before .before .before .before .before .if2 .left)
-    (c .before .before .before .before .before .before .before .before .before .before .before .before .before .before
-    .before .before .if1 .left) (c .before .before .before .before .if3 .left) in
+    let o = and-or _ (connective-operator _ (y .part .tree) (c .before .before .before .before .before .before .before .before .before .before .before .if2 .left)
+    (sym (c .before .before .before .before .before .before .before .before .before .before .before .before .before .before
+    .before .before .before .is-modality .ensures) ∙ c .before .before .before .before .before .before .before .before .before .before .before .before .before .before
+    .before .before .if1 .left)) (c .before .before .before .before .if3 .left) in
     let m = getD (s .args .sizes .now) (length f / 2 - 2) 0 in
     let w = two-pieces _ _ _ _ _ _ 2 _ j refl
     (c .before .before .before .before .before .before .before .before .before .before .before .before .before .before
@@ -397,26 +402,26 @@ pub write-tree-add-result : (t : ℕ)
     → write-tree-lts.Need-add-result (write-tree-claims t) (write-tree-at t) write-tree.Post
 write-tree-add-result t c =
     let s = c .before .before .before .before .before .before .before .before .before .before .before .before .before
-    .before .before .before .before .before .before .before .before .before .before .before in
+    .before .before .before .before .before .before .before .before .before .before .before .before in
     let y = s .pre .1 .1 .0 in
     let f = s .args .f .now in
     let xs = s .args .run .now in
     let n = s .args .len in
     let r = halfOf (take n xs) in
     let room = s .pre .1 .1 .1 in
-    let i = inner _ (c .before .before .before .before .before .before .before .before .before .before .before .before
+    let i = connective-operator _ (y .part .tree) (c .before .before .before .before .before .before .before .before .before .before .before .before
     .before .before .if2 .left)
-    (c .before .before .before .before .before .before .before .before .before .before .before .before .before .before
+    (sym (c .before .before .before .before .before .before .before .before .before .before .before .before .before .before
+    .before .before .before .before .before .before .is-modality .ensures) ∙ c .before .before .before .before .before .before .before .before .before .before .before .before .before .before
     .before .before .before .before .before .if1 .left) in
     let j = joined (getD f 0 0 ∷ 0 ∷ []) (text (s .args .labels) (s .args .table .now) (rest 2 f) r) in
     let inside : length ((getD f 0 0 ∷ 0 ∷ []) ++ text (s .args .labels) (s .args .table .now) (rest 2 f) r)
     ≤ length (s .args .out .now) =
-    omega (arith, texts.text-inner (s .args .labels) (s .args .table .now) _ f (y .part) r i, room) in
-    let o = connective-operator _
-    (c .before .before .before .before .before .before .before .before .before .before .before .before .before .before
-    .if2 .left) (c .before .before .before .before .before .before .before .before .before .before .before .before
-    .before .before .before .before .before .before .before .if1 .left)
-    (c .before .before .before .before .before .before .before .if3 .left) in
+    omega (arith, texts.text-connective (s .args .labels) (s .args .table .now) _ f (y .part) r i, room) in
+    let o = and-or _ (connective-operator _ (y .part .tree) (c .before .before .before .before .before .before .before .before .before .before .before .before .before .before .if2 .left)
+    (sym (c .before .before .before .before .before .before .before .before .before .before .before .before
+    .before .before .before .before .before .before .before .before .is-modality .ensures) ∙ c .before .before .before .before .before .before .before .before .before .before .before .before
+    .before .before .before .before .before .before .before .if1 .left)) (c .before .before .before .before .before .before .before .if3 .left) in
     let m = getD (s .args .sizes .now) (length f / 2 - 2) 0 in
     let w = two-pieces _ _ _ _ _ _ 2 _ j refl
     (c .before .before .before .before .before .before .before .before .before .before .before .before .before .before
@@ -440,7 +445,7 @@ write-tree-same-length-4 t c =
     let c2 = c1 .before .before .before in
     let c3 = c2 .before .before .before .before in
     let c4 = c3 .before .before .before in
-    let s = c4 .before .before .before .before .before .before .before in
+    let s = c4 .before .before .before .before .before .before .before .before in
     let y = s .pre .1 .1 .0 in
     let f = s .args .f .now in
     let xs = s .args .run .now in
@@ -448,7 +453,8 @@ write-tree-same-length-4 t c =
     let r = halfOf (take n xs) in
     let room = s .pre .1 .1 .1 in
     let j = joined (getD f 0 0 ∷ 0 ∷ []) (text (s .args .labels) (s .args .table .now) (rest 2 f) r) in
-    let o = connective-operator _ (c3 .if2 .left) (c4 .before .before .if1 .left) (c1 .if3 .left) in
+    let o = and-or _ (connective-operator _ (y .part .tree) (c3 .if2 .left)
+    (sym (c4 .before .before .before .is-modality .ensures) ∙ c4 .before .before .if1 .left)) (c1 .if3 .left) in
     let m = getD (s .args .sizes .now) (length f / 2 - 2) 0 in
     let w = two-pieces _ _ _ _ _ _ 2 _ j refl (c4 .put-node .ensures) (c2 .write-tree .ensures .0)
     (c2 .write-tree .ensures .1 .0) in
@@ -463,14 +469,15 @@ write-tree-returns-4 t c =
     let c3 = c2 .before .before .before in
     let c4 = c3 .before .before .before .before in
     let c5 = c4 .before .before .before in
-    let s = c5 .before .before .before .before .before .before .before in
+    let s = c5 .before .before .before .before .before .before .before .before in
     let y = s .pre .1 .1 .0 in
     let f = s .args .f .now in
     let xs = s .args .run .now in
     let n = s .args .len in
     let r = halfOf (take n xs) in
     let j = joined (getD f 0 0 ∷ 0 ∷ []) (text (s .args .labels) (s .args .table .now) (rest 2 f) r) in
-    let o = connective-operator _ (c4 .if2 .left) (c5 .before .before .if1 .left) (c2 .if3 .left) in
+    let o = and-or _ (connective-operator _ (y .part .tree) (c4 .if2 .left)
+    (sym (c5 .before .before .before .is-modality .ensures) ∙ c5 .before .before .if1 .left)) (c2 .if3 .left) in
     let m = getD (s .args .sizes .now) (length f / 2 - 2) 0 in
     let w = two-pieces _ _ _ _ _ _ 2 _ j refl (c5 .put-node .ensures) (c3 .write-tree .ensures .0)
     (c3 .write-tree .ensures .1 .0) in

@@ -5,10 +5,11 @@ use Rattle.verdict.proofs.search.judge.Reads as judge
 use Rattle.verdict.proofs.search.+forward+holds+judge+modal+stay+try_both+try_handshakes+try_left+try_moves+try_partner+try_right+try_rows.Lts-judge as judge-lts
 use Prim.Native.Nat.{ℕ, _+_, _*_, _-_, _/_}
 use native.Mathlib.Omega.{arith}
-use mathlib.Core.Path.{_≡_, refl, _∙_}
+use mathlib.Core.Path.{_≡_, refl, sym, _∙_}
 use lib.ListN.{length, getD}
 use Rattle.labels.proofs.Slices.{rest-length}
 use Rattle.formulas.proofs.Operators.{node-room}
+use Rattle.formulas.proofs.Operands.{and-or, modality-operator, two-up}
 use Rattle.verdict.proofs.Operands as operands
 use Rattle.verdict.proofs.search.+forward+holds+judge+modal+stay+try_both+try_handshakes+try_left+try_moves+try_partner+try_right+try_rows.Proof.Measures.{
   holds-at,
@@ -111,7 +112,7 @@ holds-holds-requires t c κs =
     let s = l .before .before in
     let g = l .loop .inv .1 in
     let left = l .loop .rest .now in
-    let o = operands.connective _ _ (b .is-connective .ensures) (i .if1 .taken) (e .if2 .left) in (
+    let o = and-or _ (sym (b .is-connective .ensures) ∙ i .if1 .taken) (e .if2 .left) in (
       omega (arith, s .pre .0, g .shorter, rest-length 2 left, node-room left (g .ready .tree)),
       (s .pre .1 .0, rw (l .loop .inv .0) (operands.first-ready _ _ _ _ left (g .ready) o)),
     )
@@ -127,7 +128,7 @@ holds-returns t c =
     let l = b .before .before in
     let g = l .loop .inv .1 in
     let left = l .loop .rest .now in
-    let o = operands.connective _ _ (b .is-connective .ensures) (i .if1 .taken) (e .if2 .left) in (
+    let o = and-or _ (sym (b .is-connective .ensures) ∙ i .if1 .taken) (e .if2 .left) in (
       operands.going-settled _ _ _ _ _ _ _ left _ g o _ (rw (l .loop .inv .0) at (h .holds .ensures .0))
           (c .if3 .taken),
       h .holds .ensures .1 ∙ l .loop .inv .0,
@@ -143,7 +144,7 @@ holds-sub-n t c =
     let l = b .before .before in
     let g = l .loop .inv .1 in
     let left = l .loop .rest .now in
-    let o = operands.connective _ _ (b .is-connective .ensures) (i .if1 .taken) (e .if2 .left) in
+    let o = and-or _ (sym (b .is-connective .ensures) ∙ i .if1 .taken) (e .if2 .left) in
     omega (arith, operands.read-size _ _ _ _ left (g .ready) o)
 
 pub holds-mul-n : (t : ℕ)
@@ -156,7 +157,7 @@ holds-mul-n t c =
     let l = b .before .before in
     let g = l .loop .inv .1 in
     let left = l .loop .rest .now in
-    let o = operands.connective _ _ (b .is-connective .ensures) (i .if1 .taken) (e .if2 .left) in
+    let o = and-or _ (sym (b .is-connective .ensures) ∙ i .if1 .taken) (e .if2 .left) in
     omega (arith, operands.read-size _ _ _ _ left (g .ready) o, g .ready .slots)
 
 pub holds-element-copy-out-n : (t : ℕ)
@@ -169,7 +170,7 @@ holds-element-copy-out-n t c =
     let l = b .before .before in
     let g = l .loop .inv .1 in
     let left = l .loop .rest .now in
-    let o = operands.connective _ _ (b .is-connective .ensures) (i .if1 .taken) (e .if2 .left) in
+    let o = and-or _ (sym (b .is-connective .ensures) ∙ i .if1 .taken) (e .if2 .left) in
     omega (arith, operands.read-size _ _ _ _ left (g .ready) o, g .ready .slots)
 
 pub holds-mul-rest : (t : ℕ)
@@ -183,7 +184,7 @@ holds-mul-rest t c =
     let s = l .before .before in
     let g = l .loop .inv .1 in
     let left = l .loop .rest .now in
-    let o = operands.connective _ _ (b .is-connective .ensures) (i .if1 .taken) (e .if2 .left) in
+    let o = and-or _ (sym (b .is-connective .ensures) ∙ i .if1 .taken) (e .if2 .left) in
     omega (arith, operands.second-begins _ _ _ _ left (g .ready) o _ refl, g .shorter, s .good)
 
 pub holds-add-rest : (t : ℕ)
@@ -197,7 +198,7 @@ holds-add-rest t c =
     let s = l .before .before in
     let g = l .loop .inv .1 in
     let left = l .loop .rest .now in
-    let o = operands.connective _ _ (b .is-connective .ensures) (i .if1 .taken) (e .if2 .left) in
+    let o = and-or _ (sym (b .is-connective .ensures) ∙ i .if1 .taken) (e .if2 .left) in
     omega (arith, operands.second-begins _ _ _ _ left (g .ready) o _ refl, g .shorter, s .good)
 
 pub holds-sub-rest-2 : (t : ℕ)
@@ -210,7 +211,7 @@ holds-sub-rest-2 t c =
     let l = b .before .before in
     let g = l .loop .inv .1 in
     let left = l .loop .rest .now in
-    let o = operands.connective _ _ (b .is-connective .ensures) (i .if1 .taken) (e .if2 .left) in
+    let o = and-or _ (sym (b .is-connective .ensures) ∙ i .if1 .taken) (e .if2 .left) in
     operands.second-begins _ _ _ _ left (g .ready) o _ refl
 
 pub holds-part-rest-start-2 : (t : ℕ)
@@ -223,7 +224,7 @@ holds-part-rest-start-2 t c =
     let l = b .before .before in
     let g = l .loop .inv .1 in
     let left = l .loop .rest .now in
-    let o = operands.connective _ _ (b .is-connective .ensures) (i .if1 .taken) (e .if2 .left) in
+    let o = and-or _ (sym (b .is-connective .ensures) ∙ i .if1 .taken) (e .if2 .left) in
     operands.second-begins _ _ _ _ left (g .ready) o _ refl
 
 pub holds-part-rest-end-2 : (t : ℕ)
@@ -242,7 +243,7 @@ holds-loop-less-2 t c =
     let s = l .before .before in
     let g = l .loop .inv .1 in
     let left = l .loop .rest .now in
-    let o = operands.connective _ _ (b .is-connective .ensures) (i .if1 .taken) (e .if2 .left) in
+    let o = and-or _ (sym (b .is-connective .ensures) ∙ i .if1 .taken) (e .if2 .left) in
     omega (
       arith,
       operands.second-begins _ _ _ _ left (g .ready) o _ refl,
@@ -261,7 +262,7 @@ holds-loop-again-2 t c =
     let l = b .before .before in
     let g = l .loop .inv .1 in
     let left = l .loop .rest .now in
-    let o = operands.connective _ _ (b .is-connective .ensures) (i .if1 .taken) (e .if2 .left) in (
+    let o = and-or _ (sym (b .is-connective .ensures) ∙ i .if1 .taken) (e .if2 .left) in (
       h .holds .ensures .1 ∙ l .loop .inv .0,
       operands.going-on _ _ _ _ _ _ _ left _ g o _ (rw (l .loop .inv .0) at (h .holds .ensures .0))
           (d .if3 .left) _ refl,
@@ -276,7 +277,7 @@ holds-judge-requires t c κs =
     let l = b .before .before in
     let s = l .before .before in
     let g = l .loop .inv .1 in
-    let other = operands.no-connective _ _ (b .is-connective .ensures) (i .if1 .left) in (
+    let other = sym (b .is-connective .ensures) ∙ i .if1 .left in (
       omega (arith, s .pre .0, g .shorter),
       (s .pre .1 .0, (rw (l .loop .inv .0) (g .ready), other)),
     )
@@ -319,9 +320,11 @@ pub judge-modal-requires : (t : ℕ)
 judge-modal-requires t c κs =
     let d = c .before in
     let i = d .before in
-    let s = i .before .before .before in (
+    let s = i .before .before .before in
+    let y = s .pre .1 .1 .0 in
+    let up = two-up _ (i .if1 .left) (d .if2 .left) in (
       omega (arith, s .pre .0),
-      (s .pre .1 .0, (s .pre .1 .1 .0, operands.five-up _ (i .if1 .left) (d .if2 .left) (s .pre .1 .1 .1))),
+      (s .pre .1 .0, (y, modality-operator _ (y .tree) up (s .pre .1 .1 .1))),
     )
 
 pub judge-returns-3 : (t : ℕ)

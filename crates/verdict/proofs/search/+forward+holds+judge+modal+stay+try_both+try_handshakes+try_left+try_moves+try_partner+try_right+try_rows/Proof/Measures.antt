@@ -39,13 +39,13 @@ use Rattle.verdict.proofs.search.+forward+holds+judge+modal+stay+try_bo
 use Rattle.verdict.proofs.search.try_rows.Reads as try-rows
 use Rattle.verdict.proofs.search.try_rows.Kinds as try-rows-kinds
 use Rattle.verdict.proofs.search.+forward+holds+judge+modal+stay+try_both+try_handshakes+try_left+try_moves+try_partner+try_right+try_rows.Lts-try_rows as try-rows-lts
+use Rattle.formulas.proofs.node.is_connective.Reads as is-connective-reads
 use Rattle.labels.proofs.label.Label.is_silent.Reads as is-silent-reads
 use Rattle.labels.proofs.label.Labels.partner.Reads as partner-reads
 use Rattle.verdict.proofs.back.back_fits.Reads as back-fits-reads
 use Rattle.verdict.proofs.back.last_step.Reads as last-step-reads
 use Rattle.verdict.proofs.grid.rows_before.Reads as rows-before-reads
 use Rattle.verdict.proofs.grid.rows_from.Reads as rows-from-reads
-use Rattle.verdict.proofs.search.is_connective.Reads as is-connective-reads
 use Rattle.verdict.proofs.trial.grid_by.Reads as grid-by-reads
 use Rattle.verdict.proofs.trial.place_by.Reads as place-by-reads
 use lib.ListN.{length}

@@ -7,7 +7,7 @@ use mathlib.Core.Path.{refl}
 use borrow.Author.Tests.{not-true, not-false}
 use Rattle.labels.proofs.Slices.{rest-length}
 use Rattle.formulas.proofs.Operators.{node-room}
-use Rattle.formulas.proofs.Operands.{back-operator}
+use Rattle.formulas.proofs.Operands.{back-operator, no-forward}
 use Rattle.verdict.proofs.Operands as operands
 use Rattle.verdict.proofs.search.+forward+holds+judge+modal+stay+try_both+try_handshakes+try_left+try_moves+try_partner+try_right+try_rows.Proof.Measures.{
   modal-at,
@@ -98,7 +98,7 @@ modal-returns-3 t c =
     let s = a .before .before .before .before in
     let f = s .args .f .now in
     let y = s .pre .1 .1 .0 in
-    let o = back-operator f (y .tree) (s .pre .1 .1 .1) (a .if1 .left) (b .if2 .left) in
+    let o = back-operator _ (s .pre .1 .1 .1) (no-forward _ (a .if1 .left) (b .if2 .left)) in
     (operands.back-empty _ _ _ f _ _ (y .tree) (y .held) o (c .if3 .taken), refl)
 
 pub modal-shared-slice-read-first : (t : ℕ)
@@ -110,7 +110,7 @@ modal-shared-slice-read-first t c =
     let s = a .before .before .before .before in
     let f = s .args .f .now in
     let y = s .pre .1 .1 .0 in
-    let o = back-operator f (y .tree) (s .pre .1 .1 .1) (a .if1 .left) (b .if2 .left) in
+    let o = back-operator _ (s .pre .1 .1 .1) (no-forward _ (a .if1 .left) (b .if2 .left)) in
     let body = operands.back-ready _ _ _ _ f y o (e .if3 .left) in
     omega (arith, node-room _ (body .tree))
 
@@ -123,7 +123,7 @@ modal-returns-4 t c =
     let s = a .before .before .before .before in
     let f = s .args .f .now in
     let y = s .pre .1 .1 .0 in
-    let o = back-operator f (y .tree) (s .pre .1 .1 .1) (a .if1 .left) (b .if2 .left) in
+    let o = back-operator _ (s .pre .1 .1 .1) (no-forward _ (a .if1 .left) (b .if2 .left)) in
     let body = operands.back-ready _ _ _ _ f y o (e .if3 .left) in (
       operands.back-false _ _ _ f _ _ (y .tree) (y .held) o (e .if3 .left) (body .tree) (c .if4 .taken),
       refl,
@@ -160,7 +160,7 @@ modal-returns-5 t c =
     let s = a .before .before .before .before in
     let f = s .args .f .now in
     let y = s .pre .1 .1 .0 in
-    let o = back-operator f (y .tree) (s .pre .1 .1 .1) (a .if1 .left) (b .if2 .left) in
+    let o = back-operator _ (s .pre .1 .1 .1) (no-forward _ (a .if1 .left) (b .if2 .left)) in
     let g = rw (p .last-step .ensures) at (w .back-fits .ensures) in (
       operands.back-other _ _ _ f _ _ (y .tree) (y .held) o (e .if3 .left) _ g (not-true _ (c .if5 .taken)),
       refl,
@@ -181,7 +181,7 @@ modal-holds-requires t c κs =
     let s = a .before .before .before .before in
     let f = s .args .f .now in
     let y = s .pre .1 .1 .0 in
-    let o = back-operator f (y .tree) (s .pre .1 .1 .1) (a .if1 .left) (b .if2 .left) in (
+    let o = back-operator _ (s .pre .1 .1 .1) (no-forward _ (a .if1 .left) (b .if2 .left)) in (
       omega (arith, s .pre .0, rest-length 2 f, node-room f (y .tree)),
       (s .pre .1 .0, operands.back-ready _ _ _ _ f y o (e .if3 .left)),
     )
@@ -198,7 +198,7 @@ modal-returns-6 t c =
     let s = a .before .before .before .before in
     let f = s .args .f .now in
     let y = s .pre .1 .1 .0 in
-    let o = back-operator f (y .tree) (s .pre .1 .1 .1) (a .if1 .left) (b .if2 .left) in
+    let o = back-operator _ (s .pre .1 .1 .1) (no-forward _ (a .if1 .left) (b .if2 .left)) in
     let g = rw (p .last-step .ensures) at (w .back-fits .ensures) in (
       operands.back-same _ _ _ f _ _ (y .tree) (y .held) o (e .if3 .left) _ g _ (not-false _ (d .if5 .left))
           (c .holds .ensures .0),
