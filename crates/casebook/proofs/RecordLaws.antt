@@ -2,14 +2,14 @@
 -- parts.
 use Prim.Native.Nat.{ℕ, suc, _+_, _-_, _*_, _/_, _%_, _≤_, _<_}
 use mathlib.Core.Path.{_≡_, refl, _∙_, ap}
-use mathlib.Core.Bool.{Bool, true, false, cond, not, _&&_, _||_, false≢true}
+use mathlib.Core.Bool.{Bool, true, false, cond, not}
 use mathlib.Core.List.{List, [], _∷_, _++_}
 use native.Mathlib.Omega.{arith}
 use lib.ListN.{length, getD, take, drop, length-append, length-take, length-drop, take-append-drop}
 use lib.Seq.{length-take-le, drop-cons, drop-drop, getD-drop, getD-take, take-append-seam, drop-append-seam}
-use lib.Dec.{eqb, leb, ltb}
-use borrow.Author.Tests.{eq-eqb, eqb-true, le-ltb, ltb-false}
-use Rattle.hml.proofs.Tests.{apart, Decides, decides, decided-iff, decided-and, decided-same, decided-le}
+use lib.Dec.{ltb}
+use borrow.Author.Tests.{le-ltb, ltb-false}
+use Rattle.hml.proofs.Tests.{apart, decides, decided-and, decided-same, decided-le}
 use Rattle.hml.specs.Formula.{size}
 use Rattle.hml.proofs.Spelling.{length-spell}
 use Rattle.labels.specs.Refusals.{firstOf}
@@ -23,8 +23,8 @@ use Rattle.machines.specs.Joints.{fitJoint, checkJoint}
 use Rattle.formulas.specs.Formulas.{checkFormula, Legal}
 use Rattle.formulas.proofs.Checking.{judged-formula}
 use Rattle.formulas.proofs.Measures.{size-some}
-use Rattle.casebook.specs.Records.{wordAt, fitTableLength, fitRunLength, fitQuestionLength, fitLength, nextAt}
-use Rattle.casebook.specs.Records.{bodyOf, recordBytes}
+use Rattle.casebook.specs.Records.{wordAt, lengthsOf, fitLength, mayStand, nextAt, bodyOf, recordBytes}
+use Rattle.casebook.proofs.Records.{decided-fit, fit-some}
 use Rattle.casebook.specs.declared.record.Cursor.{Cursor}
 use Rattle.casebook.specs.declared.record.Record.{Record}
 use Rattle.casebook.specs.declared.record.Next.the-variants as next
@@ -41,11 +41,13 @@ placed kind at body = record { kind = kind; start = at + 4; len = length body }
 abbrev pub behind : ℕ → List ℕ → Cursor
 behind at body = record { at = at + 4 + length body }
 
--- a record that lies in some bytes, from a position on: it stands there as bytes, and the next position is behind it
-pub record Lies (s : List ℕ) (at kind : ℕ) (r : Record) (c : Cursor) : Type 0 where
-  pub bytes : drop at s ≡ recordBytes kind (bodyOf s r) ++ drop (c .at) s
+-- a record that lies in some bytes, from a position on: it stands there as bytes, its kind is one of those that may
+-- stand there, its length fits the kind, and the next position is behind it
+pub record Lies (s : List ℕ) (at : ℕ) (kinds : List ℕ) (r : Record) (c : Cursor) : Type 0 where
+  pub bytes : drop at s ≡ recordBytes (r .kind) (bodyOf s r) ++ drop (c .at) s
   pub body-length : length (bodyOf s r) ≡ r .len
-  pub fits : fitLength kind (2 + length (bodyOf s r)) ≡ true
+  pub may : mayStand kinds (r .kind) ≡ true
+  pub fits : fitLength (r .kind) (2 + length (bodyOf s r)) ≡ true
   pub start-is : r .start ≡ at + 4
   pub behind-is : c .at ≡ at + 4 + r .len
   pub room : c .at ≤ length s
@@ -64,27 +66,6 @@ high-byte a b h = omega arith
 pub record-length : (kind : ℕ) (body : List ℕ) → length (recordBytes kind body) ≡ 4 + length body
 unfolding recordBytes
 record-length kind body = omega arith
-
--- the lengths that fit a kind: with a remainder, and between two bounds
-decided-length : (d m lo hi n : ℕ)
-    → Decides ((n % d ≡ m) × (lo ≤ n) × (n ≤ hi)) (eqb (n % d) m && (leb lo n && leb n hi))
-decided-length d m lo hi n =
-    decided-iff (λ t. (t .0, t .1 .0, t .1 .1)) (λ t. (t .0, (t .1, t .2)))
-    (decided-and (decided-same (n % d) m) (decided-and (decided-le lo n) (decided-le n hi)))
-
--- every record has a body
-fit-some : (kind n : ℕ) → fitLength kind n ≡ true → 3 ≤ n
-unfolding fitLength fitTableLength fitRunLength fitQuestionLength
-fit-some kind n e = go (eqb kind 1) (eqb kind 2 || eqb kind 3) (eqb kind 4) (eqb kind 5) e
-  where
-    go : (a b c d : Bool)
-        → cond a (eqb n 3) (cond b (fitTableLength n) (cond c (fitRunLength n) (cond d (fitQuestionLength n) false)))
-        ≡ true → 3 ≤ n
-    go true b c d e = omega (arith, eqb-true n 3 e)
-    go false true c d e = decides (decided-length 3 0 3 1539 n) .0 e .1
-    go false false true d e = omega (arith, decides (decided-length 3 1 4 604 n) .0 e)
-    go false false false true e = omega (arith, decides (decided-length 2 0 4 130 n) .0 e)
-    go false false false false e = absurd (false≢true e)
 
 module _ (s : List ℕ) (at : ℕ) where
   -- bytes from a position on, by the place in them
@@ -111,22 +92,25 @@ module _ (s : List ℕ) (at : ℕ) where
         d,
       )
 
-module _ (s : List ℕ) (at kind : ℕ) where
+module _ (s : List ℕ) (at : ℕ) (kinds : List ℕ) where
   -- a record is found if it is there
-  found-next : (n : ℕ) → wordAt s at ≡ n → wordAt s (at + 2) ≡ kind → fitLength kind n ≡ true → at + 4 ≤ length s
-      → at + 2 + n ≤ length s
-      → nextAt s at kind ≡ next.Found (record { kind = kind; start = at + 4; len = n - 2 }) (record { at = at + 2 + n })
+  found-next : (kind n : ℕ) → wordAt s at ≡ n → wordAt s (at + 2) ≡ kind → mayStand kinds kind ≡ true
+      → fitLength kind n ≡ true → at + 4 ≤ length s → at + 2 + n ≤ length s
+      → nextAt s at kinds ≡ next.Found (record { kind = kind; start = at + 4; len = n - 2 })
+      (record { at = at + 2 + n })
   unfolding nextAt
-  found-next n e f g a b =
-      rw (le-ltb (length s) (at + 4) a, eq-eqb (wordAt s (at + 2)) kind f, e, g, le-ltb (length s) (at + 2 + n) b)
+  found-next kind n e f m g a b =
+      rw (le-ltb (length s) (at + 4) a, f, m, e, g, le-ltb (length s) (at + 2 + n) b)
 
   -- stepping over a record that was written gives it, and leaves what was written behind it
-  pub next-record : (body rest : List ℕ) → fitLength kind (2 + length body) ≡ true
+  pub next-record : (kind : ℕ) (body rest : List ℕ) → mayStand kinds kind ≡ true
+      → fitLength kind (2 + length body) ≡ true
       → drop at s ≡ recordBytes kind body ++ rest
-      → (nextAt s at kind ≡ next.Found (placed kind at body) (behind at body)) × (bodyOf s (placed kind at body) ≡ body)
+      → (nextAt s at kinds ≡ next.Found (placed kind at body) (behind at body))
+      × (bodyOf s (placed kind at body) ≡ body)
       × (drop (at + 4 + length body) s ≡ rest)
   unfolding recordBytes bodyOf
-  next-record body rest g e = (
+  next-record kind body rest may g e = (
     found,
     rw body-on (take-append-seam body rest),
     rw (← drop-drop (length body) (at + 4) s, body-on) (drop-append-seam body rest),
@@ -138,36 +122,36 @@ module _ (s : List ℕ) (at kind : ℕ) where
       body-on : drop (at + 4) s ≡ body ++ rest
       body-on = rw (← drop-drop 4 at s, e)
 
-      found : nextAt s at kind ≡ next.Found (placed kind at body) (behind at body)
+      found : nextAt s at kinds ≡ next.Found (placed kind at body) (behind at body)
       found =
           let z : at + 0 ≡ at = omega arith in
           let m : 2 + length body - 2 ≡ length body = omega arith in
           let n : at + 2 + (2 + length body) ≡ at + 4 + length body = omega arith in
           let w = rw z at (word-behind s at 0) in
-          rw (m, n) at (found-next (2 + length body) (w ∙ rw e (words (2 + length body)))
-          (word-behind s at 2 ∙ rw e (words kind)) g (omega (arith, room)) (omega (arith, room)))
+          rw (m, n) at (found-next kind (2 + length body) (w ∙ rw e (words (2 + length body)))
+          (word-behind s at 2 ∙ rw e (words kind)) may g (omega (arith, room)) (omega (arith, room)))
 
   -- what the bytes are if a record is found
   record Seen (r : Record) (c : Cursor) : Type 0 where
     head : at + 4 ≤ length s
-    kinds : wordAt s (at + 2) ≡ kind
-    fits : fitLength kind (wordAt s at) ≡ true
+    may : mayStand kinds (wordAt s (at + 2)) ≡ true
+    fits : fitLength (wordAt s (at + 2)) (wordAt s at) ≡ true
     room : at + 2 + wordAt s at ≤ length s
-    found : r ≡ record { kind = kind; start = at + 4; len = wordAt s at - 2 }
+    found : r ≡ record { kind = wordAt s (at + 2); start = at + 4; len = wordAt s at - 2 }
     behind : c ≡ record { at = at + 2 + wordAt s at }
 
-  seen : (r : Record) (c : Cursor) → nextAt s at kind ≡ next.Found r c → Seen r c
+  seen : (r : Record) (c : Cursor) → nextAt s at kinds ≡ next.Found r c → Seen r c
   unfolding nextAt
   seen r c e =
-      go (ltb (length s) (at + 4)) (eqb (wordAt s (at + 2)) kind) (fitLength kind (wordAt s at))
+      go (ltb (length s) (at + 4)) (mayStand kinds (wordAt s (at + 2))) (fitLength (wordAt s (at + 2)) (wordAt s at))
       (ltb (length s) (at + 2 + wordAt s at)) refl refl refl refl e
     where
-      go : (a b d f : Bool) → ltb (length s) (at + 4) ≡ a → eqb (wordAt s (at + 2)) kind ≡ b
-          → fitLength kind (wordAt s at) ≡ d → ltb (length s) (at + 2 + wordAt s at) ≡ f
+      go : (a b d f : Bool) → ltb (length s) (at + 4) ≡ a → mayStand kinds (wordAt s (at + 2)) ≡ b
+          → fitLength (wordAt s (at + 2)) (wordAt s at) ≡ d → ltb (length s) (at + 2 + wordAt s at) ≡ f
           → cond a (next.Refused Truncated)
           (cond (not b) (next.Refused WrongKind)
           (cond (not d) (next.Refused WrongLength) (cond f (next.Refused Truncated)
-          (next.Found (record { kind = kind; start = at + 4; len = wordAt s at - 2 })
+          (next.Found (record { kind = wordAt s (at + 2); start = at + 4; len = wordAt s at - 2 })
           (record { at = at + 2 + wordAt s at }))))) ≡ next.Found r c
           → Seen r c
       go true b d f ea eb ed ef e = absurd (apart cc)
@@ -176,27 +160,42 @@ module _ (s : List ℕ) (at kind : ℕ) where
       go false true true true ea eb ed ef e = absurd (apart cc)
       go false true true false ea eb ed ef e = record {
         head = ltb-false (length s) (at + 4) ea;
-        kinds = eqb-true (wordAt s (at + 2)) kind eb;
+        may = eb;
         fits = ed;
         room = ltb-false (length s) (at + 2 + wordAt s at) ef;
         found = cc;
         behind = cc;
       }
 
+  -- a record that was found has one of the kinds that may stand there, and a length that fits that kind
+  pub found-kind : (r : Record) (c : Cursor) → nextAt s at kinds ≡ next.Found r c → mayStand kinds (r .kind) ≡ true
+  found-kind r c e = let w = seen r c e in rw (w .found) (w .may)
+
+  pub found-fits : (r : Record) (c : Cursor) → nextAt s at kinds ≡ next.Found r c → fitLength (r .kind) (2 + r .len)
+      ≡ true
+  found-fits r c e =
+      let w = seen r c e in
+      let some = fit-some (wordAt s (at + 2)) (wordAt s at) (w .fits) in
+      let n : 2 + (wordAt s at - 2) ≡ wordAt s at = omega (arith, some) in
+      rw (w .found, n) (w .fits)
+
   -- a record that stepping over finds stands there as bytes
-  pub record-next : Bytes s → (r : Record) (c : Cursor) → nextAt s at kind ≡ next.Found r c → Lies s at kind r c
+  pub record-next : Bytes s → (r : Record) (c : Cursor) → nextAt s at kinds ≡ next.Found r c → Lies s at kinds r c
   unfolding recordBytes bodyOf
-  record-next b r c e = let w = seen r c e in rw (w .found, w .behind) (lies (w .head) (w .kinds) (w .fits) (w .room))
+  record-next b r c e = let w = seen r c e in rw (w .found, w .behind) (lies (w .head) (w .may) (w .fits) (w .room))
     where
+      kind : ℕ
+      kind = wordAt s (at + 2)
+
       n : ℕ
       n = wordAt s at
 
       body : List ℕ
       body = take (n - 2) (drop (at + 4) s)
 
-      lies : at + 4 ≤ length s → wordAt s (at + 2) ≡ kind → fitLength kind n ≡ true → at + 2 + n ≤ length s
-          → Lies s at kind (record { kind = kind; start = at + 4; len = n - 2 }) (record { at = at + 2 + n })
-      lies h k f room =
+      lies : at + 4 ≤ length s → mayStand kinds kind ≡ true → fitLength kind n ≡ true → at + 2 + n ≤ length s
+          → Lies s at kinds (record { kind = kind; start = at + 4; len = n - 2 }) (record { at = at + 2 + n })
+      lies h may f room =
           let some = fit-some kind n f in
           let m : length body ≡ n - 2 = length-take-le (n - 2) (drop (at + 4) s)
           (omega (arith, length-drop (at + 4) s)) in
@@ -206,7 +205,6 @@ module _ (s : List ℕ) (at kind : ℕ) where
           record {
             bytes = rw (
               z,
-              ← k,
               low-byte (getD s at 0) (getD s (at + 1) 0) (b at),
               high-byte (getD s at 0) (getD s (at + 1) 0) (b at),
               low-byte (getD s (at + 2) 0) (getD s (at + 2 + 1) 0) (b (at + 2)),
@@ -220,13 +218,14 @@ module _ (s : List ℕ) (at kind : ℕ) where
             behind-is = omega arith;
             room = room;
             body-length = m;
+            may = may;
             fits = rw z f;
           }
 
 -- the header's body is one byte
 pub header-fits : (n : ℕ) → fitLength 1 (2 + n) ≡ true → n ≡ 1
-unfolding fitLength
-header-fits n e = omega (arith, eqb-true (2 + n) 3 e)
+unfolding lengthsOf
+header-fits n e = omega (arith, decides (decided-fit 1 (2 + n)) .0 e)
 
 -- the first byte of a body, where it has one
 pub first-byte : (s : List ℕ) (r : Record) → 1 ≤ length (bodyOf s r) → getD (bodyOf s r) 0 0 ≡ getD s (r .start) 0
@@ -248,30 +247,31 @@ single (x ∷ y ∷ l) e = absurd (omega (arith, e))
 -- the record of a sound table has a length that fits, on either side
 pub table-fits : (k : Labels) (t : List ℕ) → checkTable k t ≡ Sound
     → (fitLength 2 (2 + length t) ≡ true) × (fitLength 3 (2 + length t) ≡ true) × (length t ≤ 1537)
-unfolding fitLength fitTableLength
+unfolding lengthsOf
 table-fits k t e =
-    let f = sound-table k t e .fits in
-    let g = decides (decided-length 3 0 3 1539 (2 + length t)) .1
-    (omega (arith, f), omega (arith, f), omega (arith, f)) in
-    (g, g, f .1)
+    let f = sound-table k t e .fits in (
+      decides (decided-fit 2 (2 + length t)) .1 (omega (arith, f), omega (arith, f), omega (arith, f)),
+      decides (decided-fit 3 (2 + length t)) .1 (omega (arith, f), omega (arith, f), omega (arith, f)),
+      f .1,
+    )
 
 -- so has the record of a sound joint run
 pub joint-fits : (k : Labels) (l r j : List ℕ) → checkJoint k l r j ≡ Sound
     → (fitLength 4 (2 + length j) ≡ true) × (length j ≤ 602)
-unfolding fitLength fitRunLength checkJoint firstOf fitJoint
+unfolding lengthsOf checkJoint firstOf fitJoint
 joint-fits k l r j e =
     let c = judges (judged-unless WrongLength
     (decided-and (decided-same (length j % 3) 2) (decided-le (length j) 602))) .0 (both-sound _ _ e .0) in
-    (decides (decided-length 3 1 4 604 (2 + length j)) .1 (omega (arith, c), omega (arith, c), omega (arith, c)), c .1)
+    (decides (decided-fit 4 (2 + length j)) .1 (omega (arith, c), omega (arith, c), omega (arith, c)), c .1)
 
 -- and that of a sound question
 pub question-fits : (k : Labels) (q : List ℕ) → checkFormula k 64 q ≡ Sound
     → (fitLength 5 (2 + length q) ≡ true) × (length q ≤ 128)
-unfolding fitLength fitQuestionLength Legal
+unfolding lengthsOf Legal
 question-fits k q e =
     let (φ, f, s, _, _) = judges (judged-formula k 64 q) .0 e in
     let n : length q ≡ 2 * size φ = omega (arith, ap length f, length-spell φ []) in
     let m = size-some φ in (
-      decides (decided-length 2 0 4 130 (2 + length q)) .1 (omega (arith, n), omega (arith, n, m), omega (arith, n, s)),
+      decides (decided-fit 5 (2 + length q)) .1 (omega (arith, n), omega (arith, n, m), omega (arith, n, s)),
       omega (arith, n, s),
     )

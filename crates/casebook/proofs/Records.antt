@@ -1,116 +1,164 @@
 -- The cases of stepping over a record, each from what the code knows at its return.
-use Prim.Native.Nat.{ℕ, _+_, _-_, _%_, _≤_, _<_}
-use mathlib.Core.Path.{_≡_, sym, _∙_}
-use mathlib.Core.Bool.{Bool, true, false, cond, _&&_, _||_}
-use mathlib.Core.List.{List, []}
+use Prim.Native.Nat.{ℕ, suc, _+_, _-_, _%_, _≤_, _<_, max}
+use mathlib.Core.Path.{_≡_, refl, sym, _∙_, ap}
+use mathlib.Core.Bool.{Bool, true, false, cond, _||_, false≢true}
+use mathlib.Core.List.{List, [], _∷_}
 use native.Mathlib.Omega.{arith}
 use lib.ListN.{length, getD, take, drop, length-drop, drop-of-length-le}
-use lib.Seq.{take-all, take-nil, getD-drop}
-use lib.Dec.{eqb, leb}
-use borrow.Author.Tests.{eq-eqb, ne-eqb, lt-ltb, le-ltb, le-leb, lt-leb, leb-true, eqb-true}
-use Rattle.hml.proofs.Tests.{both-true, apart}
+use lib.Seq.{take-all, take-nil, drop-cons, getD-drop}
+use lib.Dec.{eqb}
+use borrow.Author.Tests.{eq-eqb, ne-eqb, lt-ltb, le-ltb, le-leb, lt-leb, eqb-true}
+use Rattle.hml.specs.Lists.{any}
+use Rattle.hml.proofs.Tests.{apart, Decides, decides, decided-iff, decided-and, decided-same, decided-le}
 use Rattle.labels.specs.Labels.{ofPairs}
 use Rattle.labels.specs.declared.refusal.Refusal.the-variants.{Truncated, WrongKind, WrongLength}
-use Rattle.casebook.specs.Records.{wordAt, fitTableLength, fitRunLength, fitQuestionLength, fitLength, nextAt}
-use Rattle.casebook.specs.Records.{bodyOf, labelsOf}
+use Rattle.casebook.specs.Records.{wordAt, lengthsOf, fitLength, longestBody, mayStand, nextAt, bodyOf, labelsOf}
+use Rattle.casebook.specs.declared.record.Lengths.{Lengths}
 use Rattle.casebook.specs.declared.record.Record.{Record}
 use Rattle.casebook.specs.declared.record.Next.the-variants as next
 
--- the shape of the three tests on lengths: a remainder, then a range
-module _ (n x y low high : ℕ) where
-  pub wrong-rest : (x ≡ y → ⊥) → false ≡ (eqb x y && (leb low n && leb n high))
-  wrong-rest h = rw (ne-eqb _ _ h)
-
-  pub too-low : x ≡ y → n < low → false ≡ (eqb x y && (leb low n && leb n high))
-  too-low e h = rw (eq-eqb _ _ e, lt-leb _ _ h)
-
-  pub range-decides : x ≡ y → low ≤ n → leb n high ≡ (eqb x y && (leb low n && leb n high))
-  range-decides e h = rw (eq-eqb _ _ e, le-leb _ _ h)
-
 -- the table of records by its kinds
-module _ (kind n : ℕ) where
-  pub kind-1 : kind ≡ 1 → eqb n 3 ≡ fitLength kind n
-  unfolding fitLength
-  kind-1 e = rw e
-
-  pub kind-2 : {x : Bool} → kind ≡ 2 → x ≡ fitTableLength n → x ≡ fitLength kind n
-  unfolding fitLength
-  kind-2 e h = rw e h
-
-  pub kind-3 : {x : Bool} → kind ≡ 3 → x ≡ fitTableLength n → x ≡ fitLength kind n
-  unfolding fitLength
-  kind-3 e h = rw e h
-
-  pub kind-4 : {x : Bool} → kind ≡ 4 → x ≡ fitRunLength n → x ≡ fitLength kind n
-  unfolding fitLength
-  kind-4 e h = rw e h
-
-  pub kind-5 : {x : Bool} → kind ≡ 5 → x ≡ fitQuestionLength n → x ≡ fitLength kind n
-  unfolding fitLength
-  kind-5 e h = rw e h
+module _ (kind : ℕ) where
+  pub kind-is : (k : ℕ) {x : Lengths} → kind ≡ k → x ≡ lengthsOf k → x ≡ lengthsOf kind
+  kind-is k e h = rw e h
 
   pub no-kind : (kind ≡ 1 → ⊥) → (kind ≡ 2 → ⊥) → (kind ≡ 3 → ⊥) → (kind ≡ 4 → ⊥) → (kind ≡ 5 → ⊥)
-      → false ≡ fitLength kind n
-  unfolding fitLength
+      → _≡_ {A = Lengths} (record { shortest = 3; longest = 0; step = 1 }) (lengthsOf kind)
+  unfolding lengthsOf
   no-kind a b c d e = rw (ne-eqb _ _ a, ne-eqb _ _ b, ne-eqb _ _ c, ne-eqb _ _ d, ne-eqb _ _ e)
 
-  -- a length that fits counts at least the kind and one byte
-  pub fit-some : fitLength kind n ≡ true → 3 ≤ n
-  unfolding fitLength fitTableLength fitRunLength fitQuestionLength
-  fit-some h = go (eqb kind 1) (eqb kind 2 || eqb kind 3) (eqb kind 4) (eqb kind 5) h
+  -- every length counts the kind and one byte at least, and no step is 0
+  pub lengths-some : (3 ≤ lengthsOf kind .shortest) × (1 ≤ lengthsOf kind .step)
+  unfolding lengthsOf
+  lengths-some = go (eqb kind 1) (eqb kind 2 || eqb kind 3) (eqb kind 4) (eqb kind 5)
     where
-      ranged : (x y low high : ℕ) → 3 ≤ low → (eqb x y && (leb low n && leb n high)) ≡ true → 3 ≤ n
-      ranged x y low high l h =
-          let inner = both-true {a = eqb x y} {b = leb low n && leb n high} h .1 in
-          omega (arith, l, leb-true low n (both-true {a = leb low n} {b = leb n high} inner .0))
+      table : Bool → Bool → Bool → Bool → Lengths
+      table a b c d =
+          cond a (record { shortest = 3; longest = 3; step = 1 })
+          (cond b (record { shortest = 3; longest = 1539; step = 3 })
+          (cond c (record { shortest = 4; longest = 604; step = 3 })
+          (cond d (record { shortest = 4; longest = 130; step = 2 })
+          (record { shortest = 3; longest = 0; step = 1 }))))
 
-      go : (a b c d : Bool)
-          → cond a (eqb n 3)
-          (cond b (eqb (n % 3) 0 && (leb 3 n && leb n 1539))
-          (cond c (eqb (n % 3) 1 && (leb 4 n && leb n 604)) (cond d (eqb (n % 2) 0 && (leb 4 n && leb n 130)) false)))
-          ≡ true → 3 ≤ n
-      go true b c d h = omega (arith, eqb-true n 3 h)
-      go false true c d h = ranged (n % 3) 0 3 1539 (omega arith) h
-      go false false true d h = ranged (n % 3) 1 4 604 (omega arith) h
-      go false false false true h = ranged (n % 2) 0 4 130 (omega arith) h
-      go false false false false h = absurd (apart cc)
+      go : (a b c d : Bool) → (3 ≤ table a b c d .shortest) × (1 ≤ table a b c d .step)
+      go true b c d = (omega arith, omega arith)
+      go false true c d = (omega arith, omega arith)
+      go false false true d = (omega arith, omega arith)
+      go false false false true = (omega arith, omega arith)
+      go false false false false = (omega arith, omega arith)
+
+-- the lengths that fit a kind: from the shortest to the longest, a step apart
+pub decided-fit : (kind n : ℕ)
+    → Decides ((lengthsOf kind .shortest ≤ n) × (n ≤ lengthsOf kind .longest)
+    × ((n - lengthsOf kind .shortest) % lengthsOf kind .step ≡ 0))
+    (fitLength kind n)
+unfolding fitLength
+decided-fit kind n =
+    decided-iff (λ t. (t .0, t .1 .0, t .1 .1)) (λ t. (t .0, (t .1, t .2)))
+    (decided-and (decided-le (lengthsOf kind .shortest) n)
+    (decided-and (decided-le n (lengthsOf kind .longest))
+    (decided-same ((n - lengthsOf kind .shortest) % lengthsOf kind .step) 0)))
+
+-- as the code tries them
+module _ (kind n : ℕ) (x : Lengths) (told : x ≡ lengthsOf kind) where
+  pub too-short : n < x .shortest → false ≡ fitLength kind n
+  unfolding fitLength
+  too-short h = rw (← told, lt-leb (x .shortest) n h)
+
+  pub too-long : x .shortest ≤ n → x .longest < n → false ≡ fitLength kind n
+  unfolding fitLength
+  too-long l h = rw (← told, le-leb (x .shortest) n l, lt-leb n (x .longest) h)
+
+  pub step-decides : x .shortest ≤ n → n ≤ x .longest → eqb ((n - x .shortest) % x .step) 0 ≡ fitLength kind n
+  unfolding fitLength
+  step-decides l h = rw (← told, le-leb (x .shortest) n l, le-leb n (x .longest) h)
+
+  pub step-some : 1 ≤ x .step
+  step-some = rw told (lengths-some kind .1)
+
+-- a length that fits counts at least the kind and one byte
+pub fit-some : (kind n : ℕ) → fitLength kind n ≡ true → 3 ≤ n
+fit-some kind n e = omega (arith, decides (decided-fit kind n) .0 e .0, lengths-some kind .0)
+
+-- no record of the kinds of a place has a longer body than the longest
+pub fit-longest : (kinds : List ℕ) (kind n : ℕ) → mayStand kinds kind ≡ true → fitLength kind n ≡ true
+    → n ≤ 2 + longestBody kinds
+unfolding mayStand longestBody
+fit-longest [] kind n may e = absurd (false≢true may)
+fit-longest (k ∷ kinds) kind n may e = go (eqb k kind) refl may (λ later. fit-longest kinds kind n later e)
+  where
+    go : (b : Bool) → eqb k kind ≡ b → (b || any (λ x. eqb x kind) kinds) ≡ true
+        → (any (λ x. eqb x kind) kinds ≡ true → n ≤ 2 + longestBody kinds)
+        → n ≤ 2 + max (lengthsOf k .longest - 2) (longestBody kinds)
+    go true p h on =
+        let z = decides (decided-fit kind n) .0 e .1 in
+        let w = ap (λ x. lengthsOf x .longest) (eqb-true k kind p) in
+        omega (arith, z, w)
+    go false p h on = omega (arith, on h)
+
+-- the kinds of a place, one after the other
+module _ (kinds : List ℕ) (kind : ℕ) where
+  pub kind-here : (i : ℕ) → i < length kinds → getD kinds i 0 ≡ kind → mayStand (drop i kinds) kind ≡ true
+  unfolding mayStand
+  kind-here i h e = rw (drop-cons kinds i 0 h, eq-eqb (getD kinds i 0) kind e)
+
+  pub kind-later : (i : ℕ) → i < length kinds → (getD kinds i 0 ≡ kind → ⊥)
+      → mayStand (drop i kinds) kind ≡ mayStand (drop (i + 1) kinds) kind
+  unfolding mayStand
+  kind-later i h n =
+      let z : suc i ≡ i + 1 = omega arith in rw (← z, drop-cons kinds i 0 h, ne-eqb (getD kinds i 0) kind n)
+
+  pub kind-nowhere : (i : ℕ) → length kinds ≤ i → mayStand (drop i kinds) kind ≡ false
+  unfolding mayStand
+  kind-nowhere i h = rw (drop-of-length-le kinds {i = i} h)
+
+-- where one kind may stand, a kind that may is it
+pub only-kind : (k kind : ℕ) → mayStand (k ∷ []) kind ≡ true → kind ≡ k
+unfolding mayStand
+only-kind k kind e = go (eqb k kind) refl e
+  where
+    go : (b : Bool) → eqb k kind ≡ b → (b || false) ≡ true → kind ≡ k
+    go true p e = sym (eqb-true k kind p)
+    go false p e = absurd (apart cc)
 
 -- stepping over a record
-module _ (s : List ℕ) (at kind : ℕ) where
-  pub short-header : length s < at + 4 → next.Refused Truncated ≡ nextAt s at kind
+module _ (s : List ℕ) (at : ℕ) (kinds : List ℕ) where
+  pub short-header : length s < at + 4 → next.Refused Truncated ≡ nextAt s at kinds
   unfolding nextAt
   short-header h = rw (lt-ltb _ _ h)
 
-  module _ (header : at + 4 ≤ length s) where
-    pub other-kind : (wordAt s (at + 2) ≡ kind → ⊥) → next.Refused WrongKind ≡ nextAt s at kind
+  module _ (header : at + 4 ≤ length s) (kind : ℕ) (seen : kind ≡ wordAt s (at + 2)) where
+    pub other-kind : mayStand kinds kind ≡ false → next.Refused WrongKind ≡ nextAt s at kinds
     unfolding nextAt
-    other-kind n = rw (le-ltb (length s) (at + 4) header, ne-eqb (wordAt s (at + 2)) kind n)
+    other-kind n = rw (le-ltb (length s) (at + 4) header, ← seen, n)
 
-    module _ (due : wordAt s (at + 2) ≡ kind) where
-      pub misfit : fitLength kind (wordAt s at) ≡ false → next.Refused WrongLength ≡ nextAt s at kind
+    module _ (due : mayStand kinds kind ≡ true) where
+      pub misfit : fitLength kind (wordAt s at) ≡ false → next.Refused WrongLength ≡ nextAt s at kinds
       unfolding nextAt
-      misfit e = rw (le-ltb (length s) (at + 4) header, eq-eqb (wordAt s (at + 2)) kind due, e)
+      misfit e = rw (le-ltb (length s) (at + 4) header, ← seen, due, e)
 
       module _ (fit : fitLength kind (wordAt s at) ≡ true) where
-        pub short-body : length s < at + 2 + wordAt s at → next.Refused Truncated ≡ nextAt s at kind
+        pub short-body : length s < at + 2 + wordAt s at → next.Refused Truncated ≡ nextAt s at kinds
         unfolding nextAt
         short-body h =
             rw (
               le-ltb (length s) (at + 4) header,
-              eq-eqb (wordAt s (at + 2)) kind due,
+              ← seen,
+              due,
               fit,
               lt-ltb (length s) (at + 2 + wordAt s at) h,
             )
 
         pub found : (n e : ℕ) → at + 2 + wordAt s at ≤ length s → n ≡ wordAt s at - 2 → e ≡ at + 2 + wordAt s at
-            → next.Found (record { kind = kind; start = at + 4; len = n }) (record { at = e }) ≡ nextAt s at kind
+            → next.Found (record { kind = kind; start = at + 4; len = n }) (record { at = e }) ≡ nextAt s at kinds
         unfolding nextAt
         found n e h p q =
             rw (
               p,
               q,
               le-ltb (length s) (at + 4) header,
-              eq-eqb (wordAt s (at + 2)) kind due,
+              ← seen,
+              due,
               fit,
               le-ltb (length s) (at + 2 + wordAt s at) h,
             )

@@ -3,9 +3,9 @@
 use Prim.Native.Nat.{ℕ, _+_, _≤_}
 use mathlib.Core.Path.{_≡_, refl, sym, _∙_, ap}
 use mathlib.Core.Logic.{_↔_}
-use mathlib.Core.List.{List, [], _∷_, append-nil}
+use mathlib.Core.List.{List, [], _∷_, _++_, append-nil}
 use native.Mathlib.Omega.{arith}
-use lib.ListN.{length, getD, length-append, drop-of-length-le}
+use lib.ListN.{length, getD, drop, length-append, drop-of-length-le}
 use lib.Dec.{ltb}
 use borrow.Author.Tests.{le-ltb}
 use Rattle.hml.proofs.Tests.{apart, decided-lt}
@@ -20,7 +20,9 @@ use Rattle.labels.specs.declared.label.Labels.{Labels}
 use Rattle.tables.specs.Tables.{checkTable}
 use Rattle.machines.specs.Joints.{checkJoint}
 use Rattle.formulas.specs.Formulas.{questionLimit, checkFormula}
-use Rattle.casebook.specs.Records.{nextAt, bodyOf, labelsOf, recordBytes, fitLength, labelsBytes}
+use Rattle.casebook.specs.Records.{lengthsOf, fitLength, mayStand, nextAt, bodyOf, labelsOf, labelsBytes}
+use Rattle.casebook.specs.Records.{recordBytes}
+use Rattle.casebook.specs.Reading.{labelsKinds, leftKinds, rightKinds, runKinds, questionKinds, longestCasebook}
 use Rattle.casebook.specs.Reading.{after, ifSound, readQuestion, readRun, readRight, readLeft, readOf}
 use Rattle.casebook.specs.Writing.{casebookBytes, checkParts}
 use Rattle.casebook.specs.declared.record.Cursor.{Cursor}
@@ -30,8 +32,8 @@ use Rattle.casebook.specs.declared.record.Next.the-variants as next
 use Rattle.casebook.specs.declared.read.Parts.{Parts}
 use Rattle.casebook.specs.declared.read.Reading.{Reading}
 use Rattle.casebook.specs.declared.read.Reading.the-variants as reading
-use Rattle.casebook.proofs.Reading.{found-within}
-use Rattle.casebook.proofs.RecordLaws.{Bytes, placed, behind, next-record, record-next, record-length}
+use Rattle.casebook.proofs.Records.{only-kind, fit-longest}
+use Rattle.casebook.proofs.RecordLaws.{Bytes, Lies, placed, behind, next-record, record-next, record-length}
 use Rattle.casebook.proofs.RecordLaws.{header-fits, first-byte, single, table-fits, joint-fits, question-fits}
 
 -- parts of which each is sound by itself
@@ -69,17 +71,19 @@ module _ (k : Labels) (l r j q : List ℕ) where
   unfolding casebookBytes
   casebook-length = simp (length-append, record-length) (omega arith)
 
-  -- a casebook of sound parts has at most 3,825 bytes
-  pub casebook-short : checkParts k l r j q ≡ Sound → length (casebookBytes k l r j q) ≤ 3825
+  -- a casebook of sound parts is no longer than the longest
+  pub casebook-short : checkParts k l r j q ≡ Sound → length (casebookBytes k l r j q) ≤ longestCasebook
+  unfolding longestCasebook mayStand fitLength lengthsOf
   casebook-short e =
       let s = sound-parts e in
       omega (
         arith,
         casebook-length,
-        table-fits k l (s .left) .2,
-        table-fits k r (s .right) .2,
-        joint-fits k l r j (s .run) .1,
-        question-fits k q (s .question) .1,
+        fit-longest labelsKinds 1 3 refl refl,
+        fit-longest leftKinds 2 (2 + length l) refl (table-fits k l (s .left) .0),
+        fit-longest rightKinds 3 (2 + length r) refl (table-fits k r (s .right) .1),
+        fit-longest runKinds 4 (2 + length j) refl (joint-fits k l r j (s .run) .0),
+        fit-longest questionKinds 5 (2 + length q) refl (question-fits k q (s .question) .0),
       )
 
 -- what a casebook that was read shows: contents that are read are sound, a record that is read was found
@@ -115,11 +119,11 @@ record Chain (s : List ℕ) (p : Parts) : Type 0 where
   c3 : Cursor
   c4 : Cursor
   c5 : Cursor
-  first : nextAt s 0 1 ≡ next.Found (p .labels) c1
-  second : nextAt s (c1 .at) 2 ≡ next.Found (p .left) c2
-  third : nextAt s (c2 .at) 3 ≡ next.Found (p .right) c3
-  fourth : nextAt s (c3 .at) 4 ≡ next.Found (p .run) c4
-  fifth : nextAt s (c4 .at) 5 ≡ next.Found (p .question) c5
+  first : nextAt s 0 labelsKinds ≡ next.Found (p .labels) c1
+  second : nextAt s (c1 .at) leftKinds ≡ next.Found (p .left) c2
+  third : nextAt s (c2 .at) rightKinds ≡ next.Found (p .right) c3
+  fourth : nextAt s (c3 .at) runKinds ≡ next.Found (p .run) c4
+  fifth : nextAt s (c4 .at) questionKinds ≡ next.Found (p .question) c5
   sound : SoundParts (labelsOf s (p .labels)) (bodyOf s (p .left)) (bodyOf s (p .right)) (bodyOf s (p .run))
       (bodyOf s (p .question))
   all : length s ≤ c5 .at
@@ -148,16 +152,16 @@ module _ (s : List ℕ) (p : Parts) where
   read-chain : readOf s ≡ reading.Casebook p → Chain s p
   unfolding readOf readLeft readRight readRun readQuestion
   read-chain e =
-      record-read (nextAt s 0 1) (λ h. checkLabels (labelsOf s h)) (λ h c. readLeft s h (c .at)) e
+      record-read (nextAt s 0 labelsKinds) (λ h. checkLabels (labelsOf s h)) (λ h c. readLeft s h (c .at)) e
       (λ h c1 n1 f1 e1.
       let k = labelsOf s h in
-      record-read (nextAt s (c1 .at) 2) (λ l. checkTable k (bodyOf s l)) (λ l c. readRight s h l (c .at)) e1
+      record-read (nextAt s (c1 .at) leftKinds) (λ l. checkTable k (bodyOf s l)) (λ l c. readRight s h l (c .at)) e1
       (λ l c2 n2 f2 e2.
-      record-read (nextAt s (c2 .at) 3) (λ r. checkTable k (bodyOf s r)) (λ r c. readRun s h l r (c .at)) e2
+      record-read (nextAt s (c2 .at) rightKinds) (λ r. checkTable k (bodyOf s r)) (λ r c. readRun s h l r (c .at)) e2
       (λ r c3 n3 f3 e3.
-      record-read (nextAt s (c3 .at) 4) (λ j. checkJoint k (bodyOf s l) (bodyOf s r) (bodyOf s j))
+      record-read (nextAt s (c3 .at) runKinds) (λ j. checkJoint k (bodyOf s l) (bodyOf s r) (bodyOf s j))
       (λ j c. readQuestion s h l r j (c .at)) e3 (λ j c4 n4 f4 e4.
-      record-read (nextAt s (c4 .at) 5) (λ q. checkFormula k questionLimit (bodyOf s q))
+      record-read (nextAt s (c4 .at) questionKinds) (λ q. checkFormula k questionLimit (bodyOf s q))
       (λ q c. ifSound (refusedIf (ltb (c .at) (length s)) BytesAfter)
       (reading.Casebook (record { labels = h; left = l; right = r; run = j; question = q }))) e4 (λ q c5 n5 f5 e5.
       sound-read (refusedIf (ltb (c5 .at) (length s)) BytesAfter) e5 (λ a b. rw (← same-parts b) (record {
@@ -196,7 +200,7 @@ pub record ReadsTo (s : List ℕ) (k : Labels) (l r j q : List ℕ) : Type 0 whe
 -- reading a casebook that was written gives its parts
 pub read-written : (k : Labels) (l r j q : List ℕ) → checkParts k l r j q ≡ Sound
     → ReadsTo (casebookBytes k l r j q) k l r j q
-unfolding casebookBytes fitLength
+unfolding casebookBytes mayStand fitLength lengthsOf
 read-written k l r j q e =
     let s = casebookBytes k l r j q in
     let w = sound-parts k l r j q e in
@@ -211,11 +215,11 @@ read-written k l r j q e =
       run = placed 4 (c3 .at) j;
       question = placed 5 (c4 .at) q;
     } in
-    let (n1, b1, d1) = next-record s 0 1 (labelsBytes k) _ refl refl in
-    let (n2, b2, d2) = next-record s (c1 .at) 2 l _ (table-fits k l (w .left) .0) d1 in
-    let (n3, b3, d3) = next-record s (c2 .at) 3 r _ (table-fits k r (w .right) .1) d2 in
-    let (n4, b4, d4) = next-record s (c3 .at) 4 j _ (joint-fits k l r j (w .run) .0) d3 in
-    let (n5, b5, d5) = next-record s (c4 .at) 5 q [] (question-fits k q (w .question) .0)
+    let (n1, b1, d1) = next-record s 0 labelsKinds 1 (labelsBytes k) _ refl refl refl in
+    let (n2, b2, d2) = next-record s (c1 .at) leftKinds 2 l _ refl (table-fits k l (w .left) .0) d1 in
+    let (n3, b3, d3) = next-record s (c2 .at) rightKinds 3 r _ refl (table-fits k r (w .right) .1) d2 in
+    let (n4, b4, d4) = next-record s (c3 .at) runKinds 4 j _ refl (joint-fits k l r j (w .run) .0) d3 in
+    let (n5, b5, d5) = next-record s (c4 .at) questionKinds 5 q [] refl (question-fits k q (w .question) .0)
     (d4 ∙ sym (append-nil (recordBytes 5 q))) in
     let shown = labels-shown s (placed 1 0 (labelsBytes k)) k b1 in
     record {
@@ -241,34 +245,59 @@ read-written k l r j q e =
       question = b5;
     }
 
+-- a record that lies at a place of one kind stands there as the bytes of that kind
+lies-as : (s : List ℕ) (at k : ℕ) (r : Record) (c : Cursor) → Lies s at (k ∷ []) r c
+    → drop at s ≡ recordBytes k (bodyOf s r) ++ drop (c .at) s
+lies-as s at k r c y = rw (← only-kind k (r .kind) (y .may)) (y .bytes)
+
 -- a casebook that was read, of bytes
 module _ (s : List ℕ) (bytes : Bytes s) (p : Parts) (e : readOf s ≡ reading.Casebook p) where
+  w : Chain s p
+  w = read-chain s p e
+
+  -- its records
+  labels-lies : Lies s 0 labelsKinds (p .labels) (w .c1)
+  labels-lies = record-next s 0 labelsKinds bytes (p .labels) (w .c1) (w .first)
+
+  left-lies : Lies s (w .c1 .at) leftKinds (p .left) (w .c2)
+  left-lies = record-next s (w .c1 .at) leftKinds bytes (p .left) (w .c2) (w .second)
+
+  right-lies : Lies s (w .c2 .at) rightKinds (p .right) (w .c3)
+  right-lies = record-next s (w .c2 .at) rightKinds bytes (p .right) (w .c3) (w .third)
+
+  run-lies : Lies s (w .c3 .at) runKinds (p .run) (w .c4)
+  run-lies = record-next s (w .c3 .at) runKinds bytes (p .run) (w .c4) (w .fourth)
+
+  question-lies : Lies s (w .c4 .at) questionKinds (p .question) (w .c5)
+  question-lies = record-next s (w .c4 .at) questionKinds bytes (p .question) (w .c5) (w .fifth)
+
+  -- the body of the first is k alone
+  one-byte : length (bodyOf s (p .labels)) ≡ 1
+  one-byte =
+      let n = length (bodyOf s (p .labels)) in
+      let k = only-kind 1 (p .labels .kind) (labels-lies .may) in
+      header-fits n (ap (λ x. fitLength x (2 + n)) (sym k) ∙ labels-lies .fits)
+
   -- writing its parts gives its bytes
   pub written-read : casebookBytes (labelsOf s (p .labels)) (bodyOf s (p .left)) (bodyOf s (p .right))
       (bodyOf s (p .run)) (bodyOf s (p .question)) ≡ s
   unfolding casebookBytes labelsOf
   written-read =
-      let w = read-chain s p e in
-      let y = record-next s 0 1 bytes (p .labels) (w .c1) (w .first) in
-      let one = header-fits (length (bodyOf s (p .labels))) (y .fits) in
-      let k : bodyOf s (p .labels) ≡ getD s (p .labels .start) 0 ∷ [] = single (bodyOf s (p .labels)) one
-      ∙ ap (λ x. x ∷ []) (first-byte s (p .labels) (omega (arith, one))) in
-      sym (y .bytes ∙ rw (
+      let k : bodyOf s (p .labels) ≡ getD s (p .labels .start) 0 ∷ [] = single (bodyOf s (p .labels)) one-byte
+      ∙ ap (λ x. x ∷ []) (first-byte s (p .labels) (omega (arith, one-byte))) in
+      sym (lies-as s 0 1 (p .labels) (w .c1) labels-lies ∙ rw (
         k,
-        record-next s (w .c1 .at) 2 bytes (p .left) (w .c2) (w .second) .bytes,
-        record-next s (w .c2 .at) 3 bytes (p .right) (w .c3) (w .third) .bytes,
-        record-next s (w .c3 .at) 4 bytes (p .run) (w .c4) (w .fourth) .bytes,
-        record-next s (w .c4 .at) 5 bytes (p .question) (w .c5) (w .fifth) .bytes,
+        lies-as s (w .c1 .at) 2 (p .left) (w .c2) left-lies,
+        lies-as s (w .c2 .at) 3 (p .right) (w .c3) right-lies,
+        lies-as s (w .c3 .at) 4 (p .run) (w .c4) run-lies,
+        lies-as s (w .c4 .at) 5 (p .question) (w .c5) question-lies,
         drop-of-length-le s {i = w .c5 .at} (w .all),
         append-nil (recordBytes 5 (bodyOf s (p .question))),
       ))
 
   -- its first record is the shortest there is: k alone, behind the record's length and kind
   pub labels-placed : (p .labels .start ≡ 4) × (p .labels .len ≡ 1)
-  labels-placed =
-      let w = read-chain s p e in
-      let y = record-next s 0 1 bytes (p .labels) (w .c1) (w .first) in
-      (y .start-is, sym (y .body-length) ∙ header-fits (length (bodyOf s (p .labels))) (y .fits))
+  labels-placed = (labels-lies .start-is, sym (labels-lies .body-length) ∙ one-byte)
 
 -- a casebook is accepted exactly if it is what writing makes of sound parts
 pub accepted-exactly : (s : List ℕ) → Bytes s
@@ -295,21 +324,24 @@ accepted-exactly s b = (
 
 -- a casebook that was read is short, and its records lie in it
 pub record Placing (s : List ℕ) (p : Parts) : Type 0 where
-  pub short : length s ≤ 3825
+  pub short : length s ≤ longestCasebook
   pub labels : p .labels .start + p .labels .len ≤ length s
   pub left : p .left .start + p .left .len ≤ length s
   pub right : p .right .start + p .right .len ≤ length s
   pub run : p .run .start + p .run .len ≤ length s
   pub question : p .question .start + p .question .len ≤ length s
 
+-- a record that lies in some bytes ends in them
+lies-within : (s : List ℕ) (at : ℕ) (kinds : List ℕ) (r : Record) (c : Cursor) → Lies s at kinds r c
+    → r .start + r .len ≤ length s
+lies-within s at kinds r c y = omega (arith, y .start-is, y .behind-is, y .room)
+
 pub placing : (s : List ℕ) → Bytes s → (p : Parts) → readOf s ≡ reading.Casebook p → Placing s p
-placing s bytes p e =
-    let w = read-chain s p e in
-    record {
-      short = omega (arith, casebook-short _ _ _ _ _ (read-sound s p e), ap length (written-read s bytes p e));
-      labels = found-within s 0 1 (p .labels) (w .c1) (sym (w .first)) .0;
-      left = found-within s (w .c1 .at) 2 (p .left) (w .c2) (sym (w .second)) .0;
-      right = found-within s (w .c2 .at) 3 (p .right) (w .c3) (sym (w .third)) .0;
-      run = found-within s (w .c3 .at) 4 (p .run) (w .c4) (sym (w .fourth)) .0;
-      question = found-within s (w .c4 .at) 5 (p .question) (w .c5) (sym (w .fifth)) .0;
-    }
+placing s bytes p e = record {
+  short = omega (arith, casebook-short _ _ _ _ _ (read-sound s p e), ap length (written-read s bytes p e));
+  labels = lies-within s _ _ (p .labels) _ (labels-lies s bytes p e);
+  left = lies-within s _ _ (p .left) _ (left-lies s bytes p e);
+  right = lies-within s _ _ (p .right) _ (right-lies s bytes p e);
+  run = lies-within s _ _ (p .run) _ (run-lies s bytes p e);
+  question = lies-within s _ _ (p .question) _ (question-lies s bytes p e);
+}

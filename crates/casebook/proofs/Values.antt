@@ -10,7 +10,8 @@ use Rattle.labels.specs.declared.refusal.Check.the-variants.{Sound, Refused}
 use Rattle.labels.proofs.Refusals.{both-sound}
 use Rattle.labels.proofs.Answers.{Within, none, next}
 use Rattle.labels.specs.declared.label.Labels.{Labels}
-use Rattle.casebook.specs.Reading.{readOf, readAnswer}
+use Rattle.casebook.specs.Records.{lengthsOf, longestBody}
+use Rattle.casebook.specs.Reading.{longestCasebook, readOf, readAnswer}
 use Rattle.casebook.specs.Writing.{casebookBytes, checkParts, checkWrite, answered, writeOf, writeAnswer}
 use Rattle.casebook.specs.declared.record.Record.{Record}
 use Rattle.casebook.specs.declared.read.Reading.{Reading}
@@ -18,27 +19,33 @@ use Rattle.casebook.specs.declared.read.Reading.the-variants as reading
 use Rattle.casebook.proofs.RecordLaws.{Bytes}
 use Rattle.casebook.proofs.RoundTrip.{casebook-short, placing}
 
--- of a writing: at most 3,825
+-- the longest casebook, in figures
+pub longest-is : longestCasebook ≡ 3825
+unfolding longestCasebook longestBody lengthsOf
+longest-is = refl
+
+-- of a writing: at most the length of the longest casebook
 pub write-within : (k : Labels) (l r j q : List ℕ) (room : ℕ)
-    → Within 3825 (writeAnswer (writeOf k l r j q room) .values)
+    → Within longestCasebook (writeAnswer (writeOf k l r j q room) .values)
 unfolding writeOf writeAnswer checkWrite firstOf
 write-within k l r j q room = go (checkWrite k l r j q room) refl
   where
     go : (c : Check) → checkWrite k l r j q room ≡ c
-        → Within 3825 (writeAnswer (answered c (length (casebookBytes k l r j q))) .values)
+        → Within longestCasebook (writeAnswer (answered c (length (casebookBytes k l r j q))) .values)
     go Sound e = next (casebook-short k l r j q (both-sound (checkParts k l r j q) _ e .0)) none
     go (Refused x) e = none
 
--- of a reading: the records lie in at most 3,825 bytes
-place-within : (r : Record) (n : ℕ) {ns : List ℕ} → r .start + r .len ≤ n → n ≤ 3825 → Within 3825 ns
-    → Within 3825 (r .start ∷ r .len ∷ ns)
+-- of a reading: the records lie in at most as many bytes
+place-within : (r : Record) (n : ℕ) {ns : List ℕ} → r .start + r .len ≤ n → n ≤ longestCasebook
+    → Within longestCasebook ns
+    → Within longestCasebook (r .start ∷ r .len ∷ ns)
 place-within r n h i w = next {n = r .start} (omega arith) (next {n = r .len} (omega arith) w)
 
-pub read-within : (s : List ℕ) → Bytes s → Within 3825 (readAnswer (readOf s) .values)
+pub read-within : (s : List ℕ) → Bytes s → Within longestCasebook (readAnswer (readOf s) .values)
 unfolding readAnswer
 read-within s bytes = go (readOf s) refl
   where
-    go : (a : Reading) → readOf s ≡ a → Within 3825 (readAnswer a .values)
+    go : (a : Reading) → readOf s ≡ a → Within longestCasebook (readAnswer a .values)
     go (reading.Casebook p) e =
         let w = placing s bytes p e in
         place-within (p .labels) _ (w .labels) (w .short)

@@ -12,7 +12,17 @@ ghost use mathlib.Core.Path.{_≡_};
 ghost use Rattle.labels.specs.declared.refusal.Check.the-variants.{Sound};
 ghost use Rattle.tables.specs.Tables.{checkTable};
 ghost use Rattle.casebook.specs.Records.{bodyOf, labelsOf};
-ghost use Rattle.casebook.specs.Reading.{readQuestion, readRun, readRight, readLeft, readOf};
+ghost use Rattle.casebook.specs.Reading.{longestCasebook, readQuestion, readRun, readRight, readLeft, readOf};
+
+// The length of the longest casebook.
+pub const LONGEST: usize = 3825;
+
+// The same as a function, by whose promise it is what the table of records says.
+pub fn longest() -> usize
+    ensures { λ r. ⌜ r ≡ longestCasebook ⌝ }
+{
+    LONGEST
+}
 
 // A casebook that was read: where the bodies of its five records lie.
 pub struct Parts {
@@ -43,7 +53,7 @@ pub enum Reading {
 pub fn read(s: &[u8]) -> Reading
     ensures { λ r. ⌜ r ≡ readOf (now (s .entry)) ⌝ }
 {
-    match (Cursor { at: 0 }).next(s, 1) {
+    match (Cursor { at: 0 }).next(s, &[1]) {
         Next::Found(first, cursor) => {
             let labels = first.labels(s);
             match labels.check() {
@@ -59,7 +69,7 @@ pub fn read(s: &[u8]) -> Reading
 fn read_left(s: &[u8], first: Record, cursor: Cursor) -> Reading
     ensures { λ r. ⌜ r ≡ readLeft (now (s .entry)) first (cursor .at) ⌝ }
 {
-    match cursor.next(s, 2) {
+    match cursor.next(s, &[2]) {
         Next::Found(left, next) => match check_table(first.labels(s), left.body(s)) {
             Check::Sound => read_right(s, first, left, next),
             Check::Refused(refusal) => Reading::Refused(refusal),
@@ -73,7 +83,7 @@ fn read_right(s: &[u8], first: Record, left: Record, cursor: Cursor) -> Reading
     requires { ⌜ checkTable (labelsOf (now s) first) (bodyOf (now s) left) ≡ Sound ⌝ }
     ensures { λ r. ⌜ r ≡ readRight (now (s .entry)) first left (cursor .at) ⌝ }
 {
-    match cursor.next(s, 3) {
+    match cursor.next(s, &[3]) {
         Next::Found(right, next) => match check_table(first.labels(s), right.body(s)) {
             Check::Sound => read_run(s, first, left, right, next),
             Check::Refused(refusal) => Reading::Refused(refusal),
@@ -88,7 +98,7 @@ fn read_run(s: &[u8], first: Record, left: Record, right: Record, cursor: Cursor
         × (checkTable (labelsOf (now s) first) (bodyOf (now s) right) ≡ Sound) ⌝ }
     ensures { λ r. ⌜ r ≡ readRun (now (s .entry)) first left right (cursor .at) ⌝ }
 {
-    match cursor.next(s, 4) {
+    match cursor.next(s, &[4]) {
         Next::Found(run, next) => {
             match check_joint(first.labels(s), left.body(s), right.body(s), run.body(s)) {
                 Check::Sound => read_question(s, first, left, right, run, next),
@@ -110,7 +120,7 @@ fn read_question(
 ) -> Reading
     ensures { λ r. ⌜ r ≡ readQuestion (now (s .entry)) first left right run (cursor .at) ⌝ }
 {
-    match cursor.next(s, 5) {
+    match cursor.next(s, &[5]) {
         Next::Found(question, next) => {
             match check_formula(first.labels(s), 64, question.body(s)) {
                 Check::Sound => {

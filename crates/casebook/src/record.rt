@@ -4,8 +4,8 @@ use labels::refusal::Refusal;
 ghost use mathlib.Core.Path.{_≡_};
 ghost use Prim.Native.Nat.{_+_, _<_};
 ghost use lib.ListN.{length};
-ghost use Rattle.casebook.specs.Records.{wordAt, fitTableLength, fitRunLength, fitQuestionLength, fitLength};
-ghost use Rattle.casebook.specs.Records.{nextAt, bodyOf, labelsOf};
+ghost use Rattle.casebook.specs.Records.{wordAt, lengthsOf, fitLength};
+ghost use Rattle.casebook.specs.Records.{mayStand, nextAt, bodyOf, labelsOf};
 
 // A reading position.
 pub struct Cursor {
@@ -55,9 +55,9 @@ pub enum Next {
 }
 
 impl Cursor {
-    // Steps over one record of the kind that is due: 1 (header), 2, 3, 1 (body).
-    pub fn next(self, s: &[u8], kind: usize) -> Next
-        ensures { λ r. ⌜ r ≡ nextAt (now (s .entry)) (self .at) kind ⌝ }
+    // Steps over one record of one of the kinds that may stand here: 1 (header), 2, 3, 1 (body).
+    pub fn next(self, s: &[u8], kinds: &[u8]) -> Next
+        ensures { λ r. ⌜ r ≡ nextAt (now (s .entry)) (self .at) (now (kinds .entry)) ⌝ }
     {
         let at = self.at;
         if s.len() < at {
@@ -66,7 +66,8 @@ impl Cursor {
         if s.len() - at < 4 {
             return Next::Refused(Refusal::Truncated);
         }
-        if word(s, at + 2) != kind {
+        let kind = word(s, at + 2);
+        if !may_stand(kinds, kind) {
             return Next::Refused(Refusal::WrongKind);
         }
         let n = word(s, at);
@@ -82,65 +83,98 @@ impl Cursor {
     }
 }
 
-// The table of records: can a record of this kind have this length?
-pub(crate) fn fits(kind: usize, n: usize) -> bool
-    ensures { λ r. ⌜ r ≡ fitLength kind n ⌝ }
+// Is a kind one of those that may stand at a place?
+fn may_stand(kinds: &[u8], kind: usize) -> bool
+    ensures { λ r. ⌜ r ≡ mayStand (now (kinds .entry)) kind ⌝ }
 {
-    if kind == 1 {
-        return n == 3;
-    }
-    if kind == 2 {
-        return fits_table(n);
-    }
-    if kind == 3 {
-        return fits_table(n);
-    }
-    if kind == 4 {
-        return fits_run(n);
-    }
-    if kind == 5 {
-        return fits_question(n);
+    let mut i: usize = 0;
+    while i < kinds.len() {
+        if kinds[i] as usize == kind {
+            return true;
+        }
+        i = i + 1;
     }
     false
 }
 
-// 3 to 1,539, a multiple of 3.
-fn fits_table(n: usize) -> bool
-    ensures { λ r. ⌜ r ≡ fitTableLength n ⌝ }
-{
-    if n % 3 != 0 {
-        return false;
-    }
-    if n < 3 {
-        return false;
-    }
-    n <= 1539
+// The lengths that records of a kind can have: from the shortest to the longest, a step apart.
+pub struct Lengths {
+    pub shortest: usize,
+    pub longest: usize,
+    pub step: usize,
 }
 
-// 4 + 3 times steps, up to 604.
-fn fits_run(n: usize) -> bool
-    ensures { λ r. ⌜ r ≡ fitRunLength n ⌝ }
-{
-    if n % 3 != 1 {
-        return false;
-    }
-    if n < 4 {
-        return false;
-    }
-    n <= 604
+impl Lengths {
+    // 3.
+    const LABELS: Lengths = Lengths {
+        shortest: 3,
+        longest: 3,
+        step: 1,
+    };
+
+    // 3 to 1,539, a multiple of 3.
+    const TABLE: Lengths = Lengths {
+        shortest: 3,
+        longest: 1539,
+        step: 3,
+    };
+
+    // 4 + 3 times steps, up to 604.
+    const RUN: Lengths = Lengths {
+        shortest: 4,
+        longest: 604,
+        step: 3,
+    };
+
+    // Even, 4 to 130.
+    const QUESTION: Lengths = Lengths {
+        shortest: 4,
+        longest: 130,
+        step: 2,
+    };
+
+    // No length at all.
+    const NONE: Lengths = Lengths {
+        shortest: 3,
+        longest: 0,
+        step: 1,
+    };
 }
 
-// Even, 4 to 130.
-fn fits_question(n: usize) -> bool
-    ensures { λ r. ⌜ r ≡ fitQuestionLength n ⌝ }
+// The table of records.
+fn lengths_of(kind: usize) -> Lengths
+    ensures { λ r. ⌜ r ≡ lengthsOf kind ⌝ }
 {
-    if n % 2 != 0 {
+    if kind == 1 {
+        return Lengths::LABELS;
+    }
+    if kind == 2 {
+        return Lengths::TABLE;
+    }
+    if kind == 3 {
+        return Lengths::TABLE;
+    }
+    if kind == 4 {
+        return Lengths::RUN;
+    }
+    if kind == 5 {
+        return Lengths::QUESTION;
+    }
+    Lengths::NONE
+}
+
+// Can a record of this kind have this length?
+fn fits(kind: usize, n: usize) -> bool
+    ensures { λ r. ⌜ r ≡ fitLength kind n ⌝ }
+{
+    let lengths = lengths_of(kind);
+    if n < lengths.shortest {
         return false;
     }
-    if n < 4 {
+    if lengths.longest < n {
         return false;
     }
-    n <= 130
+    (n - lengths.shortest) % lengths.step == 0
 }
 
 // Two bytes, the low one first.

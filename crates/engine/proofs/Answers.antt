@@ -51,7 +51,7 @@ module _ {A : Type 0} (f : A → Answer) {x r b : A} (promise : x ≡ r) (found 
   unfolding linesTold
   lines-refused y e h = rw (← same-answer, e, h)
 
--- the records of a casebook that was read lie within its 3,825 bytes
+-- the records of a casebook that was read lie within as many bytes as the longest has
 pub placed : (s : List ℕ) → Bytes s → (x : Reading) (p : Parts) → x ≡ readOf s → x ≡ reading.Casebook p → Placed p
 placed s bytes x p e f =
     let w = placing s bytes p (sym e ∙ f) in

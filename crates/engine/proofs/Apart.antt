@@ -15,10 +15,10 @@ use Rattle.labels.specs.declared.label.Labels.{Labels}
 use Rattle.halves.specs.Cuts.{beyond, cutOf, knownOf, knownPart}
 use Rattle.halves.specs.declared.side.Side.{Side}
 use Rattle.halves.proofs.Cuts.{refused-empty}
-use Rattle.casebook.specs.Reading.{readOf, readAnswer}
+use Rattle.casebook.specs.Reading.{longestCasebook, readOf, readAnswer}
 use Rattle.casebook.specs.Writing.{writeOf, writeAnswer}
 use Rattle.casebook.proofs.RecordLaws.{Bytes}
-use Rattle.casebook.proofs.Values.{write-within, read-within}
+use Rattle.casebook.proofs.Values.{longest-is, write-within, read-within}
 use Rattle.verdict.specs.Verdicts.{jointVerdict, halfVerdict, verdictAnswer}
 use Rattle.verdict.proofs.Values.{verdict-within}
 use Rattle.splitting.specs.Splittings.{splittingLimit, countOf, countAnswer, splitOf, splitAnswer}
@@ -50,15 +50,15 @@ unfolding twoBits
 bits-apart a w = apart twoBits a (omega (arith, within-at w 0, within-at w 1))
 
 -- a place in a casebook that was read
-place-small : (ns : List ℕ) (i : ℕ) → Within 3825 ns → placeAt ns i < 4294967296
+place-small : (ns : List ℕ) (i : ℕ) → Within longestCasebook ns → placeAt ns i < 4294967296
 unfolding placeAt
-place-small ns i w = omega (arith, within-at w i, within-at w (i + 1))
+place-small ns i w = omega (arith, longest-is, within-at w i, within-at w (i + 1))
 
 chosen : (b : Bool) {x y : ℕ} → x < 4294967296 → y < 4294967296 → cond b x y < 4294967296
 chosen true h i = h
 chosen false h i = i
 
-places-small : (kind : ℕ) (ns : List ℕ) → Within 3825 ns → placeIn kind ns < 4294967296
+places-small : (kind : ℕ) (ns : List ℕ) → Within longestCasebook ns → placeIn kind ns < 4294967296
 unfolding placeIn
 places-small kind ns w =
     chosen (eqb kind 1) (place-small ns 0 w)
@@ -75,9 +75,8 @@ casebook-read-apart s = apart nothing _ (omega arith)
 pub casebook-part-apart : (s : List ℕ) → Bytes s → (kind : ℕ) → Apart (placeIn kind) (readAnswer (readOf s))
 casebook-part-apart s bytes kind = apart (placeIn kind) _ (places-small kind _ (read-within s bytes))
 
-pub casebook-write-apart : (k : Labels) (l r j q : List ℕ) (room : ℕ)
-    → Apart only (writeAnswer (writeOf k l r j q room))
-casebook-write-apart k l r j q room = only-apart _ (write-within k l r j q room) (omega arith)
+pub casebook-write-apart : (k : Labels) (l r j q : List ℕ) (room : ℕ) → Apart only (writeAnswer (writeOf k l r j q room))
+casebook-write-apart k l r j q room = only-apart _ (write-within k l r j q room) (omega (arith, longest-is))
 
 -- of verdicts
 pub joint-verdict-apart : (k : Labels) (l r s f : List ℕ) (point : ℕ)

@@ -32,7 +32,7 @@ ghost use lib.ListN.{length};
 ghost use Rattle.labels.specs.Labels.{ofPairs};
 ghost use Rattle.labels.specs.Refusals.{refusedAs};
 ghost use Rattle.halves.specs.Cuts.{cutOf};
-ghost use Rattle.casebook.specs.Reading.{readOf, readAnswer};
+ghost use Rattle.casebook.specs.Reading.{longestCasebook, readOf, readAnswer};
 ghost use Rattle.casebook.specs.Writing.{writeOf, writtenOf, writeAnswer};
 ghost use Rattle.verdict.specs.Verdicts.{jointVerdict, halfVerdict, verdictAnswer, bitOf};
 ghost use Rattle.splitting.specs.Splittings.{countOf, countAnswer, splitOf, splitAnswer, leftOutput, rightOutput};
@@ -95,7 +95,7 @@ fn place_in(parts: Parts, kind: u8) -> u64
 }
 
 fn place(record: Record) -> u64
-    requires { ⌜ «record» .start + «record» .len ≤ 3825 ⌝ }
+    requires { ⌜ «record» .start + «record» .len ≤ longestCasebook ⌝ }
     ensures { λ r. ⌜ r ≡ «record» .start * 65536 + «record» .len ⌝ }
 {
     let start = record.start;

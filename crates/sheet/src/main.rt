@@ -2,22 +2,33 @@
 mod output;
 
 use crate::output::Printed;
+use casebook::read::LONGEST;
 use libc::STDIN_FILENO;
 use sheet_lines::block::write_block;
 ghost use mathlib.Core.Path.{_≡_};
 ghost use mathlib.Core.Bool.{true};
-ghost use Prim.Native.Nat.{_+_, _≤_};
-ghost use lib.ListN.{length};
+ghost use mathlib.Core.List.{List};
+ghost use Prim.Native.Nat.{ℕ, _+_, _≤_, _<_};
+ghost use lib.ListN.{length, take};
+ghost use Rattle.casebook.specs.Reading.{longestCasebook};
 ghost use Rattle.sheet_lines.specs.Sheets.{sheetOf};
 ghost use Rattle.sheet_lines.specs.Blocks.{blockFrom};
 
-// A sound casebook has at most 3,825 bytes, so one byte more is enough to judge any input (`sheet-early` in
-// sheet_lines/proofs).
+// No casebook is longer than the longest, so one byte more is enough to judge any input.
 fn main() {
-    let mut input = [0u8; 3826];
+    let mut input = [0u8; LONGEST + 1];
     let n = io::read_full(STDIN_FILENO, &mut input);
     let mut out = [0u8; 3145728];
-    print_sheet(&input[..n], &mut out);
+    print_input(&input, n, &mut out);
+}
+
+// Prints the sheet of an input whose first bytes, as many as there is room for, stand in the front of `input`.
+fn print_input(input: &[u8], n: usize, out: &mut [u8; 3145728]) -> Printed
+    requires { ⌜ (longestCasebook < length (now input)) × (n ≤ length (now input)) ⌝ }
+    ensures { λ r. ⌜ ((s : List ℕ) → take (length (now (input .entry))) s ≡ take n (now (input .entry))
+        → r .taken ≡ true → r .next ≡ length (sheetOf s)) ⌝ }
+{
+    print_sheet(&input[..n], out)
 }
 
 // Prints the sheet of any bytes, block by block, until no line is left or standard output takes no more. (With one call

@@ -24,8 +24,7 @@ use Rattle.halves.specs.Cuts.{beyond}
 use Rattle.machines.specs.Joints.{jointSteps, jointOf, isLeftAlone, isRightAlone, shakesTo, isJointIdle, isHandshake}
 use Rattle.machines.specs.Joints.{isReal, fitJoint, isJointRun, checkJoint}
 use Rattle.formulas.specs.Formulas.{wholeOf, formulaOf, isFormula, nestsFit, checkFormula}
-use Rattle.casebook.specs.Records.{fitTableLength, fitRunLength, fitQuestionLength, fitLength, nextAt, bodyOf}
-use Rattle.casebook.specs.Records.{labelsOf}
+use Rattle.casebook.specs.Records.{lengthsOf, fitLength, mayStand, nextAt, bodyOf, labelsOf}
 use Rattle.casebook.specs.Reading.{readQuestion, readRun, readRight, readLeft, readOf}
 use Rattle.casebook.specs.declared.read.Reading.{Reading}
 use Rattle.casebook.specs.declared.read.Reading.the-variants as reading
@@ -156,8 +155,8 @@ computed c =
     }
 
 pub published : map computed cases ≡ map due cases
-unfolding cases readOf readLeft readRight readRun readQuestion nextAt fitLength fitTableLength fitRunLength
-    fitQuestionLength bodyOf labelsOf
+unfolding cases readOf readLeft readRight readRun readQuestion nextAt mayStand lengthsOf fitLength bodyOf
+    labelsOf
     countOf checkCount checkLog splittingLimit splittingsOf firstOf checkTable fitTable fitStates checkRows checkRow
     inRange rowBelow aboveLast leaving checkLabels count highest checkJoint fitJoint isJointRun isReal isLeftAlone
     isRightAlone

@@ -1,14 +1,15 @@
 -- Both numbers are small, so nothing wraps.
 use mathlib.Core.Path.{refl}
-use borrow.Author.Needs.{needs}
+use native.Mathlib.Omega.{arith}
+use Rattle.casebook.proofs.Values.{longest-is}
 use Rattle.engine.proofs.place.Statement.{statement}
 use Rattle.engine.proofs.place.Tie as tie
 
 mul-result : tie.Need-mul-result
-mul-result c = search needs
+mul-result c = omega (arith, longest-is)
 
 add-result : tie.Need-add-result
-add-result c = search needs
+add-result c = omega (arith, longest-is)
 
 returns : tie.Need-returns
 returns c = refl

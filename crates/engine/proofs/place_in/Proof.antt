@@ -26,13 +26,17 @@ place-requires-4 : tie.Need-place-requires-4
 place-requires-4 c κs = search needs
 
 returns-4 : tie.Need-returns-4
-returns-4 c = place-4 (c .before .before .before .before .before .args .parts) _ (c .before .if4 .taken) (c .place4 .ensures)
+returns-4 c =
+    place-4 (c .before .before .before .before .before .args .parts) _ (c .before .if4 .taken)
+    (c .place4 .ensures)
 
 place-requires-5 : tie.Need-place-requires-5
 place-requires-5 c κs = search needs
 
 returns-5 : tie.Need-returns-5
-returns-5 c = place-5 (c .before .before .before .before .before .before .args .parts) _ (c .before .if5 .taken) (c .place5 .ensures)
+returns-5 c =
+    place-5 (c .before .before .before .before .before .before .args .parts) _ (c .before .if5 .taken)
+    (c .place5 .ensures)
 
 returns-6 : tie.Need-returns-6
 returns-6 c =

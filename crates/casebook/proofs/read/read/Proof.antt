@@ -5,6 +5,9 @@ use borrow.Author.Needs.{needs}
 use Rattle.casebook.proofs.read.read.Statement.{statement}
 use Rattle.casebook.proofs.read.read.Tie as tie
 
+slice-aggregate-next : tie.Need-slice-aggregate-next
+slice-aggregate-next c = search needs
+
 next-requires : tie.Need-next-requires
 next-requires c κs = search needs
 
@@ -52,6 +55,7 @@ pub read-spec : {M : Type 1} → statement M
 read-spec =
     tie.close
     (tie.spec
+    slice-aggregate-next
     next-requires
     enum-known-first
     labels-requires

@@ -6,6 +6,9 @@ use borrow.Author.Needs.{needs}
 use Rattle.casebook.proofs.read.read_left.Statement.{statement}
 use Rattle.casebook.proofs.read.read_left.Tie as tie
 
+slice-aggregate-next : tie.Need-slice-aggregate-next
+slice-aggregate-next c = search needs
+
 next-requires : tie.Need-next-requires
 next-requires c κs = search needs
 
@@ -26,8 +29,8 @@ enum-told c = search needs
 
 read-right-requires : tie.Need-read-right-requires
 read-right-requires c κs =
-    seen (checkTable) (c .before .before .before .before .labels .ensures) (c .before .before .before .body .ensures)
-    (c .before .before .check-table .ensures)
+    seen (checkTable) (c .before .before .before .before .labels .ensures)
+    (c .before .before .before .body .ensures) (c .before .before .check-table .ensures)
     (c .enum-told .given .1)
 
 enum-known-refusal : tie.Need-enum-known-refusal
@@ -42,8 +45,8 @@ returns c =
     left-sound _ _ _ _ _
     (sym (c1 .before .before .before .before .left .given .1)
     ∙ c1 .before .before .before .before .before .before .next .ensures)
-    (seen (checkTable) (c1 .before .before .labels .ensures) (c1 .before .body .ensures) (c1 .check-table .ensures)
-    (c .before .enum-told .given .1))
+    (seen (checkTable) (c1 .before .before .labels .ensures) (c1 .before .body .ensures)
+    (c1 .check-table .ensures) (c .before .enum-told .given .1))
     (c .read-right .ensures)
 
 returns-2 : tie.Need-returns-2
@@ -52,8 +55,8 @@ returns-2 c =
     left-refused _ _ _ _ _
     (sym (c1 .before .before .before .before .left .given .1)
     ∙ c1 .before .before .before .before .before .before .next .ensures) _
-    (seen (checkTable) (c1 .before .before .labels .ensures) (c1 .before .body .ensures) (c1 .check-table .ensures)
-    (c .before .refusal .given .1))
+    (seen (checkTable) (c1 .before .before .labels .ensures) (c1 .before .body .ensures)
+    (c1 .check-table .ensures) (c .before .refusal .given .1))
 
 returns-3 : tie.Need-returns-3
 returns-3 c = no-left _ _ _ _ (sym (c .before .refusal2 .given .1) ∙ c .before .before .before .next .ensures)
@@ -62,6 +65,7 @@ pub read-left-spec : {M : Type 1} → statement M
 read-left-spec =
     tie.close
     (tie.spec
+    slice-aggregate-next
     next-requires
     enum-known-left
     labels-requires

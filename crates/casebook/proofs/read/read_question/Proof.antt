@@ -6,6 +6,9 @@ use borrow.Author.Needs.{needs}
 use Rattle.casebook.proofs.read.read_question.Statement.{statement}
 use Rattle.casebook.proofs.read.read_question.Tie as tie
 
+slice-aggregate-next : tie.Need-slice-aggregate-next
+slice-aggregate-next c = search needs
+
 next-requires : tie.Need-next-requires
 next-requires c κs = search needs
 
@@ -66,6 +69,7 @@ pub read-question-spec : {M : Type 1} → statement M
 read-question-spec =
     tie.close
     (tie.spec
+    slice-aggregate-next
     next-requires
     enum-known-question
     labels-requires

@@ -6,6 +6,9 @@ use borrow.Author.Needs.{needs}
 use Rattle.casebook.proofs.read.read_right.Statement.{statement}
 use Rattle.casebook.proofs.read.read_right.Tie as tie
 
+slice-aggregate-next : tie.Need-slice-aggregate-next
+slice-aggregate-next c = search needs
+
 next-requires : tie.Need-next-requires
 next-requires c κs = search needs
 
@@ -26,9 +29,9 @@ enum-told c = search needs
 
 read-run-requires : tie.Need-read-run-requires
 read-run-requires c κs = (
-  c .before .before .before .before .before .before .before .before .before .before .pre,
-  seen (checkTable) (c .before .before .before .before .labels .ensures) (c .before .before .before .body .ensures)
-      (c .before .before .check-table .ensures)
+  c .before .before .before .before .before .before .before .before .before .before .before .pre,
+  seen (checkTable) (c .before .before .before .before .labels .ensures)
+      (c .before .before .before .body .ensures) (c .before .before .check-table .ensures)
       (c .enum-told .given .1),
 )
 
@@ -44,8 +47,8 @@ returns c =
     right-sound _ _ _ _ _ _
     (sym (c1 .before .before .before .before .right .given .1)
     ∙ c1 .before .before .before .before .before .before .next .ensures)
-    (seen (checkTable) (c1 .before .before .labels .ensures) (c1 .before .body .ensures) (c1 .check-table .ensures)
-    (c .before .enum-told .given .1))
+    (seen (checkTable) (c1 .before .before .labels .ensures) (c1 .before .body .ensures)
+    (c1 .check-table .ensures) (c .before .enum-told .given .1))
     (c .read-run .ensures)
 
 returns-2 : tie.Need-returns-2
@@ -54,8 +57,8 @@ returns-2 c =
     right-refused _ _ _ _ _ _
     (sym (c1 .before .before .before .before .right .given .1)
     ∙ c1 .before .before .before .before .before .before .next .ensures) _
-    (seen (checkTable) (c1 .before .before .labels .ensures) (c1 .before .body .ensures) (c1 .check-table .ensures)
-    (c .before .refusal .given .1))
+    (seen (checkTable) (c1 .before .before .labels .ensures) (c1 .before .body .ensures)
+    (c1 .check-table .ensures) (c .before .refusal .given .1))
 
 returns-3 : tie.Need-returns-3
 returns-3 c = no-right _ _ _ _ _ (sym (c .before .refusal2 .given .1) ∙ c .before .before .before .next .ensures)
@@ -64,6 +67,7 @@ pub read-right-spec : {M : Type 1} → statement M
 read-right-spec =
     tie.close
     (tie.spec
+    slice-aggregate-next
     next-requires
     enum-known-right
     labels-requires

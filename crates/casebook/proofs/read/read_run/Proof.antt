@@ -5,6 +5,9 @@ use borrow.Author.Needs.{needs}
 use Rattle.casebook.proofs.read.read_run.Statement.{statement}
 use Rattle.casebook.proofs.read.read_run.Tie as tie
 
+slice-aggregate-next : tie.Need-slice-aggregate-next
+slice-aggregate-next c = search needs
+
 next-requires : tie.Need-next-requires
 next-requires c κs = search needs
 
@@ -43,9 +46,10 @@ returns c =
     let c1 = c .before .before .before in
     let c2 = c1 .before .before in
     let c3 = c2 .before .before .before .before in
-    let s = c3 .before .before .before .before in
+    let s = c3 .before .before .before .before .before in
     run-sound _ _ _ _ _ _ _ (sym (c3 .run .given .1) ∙ c3 .before .before .next .ensures)
-    (run-seen _ _ _ _ _ (s .pre .0) (s .pre .1) (c2 .before .before .labels .ensures) (c2 .before .body .ensures) (c2 .body2 .ensures)
+    (run-seen _ _ _ _ _ (s .pre .0) (s .pre .1) (c2 .before .before .labels .ensures) (c2 .before .body .ensures)
+    (c2 .body2 .ensures)
     (c1 .before .body3 .ensures) (c1 .check-joint .ensures) (c .before .enum-told .given .1))
     (c .read-question .ensures)
 
@@ -54,9 +58,10 @@ returns-2 c =
     let c1 = c .before .before .before in
     let c2 = c1 .before .before in
     let c3 = c2 .before .before .before .before in
-    let s = c3 .before .before .before .before in
+    let s = c3 .before .before .before .before .before in
     run-refused _ _ _ _ _ _ _ (sym (c3 .run .given .1) ∙ c3 .before .before .next .ensures) _
-    (run-seen _ _ _ _ _ (s .pre .0) (s .pre .1) (c2 .before .before .labels .ensures) (c2 .before .body .ensures) (c2 .body2 .ensures)
+    (run-seen _ _ _ _ _ (s .pre .0) (s .pre .1) (c2 .before .before .labels .ensures) (c2 .before .body .ensures)
+    (c2 .body2 .ensures)
     (c1 .before .body3 .ensures) (c1 .check-joint .ensures) (c .before .refusal .given .1))
 
 returns-3 : tie.Need-returns-3
@@ -66,6 +71,7 @@ pub read-run-spec : {M : Type 1} → statement M
 read-run-spec =
     tie.close
     (tie.spec
+    slice-aggregate-next
     next-requires
     enum-known-run
     labels-requires

@@ -1,52 +1,30 @@
--- The kinds are tried one after the other.
-use Rattle.casebook.proofs.Records.{kind-1, kind-2, kind-3, kind-4, kind-5, no-kind}
+-- The lengths of the kind decide: too short, too long, or by their step.
+use native.Mathlib.Omega.{arith}
+use Rattle.casebook.proofs.Records.{too-short, too-long, step-decides, step-some}
 use borrow.Author.Needs.{needs}
 use Rattle.casebook.proofs.record.fits.Statement.{statement}
 use Rattle.casebook.proofs.record.fits.Tie as tie
 
-returns : tie.Need-returns
-returns c = kind-1 _ _ (c .if1 .taken)
+lengths-of-requires : tie.Need-lengths-of-requires
+lengths-of-requires c κs = search needs
 
-fits-table-requires : tie.Need-fits-table-requires
-fits-table-requires c κs = search needs
+returns : tie.Need-returns
+returns c = too-short _ _ _ (c .before .before .lengths-of .ensures) (c .if1 .taken)
 
 returns-2 : tie.Need-returns-2
-returns-2 c = kind-2 _ _ (c .before .if2 .taken) (c .fits-table .ensures)
+returns-2 c =
+    let s = c .before .before in
+    too-long _ _ _ (s .before .before .lengths-of .ensures) (s .if1 .left) (c .if2 .taken)
 
-fits-table-requires-2 : tie.Need-fits-table-requires-2
-fits-table-requires-2 c κs = search needs
+rem-result : tie.Need-rem-result
+rem-result c =
+    let s = c .before .before .before .before in
+    omega (arith, step-some (s .before .before .before .args .kind) 0 _ (s .before .before .lengths-of .ensures))
 
 returns-3 : tie.Need-returns-3
-returns-3 c = kind-3 _ _ (c .before .if3 .taken) (c .fits-table2 .ensures)
-
-fits-run-requires : tie.Need-fits-run-requires
-fits-run-requires c κs = search needs
-
-returns-4 : tie.Need-returns-4
-returns-4 c = kind-4 _ _ (c .before .if4 .taken) (c .fits-run .ensures)
-
-fits-question-requires : tie.Need-fits-question-requires
-fits-question-requires c κs = search needs
-
-returns-5 : tie.Need-returns-5
-returns-5 c = kind-5 _ _ (c .before .if5 .taken) (c .fits-question .ensures)
-
-returns-6 : tie.Need-returns-6
-returns-6 c =
-    no-kind _ _ (c .before .before .before .before .if1 .left) (c .before .before .before .if2 .left)
-    (c .before .before .if3 .left) (c .before .if4 .left) (c .if5 .left)
+returns-3 c =
+    let s = c .before .before .before .before in
+    step-decides _ _ _ (s .before .before .lengths-of .ensures) (s .if1 .left) (c .before .before .if2 .left)
 
 pub fits-spec : {M : Type 1} → statement M
-fits-spec =
-    tie.close
-    (tie.spec
-    returns
-    fits-table-requires
-    returns-2
-    fits-table-requires-2
-    returns-3
-    fits-run-requires
-    returns-4
-    fits-question-requires
-    returns-5
-    returns-6)
+fits-spec = tie.close (tie.spec lengths-of-requires returns returns-2 rem-result returns-3)

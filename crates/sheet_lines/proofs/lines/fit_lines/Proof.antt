@@ -32,7 +32,8 @@ fit-parts-requires c κs =
     let c1 = c .before .before .before in
     let c2 = c1 .before .before .before .before .before .before .before .before in
     read-asked _ 0 0 _ (sym (c2 .before .before .read .ensures) ∙ c2 .parts .given .1) _ _ _ _ _
-    (c1 .before .before .labels .ensures) (c1 .before .body .ensures) (c1 .body2 .ensures) (c .before .before .body3 .ensures) (c .before .body4 .ensures)
+    (c1 .before .before .labels .ensures) (c1 .before .body .ensures) (c1 .body2 .ensures)
+    (c .before .before .body3 .ensures) (c .before .body4 .ensures)
 
 enum-known-refusal : tie.Need-enum-known-refusal
 enum-known-refusal c = search needs
@@ -51,7 +52,8 @@ returns c =
     let c4 = c3 .before .before .before .before .before .before .before .before in
     let s = c4 .before .before .before .before .before in
     let e = read-due _ (s .args .first) (s .args .most) _
-    (sym (c4 .before .before .read .ensures) ∙ c4 .parts .given .1) _ _ _ _ _ (c3 .before .before .labels .ensures) (c3 .before .body .ensures)
+    (sym (c4 .before .before .read .ensures) ∙ c4 .parts .given .1) _ _ _ _ _ (c3 .before .before .labels .ensures)
+    (c3 .before .body .ensures)
     (c3 .body2 .ensures) (c2 .before .body3 .ensures) (c2 .body4 .ensures) in (
       c1 .fit-parts .ensures .0 ∙ ap (λ d. fittedOf d (length (s .args .out .now))) (sym e),
       c1 .fit-parts .ensures .1 ∙ ap (λ d. fittedOutput d (s .args .out .now)) (sym e),

@@ -23,8 +23,13 @@ add-word c = search needs
 word-requires : tie.Need-word-requires
 word-requires c κs = search needs
 
+may-stand-requires : tie.Need-may-stand-requires
+may-stand-requires c κs = search needs
+
 returns-3 : tie.Need-returns-3
-returns-3 c = other-kind _ _ _ (omega arith) (λ e. c .if3 .taken (c .before .word .ensures .0 ∙ e))
+returns-3 c =
+    other-kind _ _ _ (omega arith) _ (c .before .before .word .ensures .0)
+    (sym (c .before .may-stand .ensures) ∙ not-true _ (c .if3 .taken))
 
 word-requires-2 : tie.Need-word-requires-2
 word-requires-2 c κs = search needs
@@ -34,8 +39,9 @@ fits-requires c κs = search needs
 
 returns-4 : tie.Need-returns-4
 returns-4 c =
-    misfit _ _ _ (omega arith)
-    (sym (c .before .before .before .before .word .ensures .0) ∙ c .before .before .before .if3 .left)
+    let kind = c .before .before .before in
+    misfit _ _ _ (omega arith) _ (kind .before .before .word .ensures .0)
+    (sym (kind .before .may-stand .ensures) ∙ not-false _ (kind .if3 .left))
     (ap (fitLength _) (sym (c .before .before .word2 .ensures .0)) ∙ sym (c .before .fits2 .ensures)
     ∙ not-true _ (c .if4 .taken))
 
@@ -47,8 +53,9 @@ sub-if5-2 c = search needs
 
 returns-5 : tie.Need-returns-5
 returns-5 c =
-    short-body _ _ _ (omega arith)
-    (sym (c .before .before .before .before .before .word .ensures .0) ∙ c .before .before .before .before .if3 .left)
+    let kind = c .before .before .before .before in
+    short-body _ _ _ (omega arith) _ (kind .before .before .word .ensures .0)
+    (sym (kind .before .may-stand .ensures) ∙ not-false _ (kind .if3 .left))
     (ap (fitLength _) (sym (c .before .before .before .word2 .ensures .0)) ∙ sym (c .before .before .fits2 .ensures)
     ∙ not-false _ (c .before .if4 .left)) (omega arith)
 
@@ -58,16 +65,17 @@ add-start c = search needs
 sub-len : tie.Need-sub-len
 sub-len c = omega (arith, fit-some _ _ (sym (c .before .before .fits2 .ensures) ∙ not-false _ (c .before .if4 .left)))
 
-add-t8 : tie.Need-add-t8
-add-t8 c = search needs
+add-t12 : tie.Need-add-t12
+add-t12 c = search needs
 
-add-t11 : tie.Need-add-t11
-add-t11 c = search needs
+add-t9 : tie.Need-add-t9
+add-t9 c = search needs
 
 returns-6 : tie.Need-returns-6
 returns-6 c =
-    found _ _ _ (omega arith)
-    (sym (c .before .before .before .before .before .word .ensures .0) ∙ c .before .before .before .before .if3 .left)
+    let kind = c .before .before .before .before in
+    found _ _ _ (omega arith) _ (kind .before .before .word .ensures .0)
+    (sym (kind .before .may-stand .ensures) ∙ not-false _ (kind .if3 .left))
     (ap (fitLength _) (sym (c .before .before .before .word2 .ensures .0)) ∙ sym (c .before .before .fits2 .ensures)
     ∙ not-false _ (c .before .if4 .left)) _ _ (omega arith) (omega arith) (omega arith)
 
@@ -80,6 +88,7 @@ next-spec =
     returns-2
     add-word
     word-requires
+    may-stand-requires
     returns-3
     word-requires-2
     fits-requires
@@ -89,6 +98,6 @@ next-spec =
     returns-5
     add-start
     sub-len
-    add-t8
-    add-t11
+    add-t12
+    add-t9
     returns-6)
