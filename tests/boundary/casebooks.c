@@ -125,6 +125,53 @@ static void write_refused_parts(void)
     UNCHANGED(&out);
 }
 
+/* The longest table and run, each with a row or step too many behind it, and the longest question. */
+enum { STATES = 64, ROWS = 8, STEPS = 200, NODES = 64 };
+enum { TABLE_LEN = 1 + 3 * STATES * ROWS, RUN_LEN = 2 + 3 * STEPS, QUESTION_LEN = 2 * NODES };
+static uint8_t long_table[TABLE_LEN + 3], long_run[RUN_LEN + 3], long_question[QUESTION_LEN];
+
+/* From each state a row by each of the labels 0 to 7 back to it; a run of joint idles; a question of nots over true. */
+static void fill_long_parts(void)
+{
+    int i;
+    long_table[0] = STATES;
+    for (i = 0; i <= STATES * ROWS; i++) {
+        long_table[1 + 3 * i] = (uint8_t)(i / ROWS);
+        long_table[2 + 3 * i] = (uint8_t)(i % ROWS);
+        long_table[3 + 3 * i] = (uint8_t)(i / ROWS);
+    }
+    for (i = 0; i <= STEPS; i++)
+        long_run[2 + 3 * i] = 255;
+    for (i = 0; i < NODES - 1; i++)
+        long_question[2 * i] = 2;
+}
+
+static uint64_t write_long(size_t table_len, size_t run_len, const uint8_t *question, size_t question_len, size_t room)
+{
+    return yenuslap_casebook_write(15, long_table, table_len, long_table, table_len, long_run, run_len, question,
+                                   question_len, LENT(&out, room));
+}
+
+/* The longest casebook has YENUSLAP_MOST_CASEBOOK bytes: so many are written and read, and no part can be longer. */
+static void longest_casebook(void)
+{
+    static uint8_t casebook[YENUSLAP_MOST_CASEBOOK + 1], question[QUESTION_LEN + 2];
+    fill_long_parts();
+    GIVES(YENUSLAP_MOST_CASEBOOK,
+          write_long(TABLE_LEN, RUN_LEN, long_question, QUESTION_LEN, YENUSLAP_MOST_CASEBOOK));
+    memcpy(casebook, out.bytes + GUARD, YENUSLAP_MOST_CASEBOOK);
+    GIVES(0, yenuslap_casebook_read(casebook, YENUSLAP_MOST_CASEBOOK));
+    REFUSES(YENUSLAP_REFUSED_TRUNCATED, yenuslap_casebook_read(casebook, YENUSLAP_MOST_CASEBOOK - 1));
+    REFUSES(YENUSLAP_REFUSED_BYTES_AFTER, yenuslap_casebook_read(casebook, YENUSLAP_MOST_CASEBOOK + 1));
+    REFUSES(YENUSLAP_REFUSED_OUTPUT_TOO_SHORT,
+            write_long(TABLE_LEN, RUN_LEN, long_question, QUESTION_LEN, YENUSLAP_MOST_CASEBOOK - 1));
+    REFUSES(YENUSLAP_REFUSED_WRONG_LENGTH, write_long(TABLE_LEN + 3, RUN_LEN, long_question, QUESTION_LEN, ROOM));
+    REFUSES(YENUSLAP_REFUSED_WRONG_LENGTH, write_long(TABLE_LEN, RUN_LEN + 3, long_question, QUESTION_LEN, ROOM));
+    question[0] = 2;
+    memcpy(question + 2, long_question, QUESTION_LEN);
+    REFUSES(YENUSLAP_REFUSED_NOT_A_TREE, write_long(TABLE_LEN, RUN_LEN, question, QUESTION_LEN + 2, ROOM));
+}
+
 void check_casebooks(void)
 {
     read_case_a();
@@ -133,4 +180,5 @@ void check_casebooks(void)
     find_parts();
     write_case_a();
     write_refused_parts();
+    longest_casebook();
 }

@@ -3,10 +3,11 @@
 use std::io::{self, Read, Write};
 use std::process::ExitCode;
 
+use reference::casebook::LONGEST;
 use reference::sheet::write_sheet;
 
-/// One byte more than the largest sound casebook has: enough to judge any input.
-const ENOUGH: u64 = 3826;
+/// One byte more than the longest casebook has: enough to judge any input.
+const ENOUGH: u64 = LONGEST as u64 + 1;
 
 /// Reads, judges and prints. The sheet comes in blocks of 1 MiB that end with a line, so standard output passes them on.
 fn print_sheet() -> io::Result<()> {

@@ -25,6 +25,28 @@ pub struct Parts {
     pub question: Vec<u8>,
 }
 
+/// The longest lengths of the five records, in their order.
+const LONGEST_RECORDS: [usize; 5] = [
+    3,
+    table::LONGEST,
+    table::LONGEST,
+    run::LONGEST,
+    formula::LONGEST,
+];
+
+/// The bytes of the longest casebook: a record has two more than its length says.
+pub const LONGEST: usize = longest();
+
+const fn longest() -> usize {
+    let mut bytes = 0;
+    let mut record = 0;
+    while record < LONGEST_RECORDS.len() {
+        bytes += 2 + LONGEST_RECORDS[record];
+        record += 1;
+    }
+    bytes
+}
+
 /// Whether a record of this kind may have this length (kind and body counted).
 pub fn fits(kind: u16, length: usize) -> bool {
     match kind {

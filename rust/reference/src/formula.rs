@@ -24,9 +24,12 @@ pub enum Formula {
     BackIdle(Box<Formula>),
 }
 
+/// The longest length of a question's record.
+pub const LONGEST: usize = 130;
+
 /// Whether a question's record may have this length (kind and body counted).
 pub fn fits(length: usize) -> bool {
-    (4..=130).contains(&length) && length.is_multiple_of(2)
+    (4..=LONGEST).contains(&length) && length.is_multiple_of(2)
 }
 
 /// Reads a formula of at most `most_nodes` nodes: 9 over the whole of it, then 10.

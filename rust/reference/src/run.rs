@@ -33,9 +33,12 @@ pub enum Way {
     JointIdle,
 }
 
+/// The longest length of a joint run's record.
+pub const LONGEST: usize = 4 + 3 * MOST_STEPS;
+
 /// Whether a joint run's record may have this length (kind and body counted).
 pub fn fits(length: usize) -> bool {
-    (4..=4 + 3 * MOST_STEPS).contains(&length) && (length - 4).is_multiple_of(3)
+    (4..=LONGEST).contains(&length) && (length - 4).is_multiple_of(3)
 }
 
 /// All ways of one joint step from (p, q): left alone, right alone, handshakes by rising left label, joint idle.

@@ -25,9 +25,12 @@ pub struct Table {
     starts: Vec<usize>,
 }
 
+/// The longest length of a table's record.
+pub const LONGEST: usize = 1539;
+
 /// Whether a table's record may have this length (kind and body counted).
 pub fn fits(length: usize) -> bool {
-    (3..=1539).contains(&length) && length.is_multiple_of(3)
+    (3..=LONGEST).contains(&length) && length.is_multiple_of(3)
 }
 
 /// Reads a table: 3 for its length, then n and row by row 5, 6, 7.

@@ -4,7 +4,7 @@ use crate::both::Tally;
 use crate::faults::{faulty_book, ALL};
 use crate::sheet_both::{Block, Sheet};
 use crate::sheet_inputs::{loops, TRUE};
-use reference::casebook::Parts;
+use reference::casebook::{Parts, LONGEST};
 use reference::generate::{sound_parts, Shape};
 use reference::random::Random;
 
@@ -58,7 +58,7 @@ fn lines_for_cut_and_random_bytes() {
         every_block(&sheet);
         tally.note(number_in(&sheet));
     }
-    for length in [1, 4, 5, 60, 3825, 3826, 70_000] {
+    for length in [1, 4, 5, 60, LONGEST, LONGEST + 1, 70_000] {
         let sheet = Sheet::of(random.bytes(length));
         every_block(&sheet);
         tally.note(number_in(&sheet));

@@ -1,16 +1,13 @@
 //! Sound casebooks of all sizes: all accepted, and round trips both ways.
 
-use crate::both::{number_of, parts_of, read_both, Tally};
+use crate::both::{number_of, parts_of, read_both, write_both, Tally};
 use crate::handmade::case_a;
-use reference::casebook::{self, Parts};
+use reference::casebook::{self, Parts, LONGEST};
 use reference::formula::{read_formula, QUESTION_NODES};
 use reference::generate::{sound_parts, Shape};
 use reference::random::Random;
 use reference::run::{read_run, ways, Way};
 use reference::table::read_table;
-
-/// The length of the largest sound casebook.
-const LARGEST: usize = 3825;
 
 /// Small, arbitrary and maximal parts, by number.
 pub fn parts_number(seed: u64) -> Parts {
@@ -36,7 +33,7 @@ fn sound_casebooks_are_read() {
         let buffer = [&vec![0xff; before], &bytes[..], &[seed as u8]].concat();
         let (start, end) = (before, before + bytes.len());
         assert_eq!(read_both(&buffer[start..end]), 0, "seed {seed}");
-        assert_eq!(number_of(&casebook::write(&parts, LARGEST)), 0);
+        assert_eq!(number_of(&casebook::write(&parts, LONGEST)), 0);
         tally.note(0);
         longer.note(read_both(&buffer[start..end + 1]));
     }
@@ -52,7 +49,7 @@ fn round_trips() {
         let parts = parts_number(seed);
         let bytes = parts.to_bytes();
         let book = yenuslap::read_casebook(&bytes).expect("sound");
-        let mut out = vec![0x5a; LARGEST];
+        let mut out = vec![0x5a; LONGEST];
         let length = yenuslap::write_casebook(
             book.k,
             book.left,
@@ -99,7 +96,7 @@ impl Seen {
         add(&mut self.nodes, ends(parts.question.len(), 2, 128));
         let question = read_formula(&parts.question, parts.k, QUESTION_NODES).unwrap();
         self.nesting[question.nesting()] += 1;
-        self.largest += (parts.to_bytes().len() == LARGEST) as u64;
+        self.largest += (parts.to_bytes().len() == LONGEST) as u64;
         self.note_run(parts);
     }
 
@@ -152,6 +149,38 @@ fn generator_reaches_all_sizes() {
     assert!(seen.largest >= 16, "{}", seen.largest);
 }
 
+/// The wrapper's and the plain implementation's longest casebook is the engine's: it reads and writes casebooks of that
+/// length, and refuses a byte more, and an output with a byte less.
+#[test]
+fn longest_casebook() {
+    assert_eq!(yenuslap::MOST_CASEBOOK, LONGEST);
+    for k in 0..16 {
+        let parts = parts_number(16 * k);
+        let mut bytes = parts.to_bytes();
+        assert_eq!(bytes.len(), LONGEST);
+        assert_eq!(read_both(&bytes), 0);
+        assert_eq!(write_both(&parts, LONGEST), 0);
+        assert_eq!(write_both(&parts, LONGEST - 1), 18);
+        bytes.push(0);
+        assert_eq!(read_both(&bytes), 11);
+    }
+}
+
+/// No part of the longest casebook can be longer: a row, a step or a node more is refused.
+#[test]
+fn longest_parts() {
+    let parts = parts_number(16 * 15);
+    let mut table = parts.clone();
+    table.left.extend([63, 30, 63]);
+    assert_eq!(write_both(&table, LONGEST + 3), 3);
+    let mut run = parts.clone();
+    run.run.extend([255, 0, 0]);
+    assert_eq!(write_both(&run, LONGEST + 3), 3);
+    let mut question = parts;
+    question.question.splice(0..0, [2, 0]);
+    assert_eq!(write_both(&question, LONGEST + 2), 9);
+}
+
 /// Every proper beginning of a sound casebook is 1, although the right bytes lie behind it.
 #[test]
 fn every_truncation_is_1() {
@@ -159,7 +188,7 @@ fn every_truncation_is_1() {
     let mut books = vec![case_a(), parts_number(16 * 15).to_bytes()];
     books.extend((0..80).map(|seed| parts_number(seed * 16 + 9).to_bytes()));
     books.extend((0..6).map(|seed| parts_number(seed * 16 + 3).to_bytes()));
-    assert_eq!(books[1].len(), LARGEST);
+    assert_eq!(books[1].len(), LONGEST);
     for book in &books {
         for length in 0..book.len() {
             tally.note(read_both(&book[..length]));

@@ -3,11 +3,9 @@
 use crate::book::{random_book, Book};
 use crate::faults::{faulty_book, ALL};
 use crate::program::{agree, refusal, Seen};
+use reference::casebook::LONGEST;
 use reference::generate::{many_ways_parts, sound_parts, Shape};
 use reference::random::Random;
-
-/// The length of the largest sound casebook.
-const LARGEST: usize = 3825;
 
 /// A small sound casebook.
 fn small(random: &mut Random) -> Vec<u8> {
@@ -137,11 +135,11 @@ fn bytes_after() {
             _ => Shape::small(&mut random),
         };
         let sound = many_ways_parts(&mut random, shape, 2).to_bytes();
-        assert!(seed % 2 == 1 || sound.len() == LARGEST);
+        assert!(seed % 2 == 1 || sound.len() == LONGEST);
         assert_eq!(refusal(&agree(&sound)), None);
         let mut afters = vec![1, 2, 3, 4, 60, 4096, 65_536 - sound.len(), 65_536];
         // Up to the length at which any casebook is too long, and around it.
-        afters.extend((LARGEST - 1..LARGEST + 3).filter_map(|l| l.checked_sub(sound.len())));
+        afters.extend((LONGEST - 1..LONGEST + 3).filter_map(|l| l.checked_sub(sound.len())));
         afters.retain(|after| *after > 0);
         if seed < 2 {
             afters.push(1 << 20);
@@ -161,7 +159,20 @@ fn long_inputs_without_a_casebook() {
     let mut seen = Seen::new("long inputs without a casebook");
     let mut random = Random::new(417);
     for length in [
-        0, 1, 3, 4, 5, 3824, 3825, 3826, 3827, 8192, 65_535, 65_536, 65_537, 200_000,
+        0,
+        1,
+        3,
+        4,
+        5,
+        LONGEST - 1,
+        LONGEST,
+        LONGEST + 1,
+        LONGEST + 2,
+        8192,
+        65_535,
+        65_536,
+        65_537,
+        200_000,
     ] {
         for byte in [0, 1, 255] {
             seen.compare(&vec![byte; length]);

@@ -8,6 +8,7 @@ use std::sync::mpsc;
 use std::thread;
 use std::time::{Duration, Instant};
 
+use reference::casebook::LONGEST;
 use reference::sheet::{sheet, write_sheet};
 
 /// A program that takes longer hangs.
@@ -133,7 +134,7 @@ pub fn same(casebook: &[u8], printed: &[u8], expected: &[u8]) {
 
 /// Bytes in hexadecimal, for messages; not more than a sound casebook can have.
 pub fn hex(bytes: &[u8]) -> String {
-    let shown = &bytes[..bytes.len().min(3825)];
+    let shown = &bytes[..bytes.len().min(LONGEST)];
     let digits: String = shown.iter().map(|byte| format!("{byte:02x}")).collect();
     format!("{digits} ({} bytes)", bytes.len())
 }
