@@ -1,15 +1,8 @@
-// A line of the output: numbers below 10,000 and marks, one blank apart, in a lent array.
+// A line of the output: numbers and marks, one blank apart, in a lent array.
 use crate::frame::wide;
+use digits::decimal::put_decimal;
 use labels::label::Partner;
 use labels::refusal::Check;
-
-const DIGITS: [u8; 10] = *b"0123456789";
-
-// The last digit of a number.
-fn digit(n: usize) -> u8 {
-    let d = n % 10;
-    DIGITS[d]
-}
 
 // Puts a byte that is wanted and fits; the place after it.
 fn put(line: &mut [u8], at: usize, wanted: bool, byte: u8) -> usize {
@@ -32,10 +25,7 @@ pub(crate) fn put_mark(line: &mut [u8], at: usize, mark: u8) -> usize {
 // Puts a number's digits, after a blank if it is not the first of its line.
 pub(crate) fn put_number(line: &mut [u8], at: usize, n: usize) -> usize {
     let start = put(line, at, 0 < at, b' ');
-    let second = put(line, start, 1000 <= n, digit(n / 1000));
-    let third = put(line, second, 100 <= n, digit(n / 100));
-    let fourth = put(line, third, 10 <= n, digit(n / 10));
-    put(line, fourth, true, digit(n))
+    put_decimal(line, start, n)
 }
 
 // Ends the line.

@@ -23,10 +23,10 @@ use Rattle.dividing.specs.declared.divide.Quotient.{Quotient}
 use Rattle.dividing.specs.declared.divide.Quotient.the-variants as quotient
 use Rattle.dividing.proofs.Answers.{text-length}
 use Rattle.quotient.specs.Calls.{treeByNumber, checkByNumber, byNumber, byNumberOutput}
-use Rattle.sheet_lines.specs.Digits.{decimal, hexadecimal}
+use Rattle.digits.specs.Digits.{decimal, hexadecimal}
 use Rattle.sheet_lines.specs.Sheets.{blank, dash, lineFeed, textRoom, endingOf, quotientAt, textAt}
 use Rattle.sheet_lines.specs.Working.{putAt, endingIn}
-use Rattle.sheet_lines.proofs.DigitLaws.{length-hexadecimal}
+use Rattle.digits.proofs.HexadecimalLaws.{length-hexadecimal}
 use Rattle.sheet_lines.proofs.LineLaws.{digits-two, number-small}
 use Rattle.sheet_lines.proofs.Puts.{put-first}
 

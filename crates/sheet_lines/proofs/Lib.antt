@@ -1,4 +1,3 @@
-pub mod DigitLaws
 pub mod Puts
 pub mod LineLaws
 pub mod Filling

@@ -35,7 +35,7 @@ use Rattle.splitting.specs.declared.count.Counted.{Counted}
 use Rattle.splitting.specs.declared.count.Counted.the-variants as counted
 use Rattle.dividing.specs.Quotients.{treeBy, quotientBy, nodesOf, textOf, checkSize, checkTree, answerOf}
 use Rattle.quotient.specs.Calls.{treeByHalf, treeByNumber, checkByNumber, byNumber}
-use Rattle.sheet_lines.specs.Digits.{digitsWithin, decimal, hexDigit, hexadecimal}
+use Rattle.digits.specs.Digits.{digitsWithin, decimal, hexDigit, hexadecimal}
 use Rattle.sheet_lines.specs.Sheets.{letterOf, endingOf, headOf, quotientAt, textAt, lineOf, listed, linesOf}
 use Rattle.sheet_lines.specs.Sheets.{countedLines, partsLines, readLines, sheetOf}
 

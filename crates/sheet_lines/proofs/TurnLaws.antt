@@ -9,11 +9,11 @@ use lib.ListN.{length, set, take, drop, length-append, length-set, length-take, 
 use lib.Dec.{ltb}
 use lib.Seq.{take-at, take-add, take-take, drop-at, drop-drop}
 use borrow.Author.Tests.{ltb-true, ltb-false, lt-ltb, le-ltb}
-use Rattle.sheet_lines.specs.Digits.{decimal}
+use Rattle.digits.specs.Digits.{decimal}
 use Rattle.sheet_lines.specs.Sheets.{blank, headOf, listed, fitting}
 use Rattle.sheet_lines.specs.Working.{putAt, lineWith, digitLine, Headed, Tens, Filled, Full}
 use Rattle.sheet_lines.specs.declared.point.Point.{Point}
-use Rattle.sheet_lines.proofs.DigitLaws.{decimal-small, decimal-more}
+use Rattle.digits.proofs.DecimalLaws.{decimal-small, decimal-more}
 use Rattle.sheet_lines.proofs.LineLaws.{length-head}
 use Rattle.sheet_lines.proofs.Puts.{set-between, drop-put}
 use Rattle.sheet_lines.proofs.Filling.{length-listed, listed-agree, filled-line, filled-stop, filled-point}

@@ -29,7 +29,7 @@ use Rattle.dividing.specs.Quotients.{textOf}
 use Rattle.dividing.specs.declared.divide.Quotient.{Quotient}
 use Rattle.dividing.specs.declared.divide.Quotient.the-variants as quotient
 use Rattle.quotient.specs.Calls.{treeByNumber, byNumber}
-use Rattle.sheet_lines.specs.Digits.{decimal, hexadecimal}
+use Rattle.digits.specs.Digits.{decimal, hexadecimal}
 use Rattle.sheet_lines.specs.declared.lines.Block.{Block}
 use Rattle.sheet_lines.specs.declared.lines.Lines.{Lines}
 use Rattle.sheet_lines.specs.declared.lines.Lines.the-variants as answer

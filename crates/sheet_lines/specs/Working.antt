@@ -6,7 +6,7 @@ use mathlib.Core.Bool.{cond}
 use mathlib.Core.List.{List, _++_}
 use lib.ListN.{length, getD, take, drop, set}
 use lib.Dec.{ltb, eqb}
-use lib.Seq.{sets}
+unfoldable pub use Rattle.digits.specs.Working.{putAt}
 use Rattle.labels.specs.Refusals.{inFront}
 use Rattle.labels.specs.declared.refusal.Check.the-variants.{Sound}
 use Rattle.labels.specs.declared.label.Labels.{Labels}
@@ -19,10 +19,6 @@ use Rattle.sheet_lines.specs.declared.kept.Kept.{Kept}
 use Rattle.sheet_lines.specs.declared.lines.Fitted.{Fitted}
 use Rattle.sheet_lines.specs.Sheets.{endingOf, headOf, lineOf, quotientAt, textAt, listed, bytesOf, fitting}
 use Rattle.sheet_lines.specs.Sheets.{firstTooLong}
-
--- bytes written over those of a list, from a place on
-unfoldable pub putAt : List ℕ → ℕ → List ℕ → List ℕ
-putAt xs at bytes = sets xs at bytes
 
 -- lines i to j are written behind a place, where an output xs begins, and those up to `end` are due: the output is ys
 -- now, and the next line's place is `at`

@@ -1,8 +1,8 @@
 // The two last fields of a line: the quotient by the right half, and the left half's verdict.
-use crate::digits::put_decimal;
-use crate::digits::put_hexadecimal;
 use crate::kept::Kept;
 use crate::kept::quotient_text;
+use digits::decimal::put_decimal;
+use digits::hexadecimal::put_hexadecimal;
 use dividing::divide::Quotient;
 use labels::label::Labels;
 use labels::refusal::Refusal;
@@ -12,7 +12,7 @@ ghost use Prim.Native.Nat.{_+_, _*_, _≤_, _<_};
 ghost use lib.ListN.{length, take};
 ghost use Rattle.labels.specs.Refusals.{numberOf};
 ghost use Rattle.splitting.specs.Splittings.{splittingsOf, splittingLimit};
-ghost use Rattle.sheet_lines.specs.Digits.{decimal, hexadecimal};
+ghost use Rattle.digits.specs.Digits.{decimal, hexadecimal};
 ghost use Rattle.sheet_lines.specs.Sheets.{blank, dash, lineFeed};
 ghost use Rattle.sheet_lines.specs.Working.{putAt, endingIn, Asked, Halved};
 
@@ -57,8 +57,7 @@ fn put_fields(text: &[u8], letter: u8, out: &mut [u8]) -> usize
     ensures { λ r. ⌜ now (out .exit)
         ≡ putAt (now (out .entry)) 0 (hexadecimal (now (text .entry)) ++ (blank ∷ letter ∷ lineFeed ∷ [])) ⌝ }
 {
-    put_hexadecimal(out, 0, text);
-    let at = 2 * text.len();
+    let at = put_hexadecimal(out, 0, text);
     out[at] = b' ';
     out[at + 1] = letter;
     out[at + 2] = b'\n';

@@ -1,6 +1,5 @@
 // The lines of a sheet as bytes: document 01, "The casebook".
 pub mod block;
-mod digits;
 mod ending;
 mod kept;
 mod line;

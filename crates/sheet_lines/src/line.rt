@@ -1,8 +1,8 @@
 // Lines of the sheet that end alike: those of one point and of splittings that follow each other.
-use crate::digits::digit_count;
-use crate::digits::put_decimal;
 use crate::point::Point;
 use crate::point::Progress;
+use digits::decimal::digit_count;
+use digits::decimal::put_decimal;
 use labels::number::smaller;
 ghost use mathlib.Core.Path.{_≡_};
 ghost use Prim.Native.Nat.{_+_, _-_, _≤_, _<_};
@@ -116,7 +116,6 @@ fn head_length(point: Point, number: usize) -> usize
 
 // Writes the three first fields at a place, each with the blank behind it, and gives the place behind them.
 fn put_head(point: Point, number: usize, at: usize, out: &mut [u8]) -> usize
-    requires { ⌜ (point .number < 1000) × (number < 100000) ⌝ }
     requires { ⌜ at + length (headOf (point .number) number (point .letter)) ≤ length (now out) ⌝ }
     ensures { λ r. ⌜ r ≡ at + length (headOf (point .number) number (point .letter)) ⌝ }
     ensures { λ r. ⌜ now (out .exit) ≡ putAt (now (out .entry)) at (headOf (point .number) number (point .letter)) ⌝ }

@@ -1,10 +1,10 @@
 // Lines of the sheet of any bytes, as many as fit into an output.
-use crate::digits::digit_count;
-use crate::digits::put_decimal;
 use crate::point::Progress;
 use crate::point::write_point;
 use casebook::read::Reading;
 use casebook::read::read;
+use digits::decimal::digit_count;
+use digits::decimal::put_decimal;
 use formulas::backs::back_depth;
 use labels::label::Labels;
 use labels::number::smaller;

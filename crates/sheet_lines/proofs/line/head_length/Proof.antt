@@ -11,20 +11,37 @@ digit-count-requires-2 : tie.Need-digit-count-requires-2
 digit-count-requires-2 c κs = search needs
 
 add-result : tie.Need-add-result
-add-result c = search needs
+add-result c =
+    let s = c .before .before in
+    let a = s .args in
+    let counted = length-head (a .point .number) (a .number) (a .point .letter) in
+    let short = head-short (a .point .number) (a .number) (a .point .letter) (s .pre .0) (s .pre .1) in
+    omega (arith, counted, short, c .before .digit-count .ensures, c .digit-count2 .ensures)
 
 add-result-2 : tie.Need-add-result-2
-add-result-2 c = search needs
+add-result-2 c =
+    let s = c .before .before in
+    let a = s .args in
+    let counted = length-head (a .point .number) (a .number) (a .point .letter) in
+    let short = head-short (a .point .number) (a .number) (a .point .letter) (s .pre .0) (s .pre .1) in
+    omega (arith, counted, short, c .before .digit-count .ensures, c .digit-count2 .ensures)
 
 returns : tie.Need-returns
 returns c =
     let s = c .before .before in
     let a = s .args in
     let counted = length-head (a .point .number) (a .number) (a .point .letter) in
-    let short = head-short (a .point .number) (a .number) (a .point .letter) (s .pre .0) (s .pre .1) in
-    (omega (arith, counted), omega (arith, counted, short))
+    let short = head-short (a .point .number) (a .number) (a .point .letter) (s .pre .0) (s .pre .1) in (
+      omega (arith, counted, c .before .digit-count .ensures, c .digit-count2 .ensures),
+      omega (arith, counted, short, c .before .digit-count .ensures, c .digit-count2 .ensures),
+    )
 
 pub head-length-spec : {M : Type 1} → statement M
 head-length-spec =
     tie.close
-    (tie.spec digit-count-requires digit-count-requires-2 add-result add-result-2 returns)
+    (tie.spec
+    digit-count-requires
+    digit-count-requires-2
+    add-result
+    add-result-2
+    returns)

@@ -16,10 +16,7 @@ sub-start c = search needs
 
 put-head-requires : tie.Need-put-head-requires
 put-head-requires c κs =
-    let s = c .before .before .before .before in (
-      (s .pre .0 .0, omega (arith, s .pre .0 .1, tens-few _ _ (s .pre .1 .0) .0)),
-      omega (arith, c .before .head-length .ensures, s .pre .1 .1),
-    )
+    omega (arith, c .before .head-length .ensures, c .before .before .before .before .pre .1 .1)
 
 add-write-digits : tie.Need-add-write-digits
 add-write-digits c = search needs

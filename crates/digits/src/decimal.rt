@@ -1,16 +1,15 @@
-// Numbers in decimal and bytes in hexadecimal, written into an output that has room for them.
+// Numbers in decimal: how many digits they have, and writing them.
+use crate::output::has_room;
 ghost use mathlib.Core.Path.{_≡_};
 ghost use mathlib.Core.List.{[], _∷_};
-ghost use Prim.Native.Nat.{_+_, _*_, _/_, _%_, _≤_, _<_};
+ghost use Prim.Native.Nat.{_+_, _/_, _%_, _≤_, _<_};
 ghost use lib.ListN.{length};
-ghost use Rattle.sheet_lines.specs.Digits.{decimal, hexadecimal, hexDigit};
-ghost use Rattle.sheet_lines.specs.Working.{putAt};
+ghost use Rattle.digits.specs.Digits.{decimal};
+ghost use Rattle.digits.specs.Working.{putAt, putIfRoom, behindIfRoom};
 
 // How many digits a number has.
-pub(crate) fn digit_count(n: usize) -> usize
-    requires { ⌜ n < 100000 ⌝ }
+pub fn digit_count(n: usize) -> usize
     ensures { λ r. ⌜ r ≡ length (decimal n) ⌝ }
-    ensures few { λ r. ⌜ r ≤ 5 ⌝ }
 {
     if n < 10 {
         return 1;
@@ -24,11 +23,46 @@ pub(crate) fn digit_count(n: usize) -> usize
     if n < 10000 {
         return 4;
     }
-    5
+    if n < 100000 {
+        return 5;
+    }
+    digit_count(n / 10000) + 4
 }
 
-// Writes a number in decimal at a place, and gives the place behind it.
-pub(crate) fn put_decimal(out: &mut [u8], at: usize, n: usize) -> usize
+// Writes a number in decimal at a place, and gives the place behind it. Where it has no room, the output is as before
+// and the answer is the same place, which tells the two apart: a number has a digit. Five digits at most are not
+// counted where five have room.
+pub fn put_decimal(out: &mut [u8], at: usize, n: usize) -> usize
+    ensures { λ r. ⌜ r ≡ behindIfRoom (now (out .entry)) at (decimal n) ⌝ }
+    ensures { λ r. ⌜ now (out .exit) ≡ putIfRoom (now (out .entry)) at (decimal n) ⌝ }
+{
+    if n < 100000 {
+        if has_room(out.len(), at, 5) {
+            return write_short(out, at, n);
+        }
+    }
+    if has_room(out.len(), at, digit_count(n)) {
+        return write_long(out, at, n);
+    }
+    at
+}
+
+// The same where it has room.
+fn write_long(out: &mut [u8], at: usize, n: usize) -> usize
+    requires { ⌜ at + length (decimal n) ≤ length (now out) ⌝ }
+    ensures { λ r. ⌜ r ≡ at + length (decimal n) ⌝ }
+    ensures { λ r. ⌜ now (out .exit) ≡ putAt (now (out .entry)) at (decimal n) ⌝ }
+{
+    if n < 100000 {
+        return write_short(out, at, n);
+    }
+    let to = write_long(out, at, n / 10000);
+    put_four(out, to, n % 10000);
+    to + 4
+}
+
+// The same for a number of five digits at most.
+fn write_short(out: &mut [u8], at: usize, n: usize) -> usize
     requires { ⌜ n < 100000 ⌝ }
     requires { ⌜ at + length (decimal n) ≤ length (now out) ⌝ }
     ensures { λ r. ⌜ r ≡ at + length (decimal n) ⌝ }
@@ -74,29 +108,4 @@ fn put_two(out: &mut [u8], at: usize, n: u8)
 {
     out[at] = 48 + n / 10;
     out[at + 1] = 48 + n % 10;
-}
-
-// Writes bytes in hexadecimal at a place.
-pub(crate) fn put_hexadecimal(out: &mut [u8], at: usize, bytes: &[u8])
-    requires { ⌜ at + 2 * length (now bytes) ≤ length (now out) ⌝ }
-    ensures { λ r. ⌜ now (out .exit) ≡ putAt (now (out .entry)) at (hexadecimal (now (bytes .entry))) ⌝ }
-{
-    let mut i: usize = 0;
-    while i < bytes.len() {
-        let byte = bytes[i];
-        out[at + 2 * i] = hex_digit(byte / 16);
-        out[at + 2 * i + 1] = hex_digit(byte % 16);
-        i += 1;
-    }
-}
-
-// A hexadecimal digit.
-fn hex_digit(d: u8) -> u8
-    requires { ⌜ d < 16 ⌝ }
-    ensures { λ r. ⌜ r ≡ hexDigit d ⌝ }
-{
-    if d < 10 {
-        return 48 + d;
-    }
-    87 + d
 }

@@ -1,13 +1,13 @@
--- The laws of decimal and hexadecimal digits.
-use Prim.Native.Nat.{ℕ, zero, suc, _+_, _-_, _*_, _/_, _%_, _≤_, _<_}
+-- The laws of decimal numbers: their digits, and how many there are.
+use Prim.Native.Nat.{ℕ, zero, suc, _+_, _-_, _/_, _%_, _^_, _≤_, _<_}
 use mathlib.Core.Path.{_≡_, refl, _∙_, ap}
 use mathlib.Core.Bool.{Bool, true, false}
-use mathlib.Core.List.{List, [], _∷_, _++_}
+use mathlib.Core.List.{[], _∷_, _++_, append-assoc}
 use native.Mathlib.Omega.{arith}
 use lib.ListN.{length, length-append}
 use lib.Dec.{ltb}
 use borrow.Author.Tests.{lt-ltb, le-ltb, ltb-true, ltb-false}
-use Rattle.sheet_lines.specs.Digits.{digitsWithin, decimal, hexDigit, hexadecimal}
+use Rattle.digits.specs.Digits.{digitsWithin, decimal}
 
 -- more room than is needed changes nothing
 module _ (d : ℕ) where
@@ -38,6 +38,19 @@ decimal-more n h =
     (ap (λ m. digitsWithin m (n / 10) ++ ((48 + n % 10) ∷ [])) z
     ∙ ap (_++ ((48 + n % 10) ∷ [])) (wider (n - suc (n / 10)) (suc (n / 10)) (n / 10) (omega arith)))
 
+-- what holds of a number of one digit, and of n if it holds of n / 10, holds of every number
+module _ (P : ℕ → Type 0) (small : (n : ℕ) → n < 10 → P n) (more : (n : ℕ) → 10 ≤ n → P (n / 10) → P n) where
+  below : (m n : ℕ) → n < m → P n
+  below zero n h = absurd (omega arith)
+  below (suc m) n h = go (ltb n 10) refl (below m (n / 10))
+    where
+      go : (b : Bool) → ltb n 10 ≡ b → (n / 10 < m → P (n / 10)) → P n
+      go true e r = small n (ltb-true n 10 e)
+      go false e r = more n (ltb-false n 10 e) (r (omega (arith, ltb-false n 10 e, h)))
+
+  pub by-digits : (n : ℕ) → P n
+  by-digits n = below (suc n) n (omega arith)
+
 -- their number
 pub count-small : (n : ℕ) → n < 10 → length (decimal n) ≡ 1
 count-small n h = ap length (decimal-small n h)
@@ -61,32 +74,8 @@ count-5 n h i = count-more n 4 (omega arith) (count-4 (n / 10) (omega arith) (om
 
 -- a number has a digit
 pub count-some : (n : ℕ) → 1 ≤ length (decimal n)
-count-some n = go (ltb n 10) refl
-  where
-    go : (b : Bool) → ltb n 10 ≡ b → 1 ≤ length (decimal n)
-    go true e = omega (arith, count-small n (ltb-true n 10 e))
-    go false e = omega (arith, count-more n _ (ltb-false n 10 e) refl)
-
--- two digits a byte
-pub length-hexadecimal : (b : List ℕ) → length (hexadecimal b) ≡ 2 * length b
-unfolding hexadecimal
-length-hexadecimal [] = refl
-length-hexadecimal (x ∷ b) = omega (arith, length-hexadecimal b)
-
--- bytes behind bytes
-pub hexadecimal-behind : (b d : List ℕ) → hexadecimal (b ++ d) ≡ hexadecimal b ++ hexadecimal d
-unfolding hexadecimal
-hexadecimal-behind [] d = refl
-hexadecimal-behind (x ∷ b) d = ap (λ t. hexDigit (x / 16) ∷ hexDigit (x % 16) ∷ t) (hexadecimal-behind b d)
-
--- a digit by its size
-pub hex-low : (d : ℕ) → d < 10 → 48 + d ≡ hexDigit d
-unfolding hexDigit
-hex-low d h = rw (lt-ltb d 10 h)
-
-pub hex-high : (d : ℕ) → 10 ≤ d → 87 + d ≡ hexDigit d
-unfolding hexDigit
-hex-high d h = rw (le-ltb d 10 h)
+count-some = by-digits (λ n. 1 ≤ length (decimal n)) (λ n h. omega (arith, count-small n h))
+    (λ n h r. omega (arith, count-more n _ h refl))
 
 -- the digits of a number below 100, 1000 and so on
 pub decimal-2 : (n : ℕ) → 10 ≤ n → n < 100 → decimal n ≡ (48 + n / 10) ∷ (48 + n % 10) ∷ []
@@ -115,18 +104,40 @@ decimal-5 n h i =
     decimal-more n (omega arith) ∙ ap (_++ ((48 + n % 10) ∷ [])) (decimal-4 (n / 10) (omega arith) (omega arith))
     ∙ rw (z, w, v)
 
--- a number below 1000 has three digits at most, one below 100000 five
-count-step : (n m : ℕ) → length (decimal (n / 10)) ≤ m → length (decimal n) ≤ suc m
-count-step n m h = go (ltb n 10) refl
+-- the digits of n / 10000, then four more
+pub decimal-fours : (n m : ℕ) → 10000 ≤ n → m ≡ n % 10000
+    → decimal n ≡ decimal (n / 10000)
+    ++ ((48 + m / 1000) ∷ (48 + m / 100 % 10) ∷ (48 + m / 10 % 10) ∷ (48 + m % 10) ∷ [])
+decimal-fours n m h q =
+    let z : n / 10 / 10 / 10 / 10 ≡ n / 10000 = omega arith in
+    let a : n / 10 / 10 / 10 % 10 ≡ m / 1000 = omega (arith, q) in
+    let b : n / 10 / 10 % 10 ≡ m / 100 % 10 = omega (arith, q) in
+    let c : n / 10 % 10 ≡ m / 10 % 10 = omega (arith, q) in
+    let d : n % 10 ≡ m % 10 = omega (arith, q) in
+    decimal-more n (omega arith)
+    ∙ rw (decimal-more (n / 10) (omega arith), decimal-more (n / 10 / 10) (omega arith))
+    (rw (decimal-more (n / 10 / 10 / 10) (omega arith), z, a, b, c, d) (simp append-assoc))
+
+pub count-fours : (n : ℕ) → 10000 ≤ n → length (decimal n) ≡ length (decimal (n / 10000)) + 4
+count-fours n h = ap length (decimal-fours n _ h refl) ∙ length-append (decimal (n / 10000)) _
+
+-- a number has at most d digits exactly if it is below 10 ^ d
+pub count-within : (d n : ℕ) → n < 10 ^ suc d → length (decimal n) ≤ suc d
+count-within zero n h = omega (arith, count-small n h)
+count-within (suc d) n h = go (ltb n 10) refl (count-within d (n / 10) (omega (arith, h)))
   where
-    go : (b : Bool) → ltb n 10 ≡ b → length (decimal n) ≤ suc m
-    go true e = omega (arith, count-small n (ltb-true n 10 e))
-    go false e = omega (arith, count-more n _ (ltb-false n 10 e) refl, h)
+    go : (b : Bool) → ltb n 10 ≡ b → length (decimal (n / 10)) ≤ suc d → length (decimal n) ≤ suc (suc d)
+    go true e r = omega (arith, count-small n (ltb-true n 10 e))
+    go false e r = omega (arith, count-more n _ (ltb-false n 10 e) refl, r)
 
-pub count-three : (n : ℕ) → n < 1000 → length (decimal n) ≤ 3
-count-three n h =
-    let last : length (decimal (n / 10 / 10)) ≤ 1 = omega (arith, count-small (n / 10 / 10) (omega arith)) in
-    count-step n 2 (count-step (n / 10) 1 last)
+power-some : (d : ℕ) → 1 ≤ 10 ^ d
+power-some zero = omega arith
+power-some (suc d) = omega (arith, power-some d)
 
-pub count-few : (n : ℕ) → n < 100000 → length (decimal n) ≤ 5
-count-few n h = count-step n 4 (count-step (n / 10) 3 (count-three (n / 10 / 10) (omega arith)))
+pub within-count : (d n : ℕ) → length (decimal n) ≤ d → n < 10 ^ d
+within-count zero n h = absurd (omega (arith, count-some n, h))
+within-count (suc d) n h = go (ltb n 10) refl (within-count d (n / 10))
+  where
+    go : (b : Bool) → ltb n 10 ≡ b → (length (decimal (n / 10)) ≤ d → n / 10 < 10 ^ d) → n < 10 ^ suc d
+    go true e r = omega (arith, ltb-true n 10 e, power-some d)
+    go false e r = omega (arith, r (omega (arith, count-more n _ (ltb-false n 10 e) refl, h)))

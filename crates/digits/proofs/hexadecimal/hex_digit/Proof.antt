@@ -1,8 +1,8 @@
 use borrow.Author.Needs.{needs}
-use Rattle.sheet_lines.proofs.digits.hex_digit.Statement.{statement}
-use Rattle.sheet_lines.proofs.digits.hex_digit.Tie as tie
+use Rattle.digits.proofs.hexadecimal.hex_digit.Statement.{statement}
+use Rattle.digits.proofs.hexadecimal.hex_digit.Tie as tie
 use native.Mathlib.Omega.{arith}
-use Rattle.sheet_lines.proofs.DigitLaws.{hex-low, hex-high}
+use Rattle.digits.proofs.HexadecimalLaws.{hex-low, hex-high}
 
 add-result : tie.Need-add-result
 add-result c = search needs

@@ -1,8 +1,8 @@
 use borrow.Author.Needs.{needs}
-use Rattle.sheet_lines.proofs.digits.put_four.Statement.{statement}
-use Rattle.sheet_lines.proofs.digits.put_four.Tie as tie
+use Rattle.digits.proofs.decimal.put_four.Statement.{statement}
+use Rattle.digits.proofs.decimal.put_four.Tie as tie
 use native.Mathlib.Omega.{arith}
-use Rattle.sheet_lines.proofs.Puts.{put-pairs}
+use Rattle.digits.proofs.DecimalPuts.{put-pairs}
 
 cast-put-two : tie.Need-cast-put-two
 cast-put-two c = search needs

@@ -1,12 +1,13 @@
 use borrow.Author.Needs.{needs}
-use Rattle.sheet_lines.proofs.digits.put_decimal.Statement.{statement}
-use Rattle.sheet_lines.proofs.digits.put_decimal.Tie as tie
+use Rattle.digits.proofs.decimal.write_short.Statement.{statement}
+use Rattle.digits.proofs.decimal.write_short.Tie as tie
 use Prim.Native.Nat.{_+_, _/_}
 use mathlib.Core.Path.{refl}
 use native.Mathlib.Omega.{arith}
 use lib.ListN.{length-set}
-use Rattle.sheet_lines.proofs.DigitLaws.{count-small, count-2, count-3, count-4, count-5, count-some}
-use Rattle.sheet_lines.proofs.Puts.{put-1, put-2, put-3, put-4, put-5, put-set-kept}
+use Rattle.digits.proofs.DecimalLaws.{count-small, count-2, count-3, count-4, count-5, count-some}
+use Rattle.digits.proofs.Puts.{put-set-kept}
+use Rattle.digits.proofs.DecimalPuts.{put-1, put-2, put-3, put-4, put-5}
 
 cast-out : tie.Need-cast-out
 cast-out c = search needs
@@ -145,8 +146,8 @@ returns-5 c =
       put-5 _ _ _ (s .args .n) _ (omega arith) (omega (arith, s .pre .0)) refl (c .before .before .put-four2 .ensures),
     )
 
-pub put-decimal-spec : {M : Type 1} → statement M
-put-decimal-spec =
+pub write-short-spec : {M : Type 1} → statement M
+write-short-spec =
     tie.close
     (tie.spec
     cast-out

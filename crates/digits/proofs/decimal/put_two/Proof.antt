@@ -1,9 +1,9 @@
 use borrow.Author.Needs.{needs}
-use Rattle.sheet_lines.proofs.digits.put_two.Statement.{statement}
-use Rattle.sheet_lines.proofs.digits.put_two.Tie as tie
+use Rattle.digits.proofs.decimal.put_two.Statement.{statement}
+use Rattle.digits.proofs.decimal.put_two.Tie as tie
 use native.Mathlib.Omega.{arith}
 use lib.ListN.{length-set}
-use Rattle.sheet_lines.proofs.Puts.{put-two}
+use Rattle.digits.proofs.Puts.{put-two}
 
 add-out : tie.Need-add-out
 add-out c = search needs

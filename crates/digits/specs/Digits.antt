@@ -1,4 +1,4 @@
--- Numbers and bytes as the sheet prints them: decimal, and "lower-case hexadecimal".
+-- Numbers in decimal, and bytes in "lower-case hexadecimal", as a sheet prints them.
 use Prim.Native.Nat.{ℕ, zero, suc, _+_, _/_, _%_}
 use mathlib.Core.Bool.{cond}
 use mathlib.Core.List.{List, [], _∷_, _++_}

@@ -1,12 +1,12 @@
-use Rattle.sheet_lines.proofs.digits.put_hexadecimal.Statement.{statement}
-use Rattle.sheet_lines.proofs.digits.put_hexadecimal.Tie as tie
+use Rattle.digits.proofs.hexadecimal.write_hexadecimal.Statement.{statement}
+use Rattle.digits.proofs.hexadecimal.write_hexadecimal.Tie as tie
 use Prim.Native.Nat.{_-_, _≤_}
 use mathlib.Core.Path.{_≡_, refl}
 use native.Mathlib.Omega.{arith}
 use lib.ListN.{length, length-set, take}
-use Rattle.sheet_lines.specs.Digits.{hexadecimal}
-use Rattle.sheet_lines.specs.Working.{putAt}
-use Rattle.sheet_lines.proofs.Puts.{hex-none, hex-more, hex-all}
+use Rattle.digits.specs.Digits.{hexadecimal}
+use Rattle.digits.specs.Working.{putAt}
+use Rattle.digits.proofs.HexadecimalPuts.{hex-none, hex-more, hex-all}
 
 abbrev Inv-loop : tie.InvT-loop
 Inv-loop out₀ at bytes i₀ out i =
@@ -86,8 +86,8 @@ same-length c = c .before .loop .inv .1
 returns : tie.Need-returns Inv-loop μ-loop
 returns c = hex-all _ _ _ _ (c .before .loop .i) (omega (arith, c .before .loop .inv .2)) (c .before .loop .inv .0)
 
-pub put-hexadecimal-spec : {M : Type 1} → statement M
-put-hexadecimal-spec =
+pub write-hexadecimal-spec : {M : Type 1} → statement M
+write-hexadecimal-spec =
     tie.close
     (tie.spec
     Inv-loop
