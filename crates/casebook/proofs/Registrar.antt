@@ -11,36 +11,23 @@ use Rattle.labels.specs.declared.refusal.Check.{Check}
 use Rattle.labels.specs.declared.refusal.Check.the-variants as check
 use Rattle.labels.specs.declared.refusal.Refusal.the-variants.{OutputTooShort}
 use Rattle.labels.proofs.Refusals.{both-sound}
-use Rattle.labels.specs.declared.label.Labels.{Labels}
-use Rattle.casebook.specs.Records.{bodyOf, labelsOf}
-use Rattle.casebook.specs.Reading.{readOf}
+use Rattle.machines.specs.Cases.{Case}
+use Rattle.casebook.specs.Reading.{readOf, caseOf}
 use Rattle.casebook.specs.Writing.{casebookBytes, checkParts, checkWrite, answered, writeOf, writtenOf}
 use Rattle.casebook.specs.declared.read.Parts.{Parts}
 use Rattle.casebook.specs.declared.read.Reading.the-variants as reading
-use Rattle.casebook.specs.declared.write.Writing.{Writing}
 use Rattle.casebook.specs.declared.write.Writing.the-variants as writing
 use Rattle.casebook.proofs.RecordLaws.{Bytes}
 use Rattle.casebook.proofs.RoundTrip.{ReadsTo, read-sound, read-written, written-read}
-
--- what writing the parts of a casebook s answers, and the output afterwards: its k, and the bodies of its records
-module _ (s : List ℕ) (p : Parts) (out : List ℕ) where
-  abbrev pub answerFor : Writing
-  answerFor =
-      writeOf (labelsOf s (p .labels)) (bodyOf s (p .left)) (bodyOf s (p .right)) (bodyOf s (p .run))
-      (bodyOf s (p .question)) (length out)
-
-  abbrev pub outputFor : List ℕ
-  outputFor =
-      writtenOf (labelsOf s (p .labels)) (bodyOf s (p .left)) (bodyOf s (p .right)) (bodyOf s (p .run))
-      (bodyOf s (p .question)) out
 
 -- A casebook that was read, written again from its parts. Into an output of its length or more go its own bytes, and
 -- "lent bytes past it keep theirs". A shorter output is refused, 18, and "every lent byte keeps its value".
 pub filed-and-returned : (s : List ℕ) → Bytes s → (p : Parts) → readOf s ≡ reading.Casebook p → (out : List ℕ)
     → (length s ≤ length out
-    → (answerFor s p out ≡ writing.Written (length s)) × (outputFor s p out ≡ s ++ drop (length s) out))
+    → (writeOf (caseOf s p) (length out) ≡ writing.Written (length s))
+    × (writtenOf (caseOf s p) out ≡ s ++ drop (length s) out))
     × (length out < length s
-    → (answerFor s p out ≡ writing.Refused OutputTooShort) × (outputFor s p out ≡ out))
+    → (writeOf (caseOf s p) (length out) ≡ writing.Refused OutputTooShort) × (writtenOf (caseOf s p) out ≡ out))
 unfolding writeOf writtenOf checkWrite firstOf inFront
 filed-and-returned s bytes p e out =
     let sound = read-sound s p e in
@@ -54,14 +41,14 @@ answered-whole : (c : Check) (m n : ℕ) → answered c m ≡ writing.Written n 
 answered-whole check.Sound m n e = (refl, cc)
 answered-whole (check.Refused x) m n e = absurd (apart cc)
 
--- Parts that were written, any k and bytes whatever. The output's first bytes, as many as the answer says, read to a
--- casebook with that k, and the bodies of its four records are those parts.
-pub returned-as-filed : (k : Labels) (l r j q out : List ℕ) (n : ℕ) → writeOf k l r j q (length out) ≡ writing.Written n
-    → ReadsTo (take n (writtenOf k l r j q out)) k l r j q
+-- A case that was written, any k and bytes whatever. The output's first bytes, as many as the answer says, read to a
+-- casebook that shows this case.
+pub returned-as-filed : (c : Case) (out : List ℕ) (n : ℕ) → writeOf c (length out) ≡ writing.Written n
+    → ReadsTo (take n (writtenOf c out)) c
 unfolding writeOf writtenOf checkWrite firstOf inFront
-returned-as-filed k l r j q out n e =
-    let bytes = casebookBytes k l r j q in
-    let (sound, m) = answered-whole (checkWrite k l r j q (length out)) (length bytes) n e in
+returned-as-filed c out n e =
+    let bytes = casebookBytes c in
+    let (sound, m) = answered-whole (checkWrite c (length out)) (length bytes) n e in
     let seam = take-append-seam bytes (drop (length bytes) out) in
-    let front : take n (writtenOf k l r j q out) ≡ bytes = rw (sound, ← m) seam in
-    rw front (read-written k l r j q (both-sound (checkParts k l r j q) _ sound .0))
+    let front : take n (writtenOf c out) ≡ bytes = rw (sound, ← m) seam in
+    rw front (read-written c (both-sound (checkParts c) _ sound .0))

@@ -1,7 +1,7 @@
 -- The round trip of casebooks: what was written reads to its parts, what was read is what its parts write, and nothing
 -- else is accepted.
 use Prim.Native.Nat.{ℕ, _+_, _≤_}
-use mathlib.Core.Path.{_≡_, refl, sym, _∙_, ap}
+use mathlib.Core.Path.{_≡_, refl, sym, _∙_, ap, subst⁻¹}
 use mathlib.Core.Logic.{_↔_}
 use mathlib.Core.List.{List, [], _∷_, _++_, append-nil}
 use native.Mathlib.Omega.{arith}
@@ -10,20 +10,21 @@ use lib.Dec.{ltb}
 use borrow.Author.Tests.{le-ltb}
 use Rattle.hml.proofs.Tests.{apart, decided-lt}
 use Rattle.labels.specs.Refusals.{refusedIf, firstOf}
-use Rattle.labels.specs.Labels.{ofPairs, checkLabels}
+use Rattle.labels.specs.Labels.{checkLabels}
+use Rattle.labels.specs.declared.label.Labels.{Labels}
 use Rattle.labels.specs.declared.refusal.Check.{Check}
 use Rattle.labels.specs.declared.refusal.Check.the-variants as check
 use Rattle.labels.specs.declared.refusal.Check.the-variants.{Sound}
 use Rattle.labels.specs.declared.refusal.Refusal.the-variants.{BytesAfter}
 use Rattle.labels.proofs.Refusals.{judges, judged-fault, both-sound}
-use Rattle.labels.specs.declared.label.Labels.{Labels}
 use Rattle.tables.specs.Tables.{checkTable}
 use Rattle.machines.specs.Joints.{checkJoint}
+use Rattle.machines.specs.Cases.{Case}
 use Rattle.formulas.specs.Formulas.{questionLimit, checkFormula}
 use Rattle.casebook.specs.Records.{lengthsOf, fitLength, mayStand, nextAt, bodyOf, labelsOf, labelsBytes}
 use Rattle.casebook.specs.Records.{recordBytes}
 use Rattle.casebook.specs.Reading.{labelsKinds, leftKinds, rightKinds, runKinds, questionKinds, longestCasebook}
-use Rattle.casebook.specs.Reading.{after, ifSound, readQuestion, readRun, readRight, readLeft, readOf}
+use Rattle.casebook.specs.Reading.{after, ifSound, readQuestion, readRun, readRight, readLeft, readOf, caseOf}
 use Rattle.casebook.specs.Writing.{casebookBytes, checkParts}
 use Rattle.casebook.specs.declared.record.Cursor.{Cursor}
 use Rattle.casebook.specs.declared.record.Record.{Record}
@@ -36,43 +37,47 @@ use Rattle.casebook.proofs.Records.{only-kind, fit-longest}
 use Rattle.casebook.proofs.RecordLaws.{Bytes, Lies, placed, behind, next-record, record-next, record-length}
 use Rattle.casebook.proofs.RecordLaws.{header-fits, first-byte, single, table-fits, joint-fits, question-fits}
 
--- parts of which each is sound by itself
-pub record SoundParts (k : Labels) (l r j q : List ℕ) : Type 0 where
-  pub labels : checkLabels k ≡ Sound
-  pub left : checkTable k l ≡ Sound
-  pub right : checkTable k r ≡ Sound
-  pub run : checkJoint k l r j ≡ Sound
-  pub question : checkFormula k questionLimit q ≡ Sound
+-- a case of which each part is sound by itself
+pub record SoundParts (c : Case) : Type 0 where
+  pub labels : checkLabels (c .labels) ≡ Sound
+  pub left : checkTable (c .labels) (c .left) ≡ Sound
+  pub right : checkTable (c .labels) (c .right) ≡ Sound
+  pub run : checkJoint (c .labels) (c .left) (c .right) (c .run) ≡ Sound
+  pub question : checkFormula (c .labels) questionLimit (c .question) ≡ Sound
 
-module _ (k : Labels) (l r j q : List ℕ) where
+module _ (c : Case) where
+  abbrev k : Labels
+  k = c .labels
+
   -- parts that are sound together are sound each
-  pub sound-parts : checkParts k l r j q ≡ Sound → SoundParts k l r j q
+  pub sound-parts : checkParts c ≡ Sound → SoundParts c
   unfolding checkParts firstOf
   sound-parts e =
       let (a, b) = both-sound (checkLabels k) _ e in
-      let (c, d) = both-sound (checkTable k l) _ b in
-      let (f, g) = both-sound (checkTable k r) _ d in
-      let (h, i) = both-sound (checkJoint k l r j) _ g in
+      let (d, f) = both-sound (checkTable k (c .left)) _ b in
+      let (g, h) = both-sound (checkTable k (c .right)) _ f in
+      let (i, j) = both-sound (checkJoint k (c .left) (c .right) (c .run)) _ h in
       record {
         labels = a;
-        left = c;
-        right = f;
-        run = h;
-        question = both-sound (checkFormula k questionLimit q) Sound i .0;
+        left = d;
+        right = g;
+        run = i;
+        question = both-sound (checkFormula k questionLimit (c .question)) Sound j .0;
       }
 
   -- parts that are sound each are sound together
-  pub parts-sound : SoundParts k l r j q → checkParts k l r j q ≡ Sound
+  pub parts-sound : SoundParts c → checkParts c ≡ Sound
   unfolding checkParts firstOf
   parts-sound s = rw (s .labels, s .left, s .right, s .run, s .question)
 
   -- a casebook has 21 bytes beside its four parts
-  pub casebook-length : length (casebookBytes k l r j q) ≡ 21 + length l + length r + length j + length q
+  pub casebook-length : length (casebookBytes c)
+      ≡ 21 + length (c .left) + length (c .right) + length (c .run) + length (c .question)
   unfolding casebookBytes
   casebook-length = simp (length-append, record-length) (omega arith)
 
   -- a casebook of sound parts is no longer than the longest
-  pub casebook-short : checkParts k l r j q ≡ Sound → length (casebookBytes k l r j q) ≤ longestCasebook
+  pub casebook-short : checkParts c ≡ Sound → length (casebookBytes c) ≤ longestCasebook
   unfolding longestCasebook mayStand fitLength lengthsOf
   casebook-short e =
       let s = sound-parts e in
@@ -80,10 +85,12 @@ module _ (k : Labels) (l r j q : List ℕ) where
         arith,
         casebook-length,
         fit-longest labelsKinds 1 3 refl refl,
-        fit-longest leftKinds 2 (2 + length l) refl (table-fits k l (s .left) .0),
-        fit-longest rightKinds 3 (2 + length r) refl (table-fits k r (s .right) .1),
-        fit-longest runKinds 4 (2 + length j) refl (joint-fits k l r j (s .run) .0),
-        fit-longest questionKinds 5 (2 + length q) refl (question-fits k q (s .question) .0),
+        fit-longest leftKinds 2 (2 + length (c .left)) refl (table-fits k (c .left) (s .left) .0),
+        fit-longest rightKinds 3 (2 + length (c .right)) refl (table-fits k (c .right) (s .right) .1),
+        fit-longest runKinds 4 (2 + length (c .run)) refl
+            (joint-fits k (c .left) (c .right) (c .run) (s .run) .0),
+        fit-longest questionKinds 5 (2 + length (c .question)) refl
+            (question-fits k (c .question) (s .question) .0),
       )
 
 -- what a casebook that was read shows: contents that are read are sound, a record that is read was found
@@ -108,9 +115,12 @@ nothing-behind : (at n : ℕ) → refusedIf (ltb at n) BytesAfter ≡ Sound → 
 nothing-behind at n e = omega (arith, judges (judged-fault BytesAfter (decided-lt at n)) .0 e)
 
 -- the labels' record shows k where its body is that byte alone
-labels-shown : (s : List ℕ) (h : Record) (k : Labels) → bodyOf s h ≡ labelsBytes k → labelsOf s h ≡ k
+labels-shown : (s : List ℕ) (h : Record) (x : Labels) → bodyOf s h ≡ labelsBytes x → labelsOf s h ≡ x
 unfolding labelsOf
-labels-shown s h k e = ap ofPairs (sym (first-byte s h (omega (arith, ap length e))) ∙ ap (λ l. getD l 0 0) e)
+labels-shown s h x e =
+    let first = first-byte s h (omega (arith, ap length e)) in
+    let z : getD s (h .start) 0 ≡ x .pairs = sym first ∙ ap (λ l. getD l 0 0) e in
+    rw z
 
 -- five records, each once, in this order, with sound contents, and nothing behind them
 record Chain (s : List ℕ) (p : Parts) : Type 0 where
@@ -124,14 +134,13 @@ record Chain (s : List ℕ) (p : Parts) : Type 0 where
   third : nextAt s (c2 .at) rightKinds ≡ next.Found (p .right) c3
   fourth : nextAt s (c3 .at) runKinds ≡ next.Found (p .run) c4
   fifth : nextAt s (c4 .at) questionKinds ≡ next.Found (p .question) c5
-  sound : SoundParts (labelsOf s (p .labels)) (bodyOf s (p .left)) (bodyOf s (p .right)) (bodyOf s (p .run))
-      (bodyOf s (p .question))
+  sound : SoundParts (caseOf s p)
   all : length s ≤ c5 .at
 
 module _ (s : List ℕ) (p : Parts) where
   -- such a chain is read
   chain-read : Chain s p → readOf s ≡ reading.Casebook p
-  unfolding readOf readLeft readRight readRun readQuestion
+  unfolding caseOf readOf readLeft readRight readRun readQuestion
   chain-read w =
       let a = w .sound in
       rw (
@@ -150,7 +159,7 @@ module _ (s : List ℕ) (p : Parts) where
 
   -- what is read is such a chain
   read-chain : readOf s ≡ reading.Casebook p → Chain s p
-  unfolding readOf readLeft readRight readRun readQuestion
+  unfolding caseOf readOf readLeft readRight readRun readQuestion
   read-chain e =
       record-read (nextAt s 0 labelsKinds) (λ h. checkLabels (labelsOf s h)) (λ h c. readLeft s h (c .at)) e
       (λ h c1 n1 f1 e1.
@@ -180,48 +189,42 @@ module _ (s : List ℕ) (p : Parts) where
       })))))))
 
   -- the parts of a casebook that was read are sound
-  pub read-sound : readOf s ≡ reading.Casebook p
-      → checkParts (labelsOf s (p .labels)) (bodyOf s (p .left)) (bodyOf s (p .right)) (bodyOf s (p .run))
-      (bodyOf s (p .question))
-      ≡ Sound
-  read-sound e = parts-sound _ _ _ _ _ (read-chain e .sound)
+  pub read-sound : readOf s ≡ reading.Casebook p → checkParts (caseOf s p) ≡ Sound
+  read-sound e = parts-sound (caseOf s p) (read-chain e .sound)
 
--- bytes that read to a casebook of these parts: the k that it shows, and the bodies of its four other records, are
--- theirs
-pub record ReadsTo (s : List ℕ) (k : Labels) (l r j q : List ℕ) : Type 0 where
+-- bytes that read to a casebook, and show this case
+pub record ReadsTo (s : List ℕ) (c : Case) : Type 0 where
   pub parts : Parts
   pub read : readOf s ≡ reading.Casebook parts
-  pub labels : labelsOf s (parts .labels) ≡ k
-  pub left : bodyOf s (parts .left) ≡ l
-  pub right : bodyOf s (parts .right) ≡ r
-  pub run : bodyOf s (parts .run) ≡ j
-  pub question : bodyOf s (parts .question) ≡ q
+  pub shows : caseOf s parts ≡ c
 
 -- reading a casebook that was written gives its parts
-pub read-written : (k : Labels) (l r j q : List ℕ) → checkParts k l r j q ≡ Sound
-    → ReadsTo (casebookBytes k l r j q) k l r j q
-unfolding casebookBytes mayStand fitLength lengthsOf
-read-written k l r j q e =
-    let s = casebookBytes k l r j q in
-    let w = sound-parts k l r j q e in
+pub read-written : (c : Case) → checkParts c ≡ Sound → ReadsTo (casebookBytes c) c
+unfolding casebookBytes caseOf mayStand fitLength lengthsOf
+read-written c e =
+    let s = casebookBytes c in
+    let k = c .labels in
+    let w = sound-parts c e in
     let c1 = behind 0 (labelsBytes k) in
-    let c2 = behind (c1 .at) l in
-    let c3 = behind (c2 .at) r in
-    let c4 = behind (c3 .at) j in
+    let c2 = behind (c1 .at) (c .left) in
+    let c3 = behind (c2 .at) (c .right) in
+    let c4 = behind (c3 .at) (c .run) in
     let p : Parts = record {
       labels = placed 1 0 (labelsBytes k);
-      left = placed 2 (c1 .at) l;
-      right = placed 3 (c2 .at) r;
-      run = placed 4 (c3 .at) j;
-      question = placed 5 (c4 .at) q;
+      left = placed 2 (c1 .at) (c .left);
+      right = placed 3 (c2 .at) (c .right);
+      run = placed 4 (c3 .at) (c .run);
+      question = placed 5 (c4 .at) (c .question);
     } in
     let (n1, b1, d1) = next-record s 0 labelsKinds 1 (labelsBytes k) _ refl refl refl in
-    let (n2, b2, d2) = next-record s (c1 .at) leftKinds 2 l _ refl (table-fits k l (w .left) .0) d1 in
-    let (n3, b3, d3) = next-record s (c2 .at) rightKinds 3 r _ refl (table-fits k r (w .right) .1) d2 in
-    let (n4, b4, d4) = next-record s (c3 .at) runKinds 4 j _ refl (joint-fits k l r j (w .run) .0) d3 in
-    let (n5, b5, d5) = next-record s (c4 .at) questionKinds 5 q [] refl (question-fits k q (w .question) .0)
-    (d4 ∙ sym (append-nil (recordBytes 5 q))) in
-    let shown = labels-shown s (placed 1 0 (labelsBytes k)) k b1 in
+    let (n2, b2, d2) = next-record s (c1 .at) leftKinds 2 (c .left) _ refl (table-fits k (c .left) (w .left) .0) d1 in
+    let (n3, b3, d3) = next-record s (c2 .at) rightKinds 3 (c .right) _ refl (table-fits k (c .right) (w .right) .1)
+    d2 in
+    let (n4, b4, d4) = next-record s (c3 .at) runKinds 4 (c .run) _ refl
+    (joint-fits k (c .left) (c .right) (c .run) (w .run) .0) d3 in
+    let (n5, b5, d5) = next-record s (c4 .at) questionKinds 5 (c .question) [] refl
+    (question-fits k (c .question) (w .question) .0) (d4 ∙ sym (append-nil (recordBytes 5 (c .question)))) in
+    let shown : caseOf s p ≡ c = rw (labels-shown s (placed 1 0 (labelsBytes k)) (c .labels) b1, b2, b3, b4, b5) refl in
     record {
       parts = p;
       read = chain-read s p (record {
@@ -229,20 +232,16 @@ read-written k l r j q e =
         c2 = c2;
         c3 = c3;
         c4 = c4;
-        c5 = behind (c4 .at) q;
+        c5 = behind (c4 .at) (c .question);
         first = n1;
         second = n2;
         third = n3;
         fourth = n4;
         fifth = n5;
-        sound = rw (shown, b2, b3, b4, b5) w;
-        all = omega (arith, casebook-length k l r j q);
+        sound = subst⁻¹ SoundParts shown w;
+        all = omega (arith, casebook-length c);
       });
-      labels = shown;
-      left = b2;
-      right = b3;
-      run = b4;
-      question = b5;
+      shows = shown;
     }
 
 -- a record that lies at a place of one kind stands there as the bytes of that kind
@@ -279,9 +278,8 @@ module _ (s : List ℕ) (bytes : Bytes s) (p : Parts) (e : readOf s ≡ reading.
       header-fits n (ap (λ x. fitLength x (2 + n)) (sym k) ∙ labels-lies .fits)
 
   -- writing its parts gives its bytes
-  pub written-read : casebookBytes (labelsOf s (p .labels)) (bodyOf s (p .left)) (bodyOf s (p .right))
-      (bodyOf s (p .run)) (bodyOf s (p .question)) ≡ s
-  unfolding casebookBytes labelsOf
+  pub written-read : casebookBytes (caseOf s p) ≡ s
+  unfolding casebookBytes caseOf labelsOf
   written-read =
       let k : bodyOf s (p .labels) ≡ getD s (p .labels .start) 0 ∷ [] = single (bodyOf s (p .labels)) one-byte
       ∙ ap (λ x. x ∷ []) (first-byte s (p .labels) (omega (arith, one-byte))) in
@@ -299,28 +297,14 @@ module _ (s : List ℕ) (bytes : Bytes s) (p : Parts) (e : readOf s ≡ reading.
   pub labels-placed : (p .labels .start ≡ 4) × (p .labels .len ≡ 1)
   labels-placed = (labels-lies .start-is, sym (labels-lies .body-length) ∙ one-byte)
 
--- a casebook is accepted exactly if it is what writing makes of sound parts
+-- a casebook is accepted exactly if it is what writing makes of a case with sound parts
 pub accepted-exactly : (s : List ℕ) → Bytes s
     → ((p : Parts) × (readOf s ≡ reading.Casebook p))
-    ↔ ((k : Labels) × (l : List ℕ) × (r : List ℕ) × (j : List ℕ) × (q : List ℕ) × (checkParts k l r j q ≡ Sound)
-    × (s ≡ casebookBytes k l r j q))
+    ↔ ((c : Case) × (checkParts c ≡ Sound) × (s ≡ casebookBytes c))
 accepted-exactly s b = (
-  λ (p, e). (
-    labelsOf s (p .labels),
-    bodyOf s (p .left),
-    bodyOf s (p .right),
-    bodyOf s (p .run),
-    bodyOf s (p .question),
-    read-sound s p e,
-    sym (written-read s b p e),
-  ),
-  from,
+  λ (p, e). (caseOf s p, read-sound s p e, sym (written-read s b p e)),
+  λ (c, e, z). let t = read-written c e in (t .parts, rw z (t .read)),
 )
-  where
-    from : (k : Labels) × (l : List ℕ) × (r : List ℕ) × (j : List ℕ) × (q : List ℕ) × (checkParts k l r j q ≡ Sound)
-        × (s ≡ casebookBytes k l r j q)
-        → (p : Parts) × (readOf s ≡ reading.Casebook p)
-    from (k, l, r, j, q, e, z) = let t = read-written k l r j q e in (t .parts, rw z (t .read))
 
 -- a casebook that was read is short, and its records lie in it
 pub record Placing (s : List ℕ) (p : Parts) : Type 0 where
@@ -338,7 +322,7 @@ lies-within s at kinds r c y = omega (arith, y .start-is, y .behind-is, y .room)
 
 pub placing : (s : List ℕ) → Bytes s → (p : Parts) → readOf s ≡ reading.Casebook p → Placing s p
 placing s bytes p e = record {
-  short = omega (arith, casebook-short _ _ _ _ _ (read-sound s p e), ap length (written-read s bytes p e));
+  short = omega (arith, casebook-short (caseOf s p) (read-sound s p e), ap length (written-read s bytes p e));
   labels = lies-within s _ _ (p .labels) _ (labels-lies s bytes p e);
   left = lies-within s _ _ (p .left) _ (left-lies s bytes p e);
   right = lies-within s _ _ (p .right) _ (right-lies s bytes p e);

@@ -9,7 +9,7 @@ use Rattle.labels.specs.declared.refusal.Check.{Check}
 use Rattle.labels.specs.declared.refusal.Check.the-variants.{Sound, Refused}
 use Rattle.labels.proofs.Refusals.{both-sound}
 use Rattle.labels.proofs.Answers.{Within, none, next}
-use Rattle.labels.specs.declared.label.Labels.{Labels}
+use Rattle.machines.specs.Cases.{Case}
 use Rattle.casebook.specs.Records.{lengthsOf, longestBody}
 use Rattle.casebook.specs.Reading.{longestCasebook, readOf, readAnswer}
 use Rattle.casebook.specs.Writing.{casebookBytes, checkParts, checkWrite, answered, writeOf, writeAnswer}
@@ -25,14 +25,13 @@ unfolding longestCasebook longestBody lengthsOf
 longest-is = refl
 
 -- of a writing: at most the length of the longest casebook
-pub write-within : (k : Labels) (l r j q : List ℕ) (room : ℕ)
-    → Within longestCasebook (writeAnswer (writeOf k l r j q room) .values)
+pub write-within : (c : Case) (room : ℕ) → Within longestCasebook (writeAnswer (writeOf c room) .values)
 unfolding writeOf writeAnswer checkWrite firstOf
-write-within k l r j q room = go (checkWrite k l r j q room) refl
+write-within c room = go (checkWrite c room) refl
   where
-    go : (c : Check) → checkWrite k l r j q room ≡ c
-        → Within longestCasebook (writeAnswer (answered c (length (casebookBytes k l r j q))) .values)
-    go Sound e = next (casebook-short k l r j q (both-sound (checkParts k l r j q) _ e .0)) none
+    go : (x : Check) → checkWrite c room ≡ x
+        → Within longestCasebook (writeAnswer (answered x (length (casebookBytes c))) .values)
+    go Sound e = next (casebook-short c (both-sound (checkParts c) _ e .0)) none
     go (Refused x) e = none
 
 -- of a reading: the records lie in at most as many bytes

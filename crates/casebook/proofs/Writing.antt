@@ -19,7 +19,9 @@ use Rattle.labels.proofs.Refusals.{then-sound}
 use Rattle.labels.specs.declared.label.Labels.{Labels}
 use Rattle.tables.specs.Tables.{checkTable}
 use Rattle.machines.specs.Joints.{checkJoint, checkTablesAndJoint}
+use Rattle.machines.specs.Cases.{Case}
 use Rattle.formulas.specs.Formulas.{questionLimit, checkFormula}
+use Rattle.machines.specs.Cases.{caseWith}
 use Rattle.casebook.specs.Records.{labelsBytes, recordBytes}
 use Rattle.casebook.specs.Writing.{casebookBytes, checkParts, checkWrite, writeOf, writtenOf}
 use Rattle.casebook.specs.declared.write.Writing.the-variants as writing
@@ -51,17 +53,20 @@ record-put out body ys kind a b room short small p q e =
 pub five-records : (k : Labels) (l r j q : List ℕ)
     → (((([] ++ recordBytes 1 (labelsBytes k)) ++ recordBytes 2 l) ++ recordBytes 3 r) ++ recordBytes 4 j)
     ++ recordBytes 5 q
-    ≡ casebookBytes k l r j q
+    ≡ casebookBytes (caseWith k l r j q)
 unfolding casebookBytes
 five-records k l r j q = rw (append-assoc, append-assoc, append-assoc)
 
--- the parts' checks as the code has them
+-- a case from its parts, and the parts' checks as the code has them
 module _ (k : Labels) (l r j q : List ℕ) where
+  abbrev c : Case
+  c = caseWith k l r j q
+
   pub parts-checked : {x y z w v : Check} → x ≡ thenOf y z → y ≡ thenOf w v → w ≡ checkLabels k
-      → v ≡ checkTablesAndJoint k l r j → z ≡ checkFormula k questionLimit q → x ≡ checkParts k l r j q
+      → v ≡ checkTablesAndJoint k l r j → z ≡ checkFormula k questionLimit q → x ≡ checkParts c
   unfolding checkParts checkTablesAndJoint firstOf
-  parts-checked a b c d e =
-      rw (a, b, c, d, e, then-sound (checkJoint k l r j), then-sound (checkFormula k questionLimit q))
+  parts-checked a b d e f =
+      rw (a, b, d, e, f, then-sound (checkJoint k l r j), then-sound (checkFormula k questionLimit q))
       (regroup (checkLabels k) (checkTable k l) (checkTable k r) (checkJoint k l r j) (checkFormula k questionLimit q))
     where
       regroup : (p t u v w : Check)
@@ -71,31 +76,30 @@ module _ (k : Labels) (l r j q : List ℕ) where
       regroup check.Sound (check.Refused x) u v w = refl
       regroup (check.Refused x) t u v w = refl
 
-  pub write-refused : (x : Refusal) (out : List ℕ) → checkParts k l r j q ≡ check.Refused x
-      → (writing.Refused x ≡ writeOf k l r j q (length out)) × (out ≡ writtenOf k l r j q out)
+  pub write-refused : (x : Refusal) (out : List ℕ) → checkParts c ≡ check.Refused x
+      → (writing.Refused x ≡ writeOf c (length out)) × (out ≡ writtenOf c out)
   unfolding writeOf writtenOf checkWrite firstOf
   write-refused x out e = rw e (refl, refl)
 
-  module _ (sound : checkParts k l r j q ≡ check.Sound) (out : List ℕ) where
+  module _ (sound : checkParts c ≡ check.Sound) (out : List ℕ) where
     pub write-short : length out < 21 + length l + length r + length j + length q
-        → (writing.Refused OutputTooShort ≡ writeOf k l r j q (length out)) × (out ≡ writtenOf k l r j q out)
+        → (writing.Refused OutputTooShort ≡ writeOf c (length out)) × (out ≡ writtenOf c out)
     unfolding writeOf writtenOf checkWrite firstOf
     write-short h =
-        rw (sound, lt-ltb (length out) (length (casebookBytes k l r j q)) (omega (arith, casebook-length k l r j q)))
+        rw (sound, lt-ltb (length out) (length (casebookBytes c)) (omega (arith, casebook-length c)))
         (refl, refl)
 
     pub write-whole : (n : ℕ) (after : List ℕ) → n ≡ 21 + length l + length r + length j + length q → n ≤ length out
-        → after ≡ inFront (casebookBytes k l r j q) out
-        → (writing.Written n ≡ writeOf k l r j q (length out)) × (after ≡ writtenOf k l r j q out)
+        → after ≡ inFront (casebookBytes c) out
+        → (writing.Written n ≡ writeOf c (length out)) × (after ≡ writtenOf c out)
     unfolding writeOf writtenOf checkWrite firstOf
     write-whole n after e h a =
-        rw (sound, le-ltb (length out) (length (casebookBytes k l r j q)) (omega (arith, casebook-length k l r j q)))
-        (ap writing.Written (omega (arith, e, casebook-length k l r j q)), a)
+        rw (sound, le-ltb (length out) (length (casebookBytes c)) (omega (arith, casebook-length c)))
+        (ap writing.Written (omega (arith, e, casebook-length c)), a)
 
     pub parts-small : (length l ≤ 1537) × (length r ≤ 1537) × (length j ≤ 602) × (length q ≤ 128)
     parts-small =
-        let p = sound-parts k l r j q
-        sound in (
+        let p = sound-parts c sound in (
           table-fits k l (p .left) .2,
           table-fits k r (p .right) .2,
           joint-fits k l r j (p .run) .1,
@@ -142,7 +146,7 @@ module _ (k : Labels) (l r j q out y1 y2 y3 y4 : List ℕ) (e1 : y1 ≡ inFront 
       simp (length-take, length-drop) (omega (arith, n))
 
   pub all-put : (y5 : List ℕ) → y5 ≡ inFront (recordBytes 5 q) (rest (9 + length l + 4 + length r + 4 + length j) four)
-      → put (9 + length l + 4 + length r + 4 + length j) four y5 ≡ inFront (casebookBytes k l r j q) out
+      → put (9 + length l + 4 + length r + 4 + length j) four y5 ≡ inFront (casebookBytes (caseWith k l r j q)) out
   all-put y5 e5 =
       front-after front (recordBytes 5 q) out four y5 (9 + length l + 4 + length r + 4 + length j) (sym four-length)
       four-put e5

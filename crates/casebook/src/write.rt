@@ -8,6 +8,7 @@ ghost use mathlib.Core.Path.{_≡_};
 ghost use Prim.Native.Nat.{_+_, _≤_, _<_};
 ghost use lib.ListN.{length};
 ghost use Rattle.labels.specs.Refusals.{inFront};
+ghost use Rattle.machines.specs.Cases.{caseWith};
 ghost use Rattle.casebook.specs.Records.{recordBytes};
 ghost use Rattle.casebook.specs.Writing.{casebookBytes, checkParts, writeOf, writtenOf};
 ghost use Rattle.casebook.specs.Working.{Fitting};
@@ -27,11 +28,11 @@ pub fn write(
     question: &[u8],
     out: &mut [u8],
 ) -> Writing
-    ensures { λ r. ⌜ r ≡ writeOf labels (now (left .entry)) (now (right .entry)) (now (run .entry))
-        (now (question .entry))
-        (length (now (out .entry))) ⌝ }
+    ensures { λ r. ⌜ r ≡ writeOf (caseWith labels (now (left .entry)) (now (right .entry)) (now (run .entry))
+        (now (question .entry))) (length (now (out .entry))) ⌝ }
     ensures { λ r. ⌜ now (out .exit)
-        ≡ writtenOf labels (now (left .entry)) (now (right .entry)) (now (run .entry)) (now (question .entry))
+        ≡ writtenOf (caseWith labels (now (left .entry)) (now (right .entry)) (now (run .entry))
+        (now (question .entry)))
         (now (out .entry)) ⌝ }
 {
     match check_parts(labels, left, right, run, question) {
@@ -48,8 +49,8 @@ pub fn write(
 
 // The parts' numbers, in record order.
 fn check_parts(labels: Labels, left: &[u8], right: &[u8], run: &[u8], question: &[u8]) -> Check
-    ensures { λ r. ⌜ r ≡ checkParts labels (now (left .entry)) (now (right .entry)) (now (run .entry))
-        (now (question .entry)) ⌝ }
+    ensures { λ r. ⌜ r ≡ checkParts (caseWith labels (now (left .entry)) (now (right .entry)) (now (run .entry))
+        (now (question .entry))) ⌝ }
 {
     let tables_and_run = check_joint(labels, left, right, run);
     labels
@@ -69,9 +70,8 @@ fn put_casebook(
 )
     requires { ⌜ Fitting (now left) (now right) (now run) (now question) (now out) ⌝ }
     ensures { λ r. ⌜ now (out .exit)
-        ≡ inFront (casebookBytes labels (now (left .entry)) (now (right .entry)) (now (run .entry))
-        (now (question .entry)))
-        (now (out .entry)) ⌝ }
+        ≡ inFront (casebookBytes (caseWith labels (now (left .entry)) (now (right .entry)) (now (run .entry))
+        (now (question .entry)))) (now (out .entry)) ⌝ }
 {
     let pairs = [labels.pairs];
     put_record(&mut out[0..], 1, &pairs);

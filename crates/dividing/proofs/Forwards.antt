@@ -10,7 +10,7 @@ use lib.Dec.{eqb}
 use borrow.Author.Tests.{ne-eqb}
 use Rattle.hml.specs.Lists.{same, _∈_, each, only, given}
 use Rattle.hml.specs.System.{Run, start, _▸_, move, idle, last}
-use Rattle.hml.specs.Formula.{Formula, or, fwd, fwdIdle}
+use Rattle.hml.specs.Formula.{Formula, fwd, fwdIdle}
 use Rattle.hml.specs.Spell.{spell}
 use Rattle.hml.proofs.Spelling.{spell-append}
 use Rattle.hml.specs.Quotient.{ors, ofPartner, quotient}

@@ -12,8 +12,8 @@ use lib.Dec.{eqb, ltb}
 use borrow.Author.Tests.{eq-eqb, ne-eqb, lt-ltb, eqb-true, eqb-false, ltb-true, ltb-false}
 use Rattle.hml.specs.Lists.{same}
 use Rattle.hml.proofs.Tests.{apart}
-use Rattle.hml.specs.System.{Step, Run, _▸_, move, idle, last}
-use Rattle.hml.specs.Formula.{Formula, not, and, or, back, backIdle, size}
+use Rattle.hml.specs.System.{Step, Run, _▸_, move, idle}
+use Rattle.hml.specs.Formula.{Formula, not, back, backIdle, size}
 use Rattle.hml.specs.Spell.{spell}
 use Rattle.hml.proofs.Spelling.{length-spell, spell-append}
 use Rattle.hml.specs.Quotient.{backBy, quotient}

@@ -1,5 +1,5 @@
 -- The boundary's answers by their cases, each from what the code knows at its return.
-use Prim.Native.Nat.{ℕ, _+_, _*_, _≤_}
+use Prim.Native.Nat.{ℕ, _+_, _*_}
 use mathlib.Core.Path.{_≡_, refl, sym, _∙_, ap}
 use mathlib.Core.Bool.{Bool, true, false, cond}
 use mathlib.Core.List.{List, [], _∷_}
@@ -8,7 +8,6 @@ use lib.Dec.{eqb}
 use borrow.Author.Tests.{ne-eqb}
 use Rattle.labels.specs.Refusals.{Answer, numberOf, refusedAs, giving}
 use Rattle.labels.specs.declared.refusal.Refusal.{Refusal}
-use Rattle.halves.specs.declared.side.Side.{Side}
 use Rattle.halves.specs.declared.side.Side.the-variants as side
 use Rattle.casebook.specs.Reading.{readOf, readAnswer}
 use Rattle.casebook.specs.declared.read.Parts.{Parts}

@@ -15,6 +15,7 @@ use Rattle.labels.specs.declared.label.Labels.{Labels}
 use Rattle.halves.specs.Cuts.{beyond, cutOf, knownOf, knownPart}
 use Rattle.halves.specs.declared.side.Side.{Side}
 use Rattle.halves.proofs.Cuts.{refused-empty}
+use Rattle.machines.specs.Cases.{Case}
 use Rattle.casebook.specs.Reading.{longestCasebook, readOf, readAnswer}
 use Rattle.casebook.specs.Writing.{writeOf, writeAnswer}
 use Rattle.casebook.proofs.RecordLaws.{Bytes}
@@ -75,8 +76,8 @@ casebook-read-apart s = apart nothing _ (omega arith)
 pub casebook-part-apart : (s : List ℕ) → Bytes s → (kind : ℕ) → Apart (placeIn kind) (readAnswer (readOf s))
 casebook-part-apart s bytes kind = apart (placeIn kind) _ (places-small kind _ (read-within s bytes))
 
-pub casebook-write-apart : (k : Labels) (l r j q : List ℕ) (room : ℕ) → Apart only (writeAnswer (writeOf k l r j q room))
-casebook-write-apart k l r j q room = only-apart _ (write-within k l r j q room) (omega (arith, longest-is))
+pub casebook-write-apart : (c : Case) (room : ℕ) → Apart only (writeAnswer (writeOf c room))
+casebook-write-apart c room = only-apart _ (write-within c room) (omega (arith, longest-is))
 
 -- of verdicts
 pub joint-verdict-apart : (k : Labels) (l r s f : List ℕ) (point : ℕ)
@@ -103,10 +104,10 @@ pub quotient-apart : (k : Labels) (l r a b f : List ℕ) (side : Side) (point ro
     → Apart only (quotientAnswer (byHalf k l r a b f side point room))
 quotient-apart k l r a b f side point room = only-apart _ (half-within k l r a b f side point room) (omega arith)
 
-pub quotient-of-splitting-apart : (k : Labels) (l r s f : List ℕ) (n : ℕ) (side : Side) (point room : ℕ)
-    → Apart only (quotientAnswer (byNumber k l r s f n side point room))
-quotient-of-splitting-apart k l r s f n side point room =
-    only-apart _ (number-within k l r s f n side point room) (omega arith)
+pub quotient-of-splitting-apart : (c : Case) (n : ℕ) (side : Side) (point room : ℕ)
+    → Apart only (quotientAnswer (byNumber c n side point room))
+quotient-of-splitting-apart c n side point room =
+    only-apart _ (number-within c n side point room) (omega arith)
 
 pub line-office-apart : (k : Labels) (l r a b f : List ℕ) (side : Side) (point : ℕ)
     → Apart twoBits (lineAnswer (officeOf k l r a b f side point))

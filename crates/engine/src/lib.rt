@@ -32,6 +32,7 @@ ghost use lib.ListN.{length};
 ghost use Rattle.labels.specs.Labels.{ofPairs};
 ghost use Rattle.labels.specs.Refusals.{refusedAs};
 ghost use Rattle.halves.specs.Cuts.{cutOf};
+ghost use Rattle.machines.specs.Cases.{caseWith};
 ghost use Rattle.casebook.specs.Reading.{longestCasebook, readOf, readAnswer};
 ghost use Rattle.casebook.specs.Writing.{writeOf, writtenOf, writeAnswer};
 ghost use Rattle.verdict.specs.Verdicts.{jointVerdict, halfVerdict, verdictAnswer, bitOf};
@@ -114,10 +115,12 @@ pub extern "C" fn yenuslap_casebook_write(
     out: &mut [u8],
 ) -> u64
     ensures { λ r. ⌜ r ≡ packed only (writeAnswer
-        (writeOf (ofPairs k) (now (left .entry)) (now (right .entry)) (now (run .entry)) (now (question .entry))
+        (writeOf (caseWith (ofPairs k) (now (left .entry)) (now (right .entry)) (now (run .entry))
+        (now (question .entry)))
         (length (now (out .entry))))) ⌝ }
     ensures { λ r. ⌜ now (out .exit) ≡
-        writtenOf (ofPairs k) (now (left .entry)) (now (right .entry)) (now (run .entry)) (now (question .entry))
+        writtenOf (caseWith (ofPairs k) (now (left .entry)) (now (right .entry)) (now (run .entry))
+        (now (question .entry)))
         (now (out .entry)) ⌝ }
 {
     let labels = Labels::of_pairs(k);
@@ -321,12 +324,11 @@ pub extern "C" fn yenuslap_quotient_of_splitting<'a>(
     out: &mut [u8],
 ) -> u64
     ensures { λ r. ⌜ r ≡ packed only (quotientAnswer
-        (byNumber (ofPairs k) (now (left .entry)) (now (right .entry)) (now (run .entry)) (now (question .entry)) number
-        (sideOf side) point (length (now (out .entry))))) ⌝ }
+        (byNumber (caseWith (ofPairs k) (now (left .entry)) (now (right .entry)) (now (run .entry))
+        (now (question .entry))) number (sideOf side) point (length (now (out .entry))))) ⌝ }
     ensures { λ r. ⌜ now (out .exit) ≡
-        byNumberOutput (ofPairs k) (now (left .entry)) (now (right .entry)) (now (run .entry)) (now (question .entry))
-        number
-        (sideOf side) point (now (out .entry)) ⌝ }
+        byNumberOutput (caseWith (ofPairs k) (now (left .entry)) (now (right .entry)) (now (run .entry))
+        (now (question .entry))) number (sideOf side) point (now (out .entry)) ⌝ }
 {
     let labels = Labels::of_pairs(k);
     let side = side_of(side);

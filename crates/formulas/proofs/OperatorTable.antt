@@ -97,7 +97,8 @@ module _ (F G : ℕ → Bool) (o : ℕ) where
   below (suc n) e h = pick (eqb o n) refl (below n (both-true {a = Bool·beq (F n) (G n)} {b = agree-below F G n} e .1))
     where
       pick : (b : Bool) → eqb o n ≡ b → (o < n → F o ≡ G o) → F o ≡ G o
-      pick true z k = rw (eqb-true o n z) (same-value _ _ (both-true {a = Bool·beq (F n) (G n)} {b = agree-below F G n} e .0))
+      pick true z k = rw (eqb-true o n z)
+          (same-value _ _ (both-true {a = Bool·beq (F n) (G n)} {b = agree-below F G n} e .0))
       pick false z k = k (omega (arith, h, eqb-false o n z))
 
   by-table : agree-below F G (length operators) ≡ true → (length operators ≤ o → F o ≡ G o) → F o ≡ G o

@@ -2,7 +2,7 @@
 -- the next number, of an even one (from 2) the number before." This is one `Pairing` for each k. A `Pairing` holds two
 -- proofs, that nobody is the partner of 0 and that partners have each other: they stand between the partners and
 -- `pairs`.
-use mathlib.Core.Path.{_≡_, refl, _∙_, ap}
+use mathlib.Core.Path.{_≡_, refl, ap}
 use mathlib.Core.Bool.{Bool, true, false, cond}
 use mathlib.Core.Option.{Option, none, some}
 use Prim.Native.Nat.{ℕ, zero, suc, _+_, _-_, _*_, _%_, _≤_, _<_, min}

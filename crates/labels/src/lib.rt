@@ -1,4 +1,4 @@
-// The refusals of document 01, and its labels; the smaller of two numbers. The lowest crate with code.
+// The refusals of document 01, and its labels; the smaller of two numbers.
 pub mod label;
 pub mod number;
 pub mod refusal;

@@ -20,6 +20,7 @@ use Rattle.halves.specs.Cuts.{knownOf, knownPart, otherPart, cutOf}
 use Rattle.halves.specs.declared.side.Side.{Side}
 use Rattle.halves.proofs.Cuts.{cut-stopped}
 use Rattle.machines.specs.Joints.{jointOf}
+use Rattle.machines.specs.Cases.{caseWith}
 use Rattle.formulas.specs.Formulas.{questionLimit, quotientLimit, checkFormula}
 use Rattle.verdict.specs.Verdicts.{verdictOf, jointVerdict, halfVerdict}
 use Rattle.joining.specs.Joinings.{joinBytes, checkHalves}
@@ -77,7 +78,7 @@ module _ (k : Labels) (l r s a b f : List ℕ) (side : Side) (point : ℕ) (log 
           (answers : (room : ℕ) → answer room ≡ answerOf Sound (some ψ) room)
           (outputs : (out : List ℕ) → output out ≡ outputAfter Sound (some ψ) out) where
         tree-given : size ψ ≤ quotientLimit → (out : List ℕ) → 2 * size ψ ≤ length out
-            → Given k l r s a b f side point answer output ψ out
+            → Given (caseWith k l r s f) a b side point answer output ψ out
         tree-given h out i =
             let bytes : take (2 * size ψ) (output out) ≡ spell ψ [] = ap (take (2 * size ψ)) (outputs out)
             ∙ text-written ψ h out i in
@@ -90,7 +91,7 @@ module _ (k : Labels) (l r s a b f : List ℕ) (side : Side) (point : ℕ) (log 
                   ∙ other-verdict h;
             }
 
-        decomposed : Decomposed k l r s a b f side point answer output
+        decomposed : Decomposed (caseWith k l r s f) a b side point answer output
         decomposed = record {
           question = φ;
           asked = asked;
@@ -105,10 +106,12 @@ module _ (k : Labels) (l r s a b f : List ℕ) (side : Side) (point : ℕ) (log 
           given = tree-given;
         }
 
--- demand 3
-pub demand-three : DemandThree
+-- demand 3, of the case of these parts
+by-parts : (k : Labels) (l r s f : List ℕ) (side : Side) (point : ℕ) → checkLog k l r s ≡ Sound
+    → checkFormula k questionLimit f ≡ Sound → point ≤ steps (jointOf s)
+    → Demand (caseWith k l r s f) side point
 unfolding byHalf byHalfOutput byNumber byNumberOutput treeByNumber splittingLimit
-demand-three k l r s f side point log question within = record {
+by-parts k l r s f side point log question within = record {
   byHalves = byHalves;
   bySplittings = λ n h. let (e, j, _, _, _) = splitting-joins k l r s n log h in byHalves _ _ e j;
   byNumbers = λ n h i.
@@ -130,10 +133,15 @@ demand-three k l r s f side point log question within = record {
     asked = question-read k f question .1
 
     byHalves : (a b : List ℕ) → checkHalves k l r a b ≡ Sound → joinBytes k a b ≡ s
-        → Decomposed k l r s a b f side point (byHalf k l r a b f side point) (byHalfOutput k l r a b f side point)
+        → Decomposed (caseWith k l r s f) a b side point (byHalf k l r a b f side point)
+        (byHalfOutput k l r a b f side point)
     byHalves a b e j =
         let split = split-run k l r s a b point e j within in
         let tree = tree-is k l r s a b f side point parts within split φ asked in
         let sound = by-half-sound k l r s parts point within f a b split question side in
         decomposed k l r s a b f side point parts within split φ asked question _ _ (λ room. rw (sound, tree))
         (λ out. rw (sound, tree))
+
+-- demand 3
+pub demand-three : DemandThree
+demand-three c = by-parts (c .labels) (c .left) (c .right) (c .run) (c .question)

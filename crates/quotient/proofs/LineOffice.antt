@@ -30,6 +30,7 @@ use Rattle.halves.specs.declared.side.Known.{Known}
 use Rattle.halves.specs.declared.side.Known.the-variants as known
 use Rattle.halves.proofs.Cuts.{cut-points}
 use Rattle.machines.specs.Joints.{jointOf}
+use Rattle.machines.specs.Cases.{caseWith}
 use Rattle.verdict.specs.Verdicts.{verdictOf, jointVerdict, halfVerdict}
 use Rattle.verdict.specs.declared.answer.Verdict.{Verdict}
 use Rattle.joining.specs.Joinings.{joinBytes, checkHalves}
@@ -108,9 +109,10 @@ module _ (k : Labels) (l r a b f : List ℕ) (side : Side) (point : ℕ) where
         go known.Left m n i = omega (arith, m, i)
         go known.Right m n i = omega (arith, n, i)
 
-    demand : Decomposed k l r log a b f side point (byHalf k l r a b f side point) (byHalfOutput k l r a b f side point)
+    demand : Decomposed (caseWith k l r log f) a b side point (byHalf k l r a b f side point)
+        (byHalfOutput k l r a b f side point)
     demand =
-        demand-three k l r log f side point (joined-log k l r a b halves-sound)
+        demand-three (caseWith k l r log f) side point (joined-log k l r a b halves-sound)
         (by-half-checked k l r a b f side point parts-sound .0 .question) point-within .byHalves a b halves-sound refl
 
     small : nodesOf tree ≤ 4096

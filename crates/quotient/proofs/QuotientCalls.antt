@@ -27,6 +27,7 @@ use Rattle.halves.specs.declared.side.Known.{Known}
 use Rattle.halves.specs.declared.side.Known.the-variants as known
 use Rattle.halves.proofs.Cuts.{cut-stopped, cut-accepted}
 use Rattle.machines.specs.Joints.{jointOf, checkJoint}
+use Rattle.machines.specs.Cases.{caseWith}
 use Rattle.formulas.specs.Formulas.{questionLimit, checkFormula}
 use Rattle.joining.specs.Joinings.{checkHalves}
 use Rattle.splitting.specs.Splittings.{splittingsOf, checkLog, splittingLimit, checkCount, checkNumber, checkSplit}
@@ -184,7 +185,7 @@ module _ (k : Labels) (l r s f : List ℕ) (n point : ℕ) where
       go Sound e = rw (sound-log k l r s e .run .counted)
 
   -- what the call judges: the log, what is asked of it, the number
-  number-regroup : checkByNumber k l r s f n point
+  number-regroup : checkByNumber (caseWith k l r s f) n point
       ≡ thenOf (checkLog k l r s) (thenOf (checkAskedRun k s f point) (checkNumber k l r s n))
   unfolding checkByNumber checkNumber checkCount checkLog checkAskedRun firstOf
   number-regroup =
@@ -196,7 +197,7 @@ module _ (k : Labels) (l r s f : List ℕ) (n point : ℕ) where
 
   -- where something asked is refused, the log or that decides
   asked-log-decides : (x : Refusal) → checkAskedLog k l r s f point ≡ Refused x
-      → checkByNumber k l r s f n point ≡ Refused x
+      → checkByNumber (caseWith k l r s f) n point ≡ Refused x
   unfolding checkAskedLog
   asked-log-decides x e = number-regroup ∙ go (checkAskedRun k s f point) e
     where
@@ -206,16 +207,17 @@ module _ (k : Labels) (l r s f : List ℕ) (n point : ℕ) where
       go (Refused y) e = e
 
   pub labels-refuse : (x : Refusal) → checkLabels k ≡ Refused x → (side : Side) (out : List ℕ)
-      → (answer.Refused x ≡ byNumber k l r s f n side point (length out))
-      × (out ≡ byNumberOutput k l r s f n side point out)
+      → (answer.Refused x ≡ byNumber (caseWith k l r s f) n side point (length out))
+      × (out ≡ byNumberOutput (caseWith k l r s f) n side point out)
   unfolding byNumber byNumberOutput checkByNumber firstOf
-  labels-refuse x e side out = part-refused (checkByNumber k l r s f n point) _ out x (rw e)
+  labels-refuse x e side out = part-refused (checkByNumber (caseWith k l r s f) n point) _ out x (rw e)
 
   pub asked-log-refuses : (x : Refusal) → checkAskedLog k l r s f point ≡ Refused x → (side : Side) (out : List ℕ)
-      → (answer.Refused x ≡ byNumber k l r s f n side point (length out))
-      × (out ≡ byNumberOutput k l r s f n side point out)
+      → (answer.Refused x ≡ byNumber (caseWith k l r s f) n side point (length out))
+      × (out ≡ byNumberOutput (caseWith k l r s f) n side point out)
   unfolding byNumber byNumberOutput
-  asked-log-refuses x e side out = part-refused (checkByNumber k l r s f n point) _ out x (asked-log-decides x e)
+  asked-log-refuses x e side out = part-refused (checkByNumber (caseWith k l r s f) n point) _ out x
+      (asked-log-decides x e)
 
   module _ (asked : checkAskedLog k l r s f point ≡ Sound) where
     -- nothing asked is refused
@@ -228,7 +230,7 @@ module _ (k : Labels) (l r s f : List ℕ) (n point : ℕ) where
         go (Refused y) e = let z = both-sound (checkLog k l r s) (Refused y) e .1 in absurd (apart cc)
 
     -- the number decides
-    number-decides : checkByNumber k l r s f n point ≡ checkNumber k l r s n
+    number-decides : checkByNumber (caseWith k l r s f) n point ≡ checkNumber k l r s n
     unfolding checkNumber checkCount firstOf
     number-decides = number-regroup ∙ rw asked-sound (go (checkLog k l r s) _ _)
       where
@@ -237,7 +239,8 @@ module _ (k : Labels) (l r s f : List ℕ) (n point : ℕ) where
         go (Refused x) m d = refl
 
     -- and so does a split into outputs that have room for every half: it gives no 18
-    split-decides : (x y : ℕ) → (401 ≤ x) × (401 ≤ y) → checkSplit k l r s n x y ≡ checkByNumber k l r s f n point
+    split-decides : (x y : ℕ) → (401 ≤ x) × (401 ≤ y) → checkSplit k l r s n x y ≡ checkByNumber (caseWith k l r s f) n
+        point
     unfolding checkSplit firstOf
     split-decides x y (i, j) = go (checkNumber k l r s n) refl ∙ sym number-decides
       where
@@ -250,11 +253,12 @@ module _ (k : Labels) (l r s f : List ℕ) (n point : ℕ) where
 
     pub split-refuses : (x y : ℕ) (z : Refusal) → splitOf k l r s n x y ≡ splitting.Refused z → (401 ≤ x) × (401 ≤ y)
         → (side : Side) (out : List ℕ)
-        → (answer.Refused z ≡ byNumber k l r s f n side point (length out))
-        × (out ≡ byNumberOutput k l r s f n side point out)
+        → (answer.Refused z ≡ byNumber (caseWith k l r s f) n side point (length out))
+        × (out ≡ byNumberOutput (caseWith k l r s f) n side point out)
     unfolding splitOf byNumber byNumberOutput
     split-refuses x y z e room side out =
-        part-refused (checkByNumber k l r s f n point) _ out z (sym (split-decides x y room) ∙ halved-refused _ _ z e)
+        part-refused (checkByNumber (caseWith k l r s f) n point) _ out z (sym (split-decides x y room)
+        ∙ halved-refused _ _ z e)
 
     -- the split gives the halves of the number
     module _ (x y m : ℕ) (told : splitOf k l r s n x y ≡ splitting.Halves m) (room : (401 ≤ x) × (401 ≤ y)) where
@@ -262,7 +266,7 @@ module _ (k : Labels) (l r s f : List ℕ) (n point : ℕ) where
       unfolding splitOf
       split-sound = halves-answered _ _ m told .0
 
-      by-number-passed : checkByNumber k l r s f n point ≡ Sound
+      by-number-passed : checkByNumber (caseWith k l r s f) n point ≡ Sound
       by-number-passed = sym (split-decides x y room) ∙ split-sound
 
       number-sound : checkNumber k l r s n ≡ Sound
@@ -316,7 +320,8 @@ module _ (k : Labels) (l r s f : List ℕ) (n point : ℕ) where
           → h ≡ cutOf (take m u) (take m v) side point
           → q ≡ answerOf (checkDivision k t h f) (quotientBy k t (halfOf h) f) (length out)
           → z ≡ outputAfter (checkDivision k t h f) (quotientBy k t (halfOf h) f) out
-          → (q ≡ byNumber k l r s f n side point (length out)) × (z ≡ byNumberOutput k l r s f n side point out)
+          → (q ≡ byNumber (caseWith k l r s f) n side point (length out))
+          × (z ≡ byNumberOutput (caseWith k l r s f) n side point out)
       unfolding byNumber byNumberOutput treeByNumber
       by-number-divided side t h out z q table half c d =
           let cut : h ≡ cutOf (leftHalf k l r s n) (rightHalf k l r s n) side point = rw (fronts .0, fronts .1)

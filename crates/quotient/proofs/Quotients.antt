@@ -45,8 +45,8 @@ question-fits k f e =
     let (φ, spelled, s, l, n) = judges (judged-formula k questionLimit f) .0 e in
     judges (judged-formula k quotientLimit f) .1 (φ, spelled, omega (arith, s), l, n)
 
--- its quotient, if it has at most 4,096 nodes, is one too: the labels are those of the call, and forward modalities nest
--- no deeper
+-- its quotient, if it has at most 4,096 nodes, is one too: its labels are those of the call, and forward modalities
+-- nest no deeper
 pub quotient-fits : (k : Labels) (t : List ℕ) (x : Run ℕ) (f : List ℕ) (φ : Formula) → f ≡ spell φ []
     → checkFormula k questionLimit f ≡ Sound
     → size (quotient (pairing k) (tableOf t) φ x) ≤ quotientLimit

@@ -23,6 +23,7 @@ use Rattle.halves.specs.declared.side.Known.{Known}
 use Rattle.halves.specs.declared.side.Known.the-variants as known
 use Rattle.halves.proofs.Cuts.{cut-points}
 use Rattle.machines.specs.Joints.{jointOf, checkJoint}
+use Rattle.machines.specs.Cases.{caseWith}
 use Rattle.formulas.specs.Formulas.{questionLimit, quotientLimit, checkFormula}
 use Rattle.verdict.specs.Verdicts.{checkJointCall, checkHalfCall}
 use Rattle.joining.specs.Joinings.{halvesMatch, joinBytes, checkHalves}
@@ -103,7 +104,7 @@ module _ (k : Labels) (l r s : List ℕ) (log : LogParts k l r s) (point : ℕ) 
 
     -- nor does the quotient by the splitting of a number
     pub by-number-sound : checkFormula k questionLimit f ≡ Sound → (n : ℕ) → n < length (splittingsOf k l r s)
-        → length (splittingsOf k l r s) ≤ 65535 → checkByNumber k l r s f n point ≡ Sound
+        → length (splittingsOf k l r s) ≤ 65535 → checkByNumber (caseWith k l r s f) n point ≡ Sound
     unfolding checkByNumber firstOf splittingLimit
     by-number-sound e n h i =
         rw (

@@ -4,6 +4,7 @@ use mathlib.Core.List.{List}
 use Rattle.labels.proofs.Answers.{Within, none, next}
 use Rattle.labels.specs.declared.label.Labels.{Labels}
 use Rattle.halves.specs.declared.side.Side.{Side}
+use Rattle.machines.specs.Cases.{Case}
 use Rattle.formulas.specs.Formulas.{quotientLimit}
 use Rattle.verdict.proofs.Values.{bit-small}
 use Rattle.dividing.specs.Quotients.{quotientAnswer}
@@ -18,10 +19,10 @@ pub half-within : (k : Labels) (l r a b f : List ℕ) (side : Side) (point room 
 unfolding byHalf
 half-within k l r a b f side point room = quotient-within _ _ room
 
-pub number-within : (k : Labels) (l r s f : List ℕ) (n : ℕ) (side : Side) (point room : ℕ)
-    → Within (2 * quotientLimit) (quotientAnswer (byNumber k l r s f n side point room) .values)
+pub number-within : (c : Case) (n : ℕ) (side : Side) (point room : ℕ)
+    → Within (2 * quotientLimit) (quotientAnswer (byNumber c n side point room) .values)
 unfolding byNumber
-number-within k l r s f n side point room = quotient-within _ _ room
+number-within c n side point room = quotient-within _ _ room
 
 -- of the line office: each at most 1
 pub line-within : (a : LineOffice) → Within 1 (lineAnswer a .values)

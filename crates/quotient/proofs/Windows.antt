@@ -30,6 +30,7 @@ use Rattle.halves.specs.declared.side.Known.the-variants as known
 use Rattle.machines.specs.Joints.{jointOf}
 use Rattle.machines.proofs.JointRuns.{joint-stop}
 use Rattle.machines.specs.Working.{Tables, tablesOf}
+use Rattle.machines.specs.Cases.{caseWith}
 use Rattle.machines.proofs.JointParts.{joint-until, joint-from, joint-later}
 use Rattle.formulas.specs.Formulas.{formulaOf}
 use Rattle.splitting.specs.Splittings.{splittingsOf, checkLog, leftHalf, rightHalf}
@@ -55,8 +56,8 @@ pub record Windowed (k : Labels) (l r s : List ℕ) (p b : ℕ) : Type 0 where
   -- the quotient by the known half of splitting n, at the point, is that by the window's splitting
   pub tree : (f : List ℕ) (φ : Formula) → formulaOf f ≡ some φ → backs φ ≤ b → (n : ℕ)
       → n < length (splittingsOf k l r s) → (side : Side)
-      → treeByNumber k l r s f n side p
-      ≡ treeByNumber k l r (windowOf s p b) f
+      → treeByNumber (caseWith k l r s f) n side p
+      ≡ treeByNumber (caseWith k l r (windowOf s p b) f)
       ((n / length (splittingsOf k l r (restOf s p))) % length (splittingsOf k l r (windowOf s p b))) side (p - (p - b))
 
 -- an accepted log, at a point of it
@@ -101,7 +102,8 @@ module _ (k : Labels) (l r s : List ℕ) (p b : ℕ) (sound : checkLog k l r s �
     unfolding windowOf
     window-read =
         joint-stop (drop (3 * (p - b)) s) (p - (p - b))
-        ∙ rw (joint-later k l r tables s (parts .run) (p - b) (omega (arith, within))) (window-cut b p (jointOf s) within)
+        ∙ rw (joint-later k l r tables s (parts .run) (p - b) (omega (arith, within)))
+        (window-cut b p (jointOf s) within)
 
     window-points : steps (jointOf (windowOf s p b)) ≡ p - (p - b)
     window-points = ap steps window-read ∙ window-steps b p (jointOf s) within

@@ -7,7 +7,7 @@ use mathlib.Core.List.{List, [], _∷_}
 use mathlib.Core.Option.{Option}
 use lib.ListN.{length}
 use lib.Dec.{leb, ltb}
-use Rattle.hml.specs.System.{steps, stop}
+use Rattle.hml.specs.System.{Run, steps, stop}
 use Rattle.hml.specs.Formula.{Formula}
 use Rattle.labels.specs.Refusals.{refusedIf, firstOf, Answer, refusedAs, giving}
 use Rattle.labels.specs.Labels.{checkLabels}
@@ -21,6 +21,7 @@ use Rattle.halves.specs.Halves.{halfOf, checkHalf}
 use Rattle.halves.specs.Cuts.{knownOf, knownPart, otherPart, beyond}
 use Rattle.halves.specs.declared.side.Side.{Side}
 use Rattle.machines.specs.Joints.{jointOf, checkJoint}
+use Rattle.machines.specs.Cases.{Case}
 use Rattle.formulas.specs.Formulas.{questionLimit, checkFormula}
 use Rattle.verdict.specs.Verdicts.{jointHolds, halfHolds, bitOf}
 use Rattle.joining.specs.Joinings.{halvesMatch, joinBytes}
@@ -59,30 +60,39 @@ unfoldable pub byHalfOutput : Labels → List ℕ → List ℕ → List ℕ → 
 byHalfOutput k l r a b f side point out =
     outputAfter (checkByHalf k l r a b f side point) (treeByHalf k l r a b f side point) out
 
+-- of a case: the splittings of its run, and the left and the right half of the one with a number
+abbrev pub splittingsIn : Case → List (Run ℕ × Run ℕ)
+splittingsIn c = splittingsOf (c .labels) (c .left) (c .right) (c .run)
+
+abbrev pub leftIn : Case → ℕ → List ℕ
+leftIn c n = leftHalf (c .labels) (c .left) (c .right) (c .run) n
+
+abbrev pub rightIn : Case → ℕ → List ℕ
+rightIn c n = rightHalf (c .labels) (c .left) (c .right) (c .run) n
+
 -- the quotient by the known half of the splitting of a number
-unfoldable pub treeByNumber : Labels → List ℕ → List ℕ → List ℕ → List ℕ → ℕ → Side → ℕ → Option Formula
-treeByNumber k l r s f n side point = treeByHalf k l r (leftHalf k l r s n) (rightHalf k l r s n) f side point
+unfoldable pub treeByNumber : Case → ℕ → Side → ℕ → Option Formula
+treeByNumber c n side point =
+    treeByHalf (c .labels) (c .left) (c .right) (leftIn c n) (rightIn c n) (c .question) side point
 
 -- what a call judges that names a splitting by its number: the parts' numbers; 12 on the joint run; 13; 14
-unfoldable pub checkByNumber : Labels → List ℕ → List ℕ → List ℕ → List ℕ → ℕ → ℕ → Check
-checkByNumber k l r s f n point = firstOf
-    (checkLabels k
-    ∷ checkTable k l
-    ∷ checkTable k r
-    ∷ checkJoint k l r s
-    ∷ checkFormula k questionLimit f
-    ∷ refusedIf (ltb (steps (jointOf s)) point) PointBeyond
-    ∷ refusedIf (ltb splittingLimit (length (splittingsOf k l r s))) TooManySplittings
-    ∷ refusedIf (leb (length (splittingsOf k l r s)) n) NoSuchSplitting
+unfoldable pub checkByNumber : Case → ℕ → ℕ → Check
+checkByNumber c n point = firstOf
+    (checkLabels (c .labels)
+    ∷ checkTable (c .labels) (c .left)
+    ∷ checkTable (c .labels) (c .right)
+    ∷ checkJoint (c .labels) (c .left) (c .right) (c .run)
+    ∷ checkFormula (c .labels) questionLimit (c .question)
+    ∷ refusedIf (ltb (steps (jointOf (c .run))) point) PointBeyond
+    ∷ refusedIf (ltb splittingLimit (length (splittingsIn c))) TooManySplittings
+    ∷ refusedIf (leb (length (splittingsIn c)) n) NoSuchSplitting
     ∷ [])
 
-unfoldable pub byNumber : Labels → List ℕ → List ℕ → List ℕ → List ℕ → ℕ → Side → ℕ → ℕ → Quotient
-byNumber k l r s f n side point room =
-    answerOf (checkByNumber k l r s f n point) (treeByNumber k l r s f n side point) room
+unfoldable pub byNumber : Case → ℕ → Side → ℕ → ℕ → Quotient
+byNumber c n side point room = answerOf (checkByNumber c n point) (treeByNumber c n side point) room
 
-unfoldable pub byNumberOutput : Labels → List ℕ → List ℕ → List ℕ → List ℕ → ℕ → Side → ℕ → List ℕ → List ℕ
-byNumberOutput k l r s f n side point out =
-    outputAfter (checkByNumber k l r s f n point) (treeByNumber k l r s f n side point) out
+unfoldable pub byNumberOutput : Case → ℕ → Side → ℕ → List ℕ → List ℕ
+byNumberOutput c n side point out = outputAfter (checkByNumber c n point) (treeByNumber c n side point) out
 
 -- the line office: one statement put to the whole line, stopped at the point
 unfoldable pub lineHolds : Labels → List ℕ → List ℕ → List ℕ → List ℕ → List ℕ → ℕ → Bool

@@ -11,6 +11,7 @@ use splitting::split::Splitting;
 use splitting::split::split;
 ghost use mathlib.Core.Path.{_≡_};
 ghost use lib.ListN.{length};
+ghost use Rattle.machines.specs.Cases.{caseWith};
 ghost use Rattle.quotient.specs.Calls.{byNumber, byNumberOutput};
 
 // Writes the quotient by the known half, stopped at the point, of the splitting of a number: the parts' numbers, 12,
@@ -26,13 +27,13 @@ pub fn by_number<'a>(
     point: usize,
     out: &mut [u8],
 ) -> Quotient
-    ensures { λ r. ⌜ r ≡ byNumber labels (now (left .entry)) (now (right .entry)) (now (run .entry))
-        (now (question .entry))
+    ensures { λ r. ⌜ r ≡ byNumber
+        (caseWith labels (now (left .entry)) (now (right .entry)) (now (run .entry)) (now (question .entry)))
         number side point (length (now (out .entry))) ⌝ }
     ensures { λ r. ⌜ now (out .exit)
-        ≡ byNumberOutput labels (now (left .entry)) (now (right .entry)) (now (run .entry)) (now (question .entry))
-        number
-        side point (now (out .entry)) ⌝ }
+        ≡ byNumberOutput
+        (caseWith labels (now (left .entry)) (now (right .entry)) (now (run .entry)) (now (question .entry)))
+        number side point (now (out .entry)) ⌝ }
 {
     match labels.check() {
         Check::Sound => {}

@@ -16,16 +16,15 @@ use Rattle.labels.specs.declared.refusal.Refusal.the-variants.{OutputTooShort}
 use Rattle.labels.specs.declared.refusal.Check.{Check}
 use Rattle.labels.specs.declared.refusal.Check.the-variants as check
 use Rattle.labels.proofs.Refusals.{both-sound, unrefused}
-use Rattle.labels.specs.declared.label.Labels.{Labels}
-use Rattle.halves.specs.declared.side.Side.the-variants as side
+use Rattle.machines.specs.Cases.{Case}
 use Rattle.dividing.specs.Quotients.{nodesOf, textOf, checkSize, checkTree, written, answerOf, outputAfter}
 use Rattle.dividing.specs.declared.divide.Quotient.{Quotient}
 use Rattle.dividing.specs.declared.divide.Quotient.the-variants as quotient
 use Rattle.dividing.proofs.Answers.{text-length}
-use Rattle.quotient.specs.Calls.{treeByNumber, checkByNumber, byNumber, byNumberOutput}
+use Rattle.quotient.specs.Calls.{byNumber, byNumberOutput}
 use Rattle.digits.specs.Digits.{decimal, hexadecimal}
 use Rattle.sheet_lines.specs.Sheets.{blank, dash, lineFeed, textRoom, endingOf, quotientAt, textAt}
-use Rattle.sheet_lines.specs.Working.{putAt, endingIn}
+use Rattle.sheet_lines.specs.Working.{putAt, checkAt, treeAt, answerAt, quotientIn, outputIn, endingIn}
 use Rattle.digits.proofs.HexadecimalLaws.{length-hexadecimal}
 use Rattle.sheet_lines.proofs.LineLaws.{digits-two, number-small}
 use Rattle.sheet_lines.proofs.Puts.{put-first}
@@ -60,30 +59,27 @@ module _ (parts : Check) (tree : Option Formula) (out : List ℕ) where
       go (check.Refused x) s w = absurd (apart cc)
 
 -- the call for a quotient, at the end of a window
-module _ (k : Labels) (l r w f : List ℕ) (letter t : ℕ) where
+module _ (c : Case) (letter t : ℕ) where
   abbrev q : ℕ
-  q = length w / 3
+  q = length (c .run) / 3
 
   module _ (text : List ℕ) (size : length text ≡ 8192) where
-    module _ (n : ℕ) (told : byNumber k l r w f t side.Right q (length text) ≡ quotient.Written n) where
-      pub text-told : (z : List ℕ) → z ≡ byNumberOutput k l r w f t side.Right q text
-          → (take n z ≡ textAt k l r w f q t) × (n ≡ length (textAt k l r w f q t)) × (n ≤ 8192)
+    module _ (n : ℕ) (told : quotientIn c t (length text) ≡ quotient.Written n) where
+      pub text-told : (z : List ℕ) → z ≡ outputIn c t text
+          → (take n z ≡ textAt c q t) × (n ≡ length (textAt c q t)) × (n ≤ 8192)
       unfolding textAt byNumber byNumberOutput
       text-told z e =
-          let (a, b, c) = written-bytes (checkByNumber k l r w f t q) (treeByNumber k l r w f t side.Right q) text n
-          told in
-          (ap (take n) e ∙ a, b, omega (arith, c, size))
+          let (a, b, d) = written-bytes (checkAt c q t) (treeAt c q t) text n told in
+          (ap (take n) e ∙ a, b, omega (arith, d, size))
 
-      pub ending-written : endingIn k l r w f letter t
-          ≡ hexadecimal (textAt k l r w f q t) ++ (blank ∷ letter ∷ lineFeed ∷ [])
+      pub ending-written : endingIn c letter t ≡ hexadecimal (textAt c q t) ++ (blank ∷ letter ∷ lineFeed ∷ [])
       unfolding endingIn endingOf quotientAt
-      ending-written = let e : byNumber k l r w f t side.Right q textRoom ≡ quotient.Written n = rw size at told in rw e
+      ending-written = let e : quotientIn c t textRoom ≡ quotient.Written n = rw size at told in rw e
 
-    pub ending-refused : (x : Refusal) → byNumber k l r w f t side.Right q (length text) ≡ quotient.Refused x
-        → endingIn k l r w f letter t ≡ decimal (numberOf x) ++ (blank ∷ dash ∷ lineFeed ∷ [])
+    pub ending-refused : (x : Refusal) → quotientIn c t (length text) ≡ quotient.Refused x
+        → endingIn c letter t ≡ decimal (numberOf x) ++ (blank ∷ dash ∷ lineFeed ∷ [])
     unfolding endingIn endingOf quotientAt
-    ending-refused x told =
-        let e : byNumber k l r w f t side.Right q textRoom ≡ quotient.Refused x = rw size at told in rw e
+    ending-refused x told = let e : quotientIn c t textRoom ≡ quotient.Refused x = rw size at told in rw e
 
 -- an ending that was written to the front of a buffer
 pub ending-front : (xs ys e d : List ℕ) (n : ℕ) → length xs ≡ 16387 → e ≡ d → n ≡ length d → n ≤ 16387
@@ -109,39 +105,39 @@ length-refusal x = (
 )
 
 -- what is then written to a buffer is the ending
-module _ (k : Labels) (l r w f : List ℕ) (letter t : ℕ) (text : List ℕ) (size : length text ≡ 8192) (xs ys : List ℕ)
+module _ (c : Case) (letter t : ℕ) (text : List ℕ) (size : length text ≡ 8192) (xs ys : List ℕ)
     (room : length xs ≡ 16387) (m : ℕ) where
   abbrev Ending : Type 0
-  Ending = (m ≡ length (endingIn k l r w f letter t)) × (take m ys ≡ endingIn k l r w f letter t) × (m ≤ 16387)
+  Ending = (m ≡ length (endingIn c letter t)) × (take m ys ≡ endingIn c letter t) × (m ≤ 16387)
 
-  pub fields-ending : (n : ℕ) → byNumber k l r w f t side.Right (length w / 3) (length text) ≡ quotient.Written n
-      → (z : List ℕ) → z ≡ byNumberOutput k l r w f t side.Right (length w / 3) text
+  pub fields-ending : (n : ℕ) → quotientIn c t (length text) ≡ quotient.Written n
+      → (z : List ℕ) → z ≡ outputIn c t text
       → m ≡ 2 * length (take n z) + 3 → ys ≡ putAt xs 0 (hexadecimal (take n z) ++ (blank ∷ letter ∷ lineFeed ∷ []))
       → Ending
   fields-ending n told z e p q =
-      let (a, b, c) = text-told k l r w f letter t text size n told z e in
+      let (a, b, i) = text-told c letter t text size n told z e in
       let d = length-fields (take n z) letter in
       ending-front xs ys _ _ m room
-      (ending-written k l r w f letter t text size n told
+      (ending-written c letter t text size n told
       ∙ ap (λ x. hexadecimal x ++ (blank ∷ letter ∷ lineFeed ∷ [])) (sym a)) (p ∙ sym d)
-      (omega (arith, p, ap length a, b, c)) q
+      (omega (arith, p, ap length a, b, i)) q
 
-  pub refusal-ending : (x : Refusal) → byNumber k l r w f t side.Right (length w / 3) (length text) ≡ quotient.Refused x
+  pub refusal-ending : (x : Refusal) → quotientIn c t (length text) ≡ quotient.Refused x
       → m ≡ length (decimal (numberOf x)) + 3 → ys ≡ putAt xs 0 (decimal (numberOf x) ++ (blank ∷ dash ∷ lineFeed ∷ []))
       → Ending
   refusal-ending x told p q =
       let (d, few) = length-refusal x in
-      ending-front xs ys _ _ m room (ending-refused k l r w f letter t text size x told) (p ∙ sym d)
+      ending-front xs ys _ _ m room (ending-refused c letter t text size x told) (p ∙ sym d)
       (omega (arith, p, few)) q
 
 -- an ending is short: 4,096 nodes of four digits each, and three bytes
-pub any-ending-short : (k : Labels) (l r s f : List ℕ) (point n letter : ℕ)
-    → length (endingOf (quotientAt k l r s f point n) (textAt k l r s f point n) letter) ≤ 16387
+pub any-ending-short : (c : Case) (point n letter : ℕ)
+    → length (endingOf (quotientAt c point n) (textAt c point n) letter) ≤ 16387
 unfolding quotientAt textAt byNumber endingOf
-any-ending-short k l r s f point n letter = go (byNumber k l r s f n side.Right point textRoom) refl
+any-ending-short c point n letter = go (answerAt c point n textRoom) refl
   where
     tree : Option Formula
-    tree = treeByNumber k l r s f n side.Right point
+    tree = treeAt c point n
 
     room : List ℕ
     room = replicate 8192 0
@@ -149,13 +145,12 @@ any-ending-short k l r s f point n letter = go (byNumber k l r s f n side.Right 
     size : length room ≡ 8192
     size = length-replicate {A = ℕ} 8192 0
 
-    go : (a : Quotient) → byNumber k l r s f n side.Right point textRoom ≡ a
-        → length (endingOf a (textOf tree) letter) ≤ 16387
+    go : (a : Quotient) → answerAt c point n textRoom ≡ a → length (endingOf a (textOf tree) letter) ≤ 16387
     go (quotient.Written m) e =
-        let (_, b, c) = written-bytes (checkByNumber k l r s f n point) tree room m (rw size e) in
-        omega (arith, length-fields (textOf tree) letter, b, c, size)
+        let (_, b, i) = written-bytes (checkAt c point n) tree room m (rw size e) in
+        omega (arith, length-fields (textOf tree) letter, b, i, size)
     go (quotient.Refused x) e = let (d, few) = length-refusal x in omega (arith, d, few)
 
-pub ending-short : (k : Labels) (l r w f : List ℕ) (letter t : ℕ) → length (endingIn k l r w f letter t) ≤ 16387
+pub ending-short : (c : Case) (letter t : ℕ) → length (endingIn c letter t) ≤ 16387
 unfolding endingIn
-ending-short k l r w f letter t = any-ending-short k l r w f (length w / 3) t letter
+ending-short c letter t = any-ending-short c (length (c .run) / 3) t letter

@@ -9,12 +9,12 @@ use native.Mathlib.Nat.{mul-add-mod-self-right, div-eq-of-lt, mod-eq-of-lt}
 use lib.ListN.{length}
 use lib.Dec.{leb}
 use Rattle.hml.specs.System.{steps}
-use Rattle.labels.specs.declared.label.Labels.{Labels}
+use Rattle.machines.specs.Cases.{Case}
 use Rattle.machines.specs.Joints.{jointOf}
-use Rattle.splitting.specs.Splittings.{splittingsOf, splittingLimit}
+use Rattle.splitting.specs.Splittings.{splittingLimit}
 use Rattle.splitting.proofs.LogRuns.{sound-log}
 use Rattle.sheet_lines.specs.Sheets.{lineOf, listed, fitting}
-use Rattle.sheet_lines.specs.Working.{Numbered, numberedLine, Filled, Full}
+use Rattle.sheet_lines.specs.Working.{waysOf, Numbered, numberedLine, Filled, Full}
 use Rattle.sheet_lines.proofs.Filling.{length-listed, filled-point, full-point, filled-end}
 
 -- what fits is no more than what is due
@@ -28,10 +28,10 @@ fitting-few room (x ∷ xs) = go (leb (length x) room) refl (fitting-few (room -
     go true e h = rw e (omega (arith, h))
     go false e h = rw e (omega arith)
 
-module _ (k : Labels) (l r s f : List ℕ) (c : ℕ) (numbered : Numbered k l r s f c) (first due : ℕ)
-    (bound : first + due ≤ suc (steps (jointOf s)) * c) where
+module _ (c : Case) (ways : ℕ) (numbered : Numbered c ways) (first due : ℕ)
+    (bound : first + due ≤ suc (steps (jointOf (c .run))) * ways) where
   abbrev g : ℕ → List ℕ
-  g = numberedLine k l r s f c
+  g = numberedLine c ways
 
   abbrev end : ℕ
   end = first + due
@@ -47,63 +47,68 @@ module _ (k : Labels) (l r s f : List ℕ) (c : ℕ) (numbered : Numbered k l r 
 
   -- a line that is due, with its point and its splitting
   module _ (i : ℕ) (h : i < end) where
-    some : 0 < c
+    some : 0 < ways
     some = omega (arith, numbered .some)
 
-    number-below : i % c < c
+    number-below : i % ways < ways
     number-below = mod-lt i some
 
-    pub point-within : i / c ≤ steps (jointOf s)
+    pub point-within : i / ways ≤ steps (jointOf (c .run))
     point-within =
-        omega (arith, div-lt-iff-lt-mul {k = c} {x = i} {y = suc (steps (jointOf s))} some .1 (omega (arith, h, bound)))
+        omega (
+          arith,
+          div-lt-iff-lt-mul {k = ways} {x = i} {y = suc (steps (jointOf (c .run)))} some .1
+              (omega (arith, h, bound)),
+        )
 
     -- the lines of the point that are due, up to the splitting u
-    module _ (u : ℕ) (e : u ≡ min c (i % c + (end - i))) where
-      pub until-within : (i % c ≤ u) × (u ≤ length (splittingsOf k l r s))
+    module _ (u : ℕ) (e : u ≡ min ways (i % ways + (end - i))) where
+      pub until-within : (i % ways ≤ u) × (u ≤ waysOf c)
       until-within = omega (arith, e, number-below, numbered .counted)
 
-      pub lines-within : (i + (u - i % c) ≤ end) × (i % c < u)
+      pub lines-within : (i + (u - i % ways) ≤ end) × (i % ways < u)
       lines-within = omega (arith, e, number-below, h)
 
-      pub same-lines : (x : ℕ) → x < u - i % c → lineOf k l r s f (i / c) (i % c + x) ≡ g (i + x)
+      pub same-lines : (x : ℕ) → x < u - i % ways → lineOf c (i / ways) (i % ways + x) ≡ g (i + x)
       unfolding numberedLine
       same-lines x j =
-          let b : i % c + x < c = omega (arith, j, e) in
-          let z : i + x ≡ i / c * c + (i % c + x) = omega (arith, div-add-mod' i c) in
-          let q : (i + x) / c ≡ i / c = ap (_/ c) z ∙ mul-add-div-right some (i / c) (i % c + x)
-          ∙ ap (i / c +_) (div-eq-of-lt b) ∙ omega arith in
-          let m : (i + x) % c ≡ i % c + x = ap (_% c) z ∙ mul-add-mod-self-right (i / c) c (i % c + x)
+          let b : i % ways + x < ways = omega (arith, j, e) in
+          let z : i + x ≡ i / ways * ways + (i % ways + x) = omega (arith, div-add-mod' i ways) in
+          let q : (i + x) / ways ≡ i / ways = ap (_/ ways) z ∙ mul-add-div-right some (i / ways) (i % ways + x)
+          ∙ ap (i / ways +_) (div-eq-of-lt b) ∙ omega arith in
+          let m : (i + x) % ways ≡ i % ways + x = ap (_% ways) z ∙ mul-add-mod-self-right (i / ways) ways (i % ways + x)
           ∙ mod-eq-of-lt b in
-          ap₂ (lineOf k l r s f) (sym q) (sym m)
+          ap₂ (lineOf c) (sym q) (sym m)
 
       -- what is written of them
       module _ (xs ys zs : List ℕ) (at to n : ℕ) (filled : Filled g xs 0 first end ys at i)
-          (full : Full (fitting (length ys - at) (listed (lineOf k l r s f (i / c)) (i % c) (u - i % c))) ys at (i % c)
+          (full : Full (fitting (length ys - at) (listed (lineOf c (i / ways)) (i % ways) (u - i % ways))) ys at
+          (i % ways)
           zs to n) where
-        pub reached : (i % c ≤ n) × (n ≤ u)
+        pub reached : (i % ways ≤ n) × (n ≤ u)
         reached =
-            let d = listed (lineOf k l r s f (i / c)) (i % c) (u - i % c) in
+            let d = listed (lineOf c (i / ways)) (i % ways) (u - i % ways) in
             omega (
               arith,
               full .counted,
               fitting-few (length ys - at) d,
-              length-listed (lineOf k l r s f (i / c)) (i % c) (u - i % c),
+              length-listed (lineOf c (i / ways)) (i % ways) (u - i % ways),
               until-within,
             )
 
-        pub next-within : i + (n - i % c) ≤ end
+        pub next-within : i + (n - i % ways) ≤ end
         next-within = omega (arith, reached, lines-within)
 
-        pub point-full : n < u → Full (fitting (length xs) (listed g first due)) xs 0 first zs to (i + (n - i % c))
+        pub point-full : n < u → Full (fitting (length xs) (listed g first due)) xs 0 first zs to (i + (n - i % ways))
         point-full b =
-            all-filled xs zs to (i + (n - i % c))
-            (full-point g xs 0 first end ys at i filled (lineOf k l r s f (i / c)) (i % c) (u - i % c) same-lines
+            all-filled xs zs to (i + (n - i % ways))
+            (full-point g xs 0 first end ys at i filled (lineOf c (i / ways)) (i % ways) (u - i % ways) same-lines
             (lines-within .0) zs to n full (omega (arith, b, until-within)))
 
-        pub point-done : u ≤ n → Filled g xs 0 first end zs to (i + (n - i % c))
+        pub point-done : u ≤ n → Filled g xs 0 first end zs to (i + (n - i % ways))
         point-done b =
-            let z : u - i % c ≡ n - i % c = omega (arith, b, reached) in
-            rw z at (filled-point g xs 0 first end ys at i filled (lineOf k l r s f (i / c)) (i % c) (u - i % c)
+            let z : u - i % ways ≡ n - i % ways = omega (arith, b, reached) in
+            rw z at (filled-point g xs 0 first end ys at i filled (lineOf c (i / ways)) (i % ways) (u - i % ways)
             same-lines (lines-within .0) zs to n full (omega (arith, b, reached, until-within)))
 
   pub sheet-full : (xs ys : List ℕ) (at j : ℕ) → Filled g xs 0 first end ys at j → end ≤ j
@@ -112,10 +117,9 @@ module _ (k : Labels) (l r s f : List ℕ) (c : ℕ) (numbered : Numbered k l r 
       all-filled xs ys at j (filled-end g xs 0 first end ys at j filled (omega (arith, h, filled .due)))
 
 -- a sheet has few lines: 201 points at most, and 65,535 splittings
-pub sheet-small : (k : Labels) (l r s f : List ℕ) (c : ℕ) → Numbered k l r s f c
-    → suc (steps (jointOf s)) * c ≤ 13172535
+pub sheet-small : (c : Case) (ways : ℕ) → Numbered c ways → suc (steps (jointOf (c .run))) * ways ≤ 13172535
 unfolding splittingLimit
-sheet-small k l r s f c n =
-    let a = sound-log k l r s (n .asked .log) .run .few in
-    let m : suc (steps (jointOf s)) * c ≤ 201 * c = mul-le-mul-right c (omega (arith, a)) in
+sheet-small c ways n =
+    let a = sound-log _ _ _ _ (n .asked .log) .run .few in
+    let m : suc (steps (jointOf (c .run))) * ways ≤ 201 * ways = mul-le-mul-right ways (omega (arith, a)) in
     omega (arith, m, n .few)

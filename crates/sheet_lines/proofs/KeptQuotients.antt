@@ -10,21 +10,22 @@ use lib.Seq.{sets-eq, take-at, take-length, drop-drop, length-take-le}
 use borrow.Rule.Slice.PartMut.{putMid}
 use Rattle.hml.specs.System.{steps, stop}
 use Rattle.labels.specs.Refusals.{firstOf}
+use Rattle.labels.specs.declared.label.Labels.{Labels}
 use Rattle.labels.specs.declared.refusal.Check.the-variants.{Sound}
 use Rattle.labels.proofs.Slices.{rest}
-use Rattle.labels.specs.declared.label.Labels.{Labels}
 use Rattle.halves.specs.Halves.{halfOf, checkHalf}
-use Rattle.halves.specs.declared.side.Side.the-variants as side
+use Rattle.machines.specs.Cases.{Case}
 use Rattle.machines.specs.Joints.{jointOf}
-use Rattle.splitting.specs.Splittings.{splittingsOf, splittingLimit, checkLog, counted, rightHalf}
+use Rattle.splitting.specs.Splittings.{splittingLimit}
 use Rattle.splitting.proofs.LogRuns.{sound-log, half-passed}
 use Rattle.splitting.proofs.AllSplittings.{splitting-joins}
 use Rattle.dividing.specs.Quotients.{quotientBy, answerOf, outputAfter, checkDivision}
 use Rattle.dividing.specs.declared.divide.Quotient.{Quotient}
-use Rattle.quotient.specs.Calls.{treeByHalf, treeByNumber, checkByNumber, byNumber, byNumberOutput}
+use Rattle.quotient.specs.Calls.{treeByHalf, treeByNumber, byNumber, byNumberOutput}
 use Rattle.quotient.proofs.SplitRuns.{LogParts, log-parts, split-run, by-number-sound}
 use Rattle.sheet_lines.specs.declared.kept.Kept.{Kept}
-use Rattle.sheet_lines.specs.Working.{putAt, Asked, olderPart, newerPart, HalfAt, HalvesAt, PartHalves, Halved}
+use Rattle.sheet_lines.specs.Working.{putAt, logCheck, waysOf, halfIn, checkAt, treeAt, quotientIn}
+use Rattle.sheet_lines.specs.Working.{outputIn, Asked, olderPart, newerPart, HalfAt, HalvesAt, PartHalves, Halved}
 use Rattle.sheet_lines.proofs.Puts.{part-front, rest-copied}
 use Rattle.sheet_lines.proofs.KeptHalves.{Cut, cut-window}
 use Rattle.sheet_lines.proofs.KeptTable.{half-size}
@@ -57,19 +58,18 @@ half-put xs half y d from n then m e f i j h =
     ∙ take-at (take n y ++ b) (drop (n + length b) y) (n + m) size ∙ ap (_++ b) front
 
 -- halves are kept where the newer part has splittings
-pub kept-parts : (k : Labels) (l r w : List ℕ) (kept : Kept) (halves : List ℕ) → Halved k l r w kept halves
-    → (kept .ways ≡ 0 → ⊥) → PartHalves k l r w kept halves
-kept-parts k l r w kept halves h n = ⊎-elim (λ e. absurd (n e)) (λ p. p) (h .stands)
+pub kept-parts : (c : Case) (kept : Kept) (halves : List ℕ) → Halved c kept halves → (kept .ways ≡ 0 → ⊥)
+    → PartHalves c kept halves
+kept-parts c kept halves h n = ⊎-elim (λ e. absurd (n e)) (λ p. p) (h .stands)
 
 -- the half of a splitting of a window, from those that are kept
-module _ (k : Labels) (l r w : List ℕ) (sound : checkLog k l r w ≡ Sound) (t : ℕ)
-    (below : t < length (splittingsOf k l r w))
-    (kept : Kept) (halves : List ℕ) (p : PartHalves k l r w kept halves) where
-  cut : Cut k l r w (kept .older)
-  cut = cut-window k l r w (kept .older) sound (omega (arith, p .points))
+module _ (c : Case) (sound : logCheck c ≡ Sound) (t : ℕ) (below : t < waysOf c) (kept : Kept) (halves : List ℕ)
+    (p : PartHalves c kept halves) where
+  cut : Cut c (kept .older)
+  cut = cut-window c (kept .older) sound (omega (arith, p .points))
 
   -- its numbers in the two parts
-  older-number : t / kept .ways < length (splittingsOf k l r (olderPart w (kept .older)))
+  older-number : t / kept .ways < waysOf (olderPart c (kept .older))
   older-number = rw (p .counted) (cut .olderNumber t below)
 
   newer-number : t % kept .ways < kept .ways
@@ -80,81 +80,85 @@ module _ (k : Labels) (l r w : List ℕ) (sound : checkLog k l r w ≡ Sound) (t
   kept-numbers = (omega (arith, newer-number), p .fewNewer, omega (arith, older-number, p .fewOlder))
 
   pub kept-steps : kept .older + kept .newer ≤ 200
-  kept-steps = let a = sound-log k l r w sound .run in omega (arith, p .points, a .counted, a .few)
+  kept-steps =
+      let a = sound-log _ _ _ _ sound .run in
+      omega (arith, p .points, a .counted, a .few)
 
   -- the two halves, as they stand there
   older-half : take (2 * kept .older + 1) (drop (401 * (t / kept .ways)) halves)
-      ≡ rightHalf k l r (olderPart w (kept .older)) (t / kept .ways)
+      ≡ halfIn (olderPart c (kept .older)) (t / kept .ways)
   unfolding HalvesAt HalfAt
   older-half =
-      let size = half-size k l r (olderPart w (kept .older)) (cut .older) (t / kept .ways) older-number in
-      let z : 2 * kept .older + 1 ≡ length (rightHalf k l r (olderPart w (kept .older)) (t / kept .ways)) = omega
+      let size = half-size (olderPart c (kept .older)) (cut .older) (t / kept .ways) older-number in
+      let z : 2 * kept .older + 1 ≡ length (halfIn (olderPart c (kept .older)) (t / kept .ways)) = omega
       (arith, size .0, cut .olderSteps) in
       let y : t / kept .ways ≡ 0 + t / kept .ways = omega arith in
       ap₂ (λ a b. take a (drop (401 * b) halves)) z y ∙ p .olderHalves (t / kept .ways) older-number
 
   newer-half : take (2 * kept .newer) (drop (401 * (256 + t % kept .ways) + 1) halves)
-      ≡ drop 1 (rightHalf k l r (newerPart w (kept .older)) (t % kept .ways))
+      ≡ drop 1 (halfIn (newerPart c (kept .older)) (t % kept .ways))
   unfolding HalvesAt HalfAt
   newer-half =
       let at = 401 * (256 + t % kept .ways) in
-      let size = half-size k l r (newerPart w (kept .older)) (cut .newer) (t % kept .ways)
+      let size = half-size (newerPart c (kept .older)) (cut .newer) (t % kept .ways)
       (omega (arith, newer-number, p .counted)) in
-      let z : 1 + 2 * kept .newer ≡ length (rightHalf k l r (newerPart w (kept .older)) (t % kept .ways)) = omega
+      let z : 1 + 2 * kept .newer ≡ length (halfIn (newerPart c (kept .older)) (t % kept .ways)) = omega
       (arith, size .0, cut .newerSteps, p .points) in
       ap (take (2 * kept .newer)) (sym (drop-drop 1 at halves)) ∙ part-front (drop at halves) 1 (2 * kept .newer)
       ∙ ap (λ a. drop 1 (take a (drop at halves))) z ∙ ap (drop 1) (p .newerHalves (t % kept .ways) newer-number)
 
   pub half-together : take (2 * kept .older + 1) (drop (401 * (t / kept .ways)) halves)
       ++ take (2 * kept .newer) (drop (401 * (256 + t % kept .ways) + 1) halves)
-      ≡ rightHalf k l r w t
+      ≡ halfIn c t
   half-together = ap₂ _++_ older-half newer-half ∙ rw (p .counted) (sym (cut .half t below))
 
 -- the quotient by the right half of a splitting of a window, at its end, is what the public call gives
-module _ (k : Labels) (l r w f : List ℕ) (asked : Asked k l r w f) (t : ℕ) (below : t < length (splittingsOf k l r w))
-    (few : length (splittingsOf k l r w) ≤ splittingLimit) where
-  parts : LogParts k l r w
-  parts = log-parts k l r w (asked .log)
+module _ (c : Case) (asked : Asked c) (t : ℕ) (below : t < waysOf c) (few : waysOf c ≤ splittingLimit) where
+  parts : LogParts (c .labels) (c .left) (c .right) (c .run)
+  parts = log-parts _ _ _ _ (asked .log)
 
-  points : steps (jointOf w) ≡ length w / 3
-  points = sound-log k l r w (asked .log) .run .counted
+  points : steps (jointOf (c .run)) ≡ length (c .run) / 3
+  points = sound-log _ _ _ _ (asked .log) .run .counted
 
   abbrev h : List ℕ
-  h = rightHalf k l r w t
+  h = halfIn c t
 
-  half-sound : checkHalf r h ≡ Sound
+  half-sound : checkHalf (c .right) h ≡ Sound
   half-sound =
-      let (e, j, _, _, _) = splitting-joins k l r w t (asked .log) below in
-      split-run k l r w _ _ (length w / 3) e j (omega (arith, points)) .right
+      let (e, j, _, _, _) = splitting-joins _ _ _ _ t (asked .log) below in
+      split-run _ _ _ _ _ _ (length (c .run) / 3) e j (omega (arith, points)) .right
 
-  division-sound : checkDivision k r h f ≡ Sound
+  division-sound : checkDivision (c .labels) (c .right) h (c .question) ≡ Sound
   unfolding checkDivision firstOf
   division-sound = rw (parts .machines .labels, parts .machines .right, asked .question, half-sound)
 
   -- it is the run of all its steps
-  whole : stop (length w / 3) (halfOf h) ≡ halfOf h
+  whole : stop (length (c .run) / 3) (halfOf h) ≡ halfOf h
   whole =
-      let z : steps (halfOf h) - length w / 3
-      ≡ 0 = omega (arith, half-passed r h half-sound .counted, half-size k l r w (asked .log) t below .0, points) in
+      let z : steps (halfOf h) - length (c .run) / 3
+      ≡ 0 = omega (arith, half-passed (c .right) h half-sound .counted, half-size c (asked .log) t below .0, points) in
       rw z
 
-  same-tree : quotientBy k r (halfOf h) f ≡ treeByNumber k l r w f t side.Right (length w / 3)
+  same-tree : quotientBy (c .labels) (c .right) (halfOf h) (c .question) ≡ treeAt c (length (c .run) / 3) t
   unfolding treeByNumber treeByHalf
-  same-tree = sym (ap (λ x. quotientBy k r x f) whole)
+  same-tree = sym (ap (λ x. quotientBy (c .labels) (c .right) x (c .question)) whole)
 
-  number-sound : checkByNumber k l r w f t (length w / 3) ≡ Sound
+  number-sound : checkAt c (length (c .run) / 3) t
+      ≡ Sound
   unfolding splittingLimit
-  number-sound = by-number-sound k l r w parts (length w / 3) (omega (arith, points)) f (asked .question) t below few
+  number-sound =
+      by-number-sound _ _ _ _ parts (length (c .run) / 3)
+      (omega (arith, points)) (c .question) (asked .question) t below few
 
-  pub kept-quotient : (g out z : List ℕ) (q : Quotient) → g ≡ h
-      → q ≡ answerOf (checkDivision k r g f) (quotientBy k r (halfOf g) f) (length out)
-      → z ≡ outputAfter (checkDivision k r g f) (quotientBy k r (halfOf g) f) out
-      → (q ≡ byNumber k l r w f t side.Right (length w / 3) (length out))
-      × (z ≡ byNumberOutput k l r w f t side.Right (length w / 3) out)
+  pub kept-quotient : (x : Labels) (u v : List ℕ) → x ≡ c .labels → u ≡ c .right → v ≡ c .question
+      → (g out z : List ℕ) (q : Quotient) → g ≡ h
+      → q ≡ answerOf (checkDivision x u g v) (quotientBy x u (halfOf g) v) (length out)
+      → z ≡ outputAfter (checkDivision x u g v) (quotientBy x u (halfOf g) v) out
+      → (q ≡ quotientIn c t (length out)) × (z ≡ outputIn c t out)
   unfolding byNumber byNumberOutput
-  kept-quotient g out z q e c d =
-      let check : checkDivision k r g f ≡ checkByNumber k l r w f t (length w / 3) = ap (λ x. checkDivision k r x f) e
-      ∙ division-sound ∙ sym number-sound in
-      let tree : quotientBy k r (halfOf g) f
-      ≡ treeByNumber k l r w f t side.Right (length w / 3) = ap (λ x. quotientBy k r (halfOf x) f) e ∙ same-tree in
-      (c ∙ ap₂ (λ x y. answerOf x y (length out)) check tree, d ∙ ap₂ (λ x y. outputAfter x y out) check tree)
+  kept-quotient x u v i j l g out z q e a d =
+      let check : checkDivision x u g v ≡ checkAt c (length (c .run) / 3) t =
+      rw (i, j, l, e) (division-sound ∙ sym number-sound) in
+      let tree : quotientBy x u (halfOf g) v ≡ treeAt c (length (c .run) / 3) t =
+      rw (i, j, l, e) same-tree in
+      (a ∙ ap₂ (λ m o. answerOf m o (length out)) check tree, d ∙ ap₂ (λ m o. outputAfter m o out) check tree)

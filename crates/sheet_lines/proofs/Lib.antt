@@ -3,6 +3,7 @@ pub mod LineLaws
 pub mod Filling
 pub mod SheetLines
 pub mod PointLaws
+pub mod CaseLaws
 pub mod EndingLaws
 pub mod PointTurns
 pub mod TurnLaws

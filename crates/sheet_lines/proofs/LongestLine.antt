@@ -12,18 +12,18 @@ use Rattle.hml.specs.Lists.{_∈_}
 use Rattle.hml.specs.System.{steps}
 use Rattle.labels.specs.Refusals.{numberOf}
 use Rattle.labels.specs.declared.refusal.Refusal.{Refusal}
-use Rattle.labels.specs.declared.label.Labels.{Labels}
+use Rattle.machines.specs.Cases.{Case}
 use Rattle.machines.specs.Joints.{jointOf}
 use Rattle.casebook.specs.Reading.{readOf}
 use Rattle.casebook.specs.declared.read.Reading.{Reading}
 use Rattle.casebook.specs.declared.read.Reading.the-variants as reading
-use Rattle.splitting.specs.Splittings.{splittingLimit, countOf}
+use Rattle.splitting.specs.Splittings.{splittingLimit}
 use Rattle.splitting.specs.declared.count.Counted.{Counted}
 use Rattle.splitting.specs.declared.count.Counted.the-variants as count
 use Rattle.splitting.proofs.LogRuns.{sound-log}
-use Rattle.sheet_lines.specs.Sheets.{headOf, endingOf, lineOf, listed, refusedLine, partsLines, readLines}
+use Rattle.sheet_lines.specs.Sheets.{headOf, endingOf, lineOf, listed, refusedLine, caseLines, readLines}
 use Rattle.sheet_lines.specs.Sheets.{sheetOf}
-use Rattle.sheet_lines.specs.Working.{Asked, Numbered, numberedLine}
+use Rattle.sheet_lines.specs.Working.{countIn, Asked, Numbered, numberedLine}
 use Rattle.sheet_lines.proofs.LineLaws.{number-small, digits-two, head-short, length-refused}
 use Rattle.sheet_lines.proofs.EndingLaws.{any-ending-short}
 use Rattle.sheet_lines.proofs.PartsLines.{numbered-log, lines-are, refused-count, read-asked}
@@ -32,11 +32,10 @@ use Rattle.sheet_lines.proofs.PartsLines.{numbered-log, lines-are, refu
 together-short : (h e : List ℕ) → length h ≤ 12 → length e ≤ 16387 → length (h ++ e) ≤ 16399
 together-short h e a b = omega (arith, length-append h e, a, b)
 
-line-short : (k : Labels) (l r s f : List ℕ) (point n : ℕ) → point < 1000 → n < 100000
-    → length (lineOf k l r s f point n) ≤ 16399
+line-short : (c : Case) (point n : ℕ) → point < 1000 → n < 100000 → length (lineOf c point n) ≤ 16399
 unfolding lineOf
-line-short k l r s f point n p h =
-    together-short (headOf point n _) (endingOf _ _ _) (head-short point n _ p h) (any-ending-short k l r s f point n _)
+line-short c point n p h =
+    together-short (headOf point n _) (endingOf _ _ _) (head-short point n _ p h) (any-ending-short c point n _)
 
 -- what stands in a list of g's values
 in-listed : (g : ℕ → List ℕ) (i m : ℕ) (x : List ℕ) → x ∈ listed g i m → (j : ℕ) × (j < i + m) × (x ≡ g j)
@@ -54,27 +53,27 @@ refused-lines-short : (x : Refusal) (line : List ℕ) → line ∈ (refusedLine 
 refused-lines-short x line h =
     elim (∈-cons h) [ inl e ↦ omega (arith, ap length e, refused-short x) | inr t ↦ absurd (nowhere t) ]
 
--- the lines of a log and a question: line i is that of point i / c and splitting i % c
-module _ (k : Labels) (l r s f : List ℕ) (asked : Asked k l r s f) where
-  numbered-short : (c : ℕ) → Numbered k l r s f c → (i : ℕ) → i < suc (steps (jointOf s)) * c
-      → length (numberedLine k l r s f c i) ≤ 16399
+-- the lines of a case: line i is that of point i / ways and splitting i % ways
+module _ (c : Case) (asked : Asked c) where
+  numbered-short : (ways : ℕ) → Numbered c ways → (i : ℕ) → i < suc (steps (jointOf (c .run))) * ways
+      → length (numberedLine c ways i) ≤ 16399
   unfolding numberedLine splittingLimit
-  numbered-short c n i h =
-      let some : 0 < c = omega (arith, n .some) in
-      let point : i / c < suc (steps (jointOf s)) = div-lt-iff-lt-mul {k = c} {x = i} {y = suc (steps (jointOf s))}
-      some .1 h in
-      let steps-few = sound-log k l r s (asked .log) .run .few in
-      line-short k l r s f (i / c) (i % c) (omega (arith, point, steps-few)) (omega (arith, mod-lt i some, n .few))
+  numbered-short ways n i h =
+      let some : 0 < ways = omega (arith, n .some) in
+      let point : i / ways < suc (steps (jointOf (c .run))) = div-lt-iff-lt-mul {k = ways} {x = i} {y =
+      suc (steps (jointOf (c .run)))} some .1 h in
+      let steps-few = sound-log _ _ _ _ (asked .log) .run .few in
+      line-short c (i / ways) (i % ways) (omega (arith, point, steps-few)) (omega (arith, mod-lt i some, n .few))
 
-  parts-short : (line : List ℕ) → line ∈ partsLines k l r s f → length line ≤ 16399
-  parts-short line h = go (countOf k l r s) refl
+  case-short : (line : List ℕ) → line ∈ caseLines c → length line ≤ 16399
+  case-short line h = go (countIn c) refl
     where
-      go : (c : Counted) → countOf k l r s ≡ c → length line ≤ 16399
+      go : (x : Counted) → countIn c ≡ x → length line ≤ 16399
       go (count.Splittings n) e =
-          let (i, b, q) = in-listed (numberedLine k l r s f n) 0 (suc (steps (jointOf s)) * n) line
-          (rw (lines-are k l r s f asked n e) at h) in
-          omega (arith, ap length q, numbered-short n (numbered-log k l r s f asked n e) i (omega (arith, b)))
-      go (count.Refused x) e = refused-lines-short x line (rw (refused-count k l r s f x e) at h)
+          let (i, b, q) = in-listed (numberedLine c n) 0 (suc (steps (jointOf (c .run))) * n) line
+          (rw (lines-are c asked n e) at h) in
+          omega (arith, ap length q, numbered-short n (numbered-log c asked n e) i (omega (arith, b)))
+      go (count.Refused x) e = refused-lines-short x line (rw (refused-count c x e) at h)
 
 -- no line of any sheet has over 16,399 bytes
 pub sheet-line-short : (s line : List ℕ) → line ∈ sheetOf s → length line ≤ 16399
@@ -82,6 +81,5 @@ unfolding sheetOf readLines
 sheet-line-short s line h = go (readOf s) refl h
   where
     go : (r : Reading) → readOf s ≡ r → line ∈ readLines s r → length line ≤ 16399
-    go (reading.Casebook c) e m =
-        parts-short _ _ _ _ _ (read-asked s 0 0 c e _ _ _ _ _ refl refl refl refl refl) line m
+    go (reading.Casebook p) e m = case-short _ (read-asked s p e) line m
     go (reading.Refused x) e m = refused-lines-short x line m

@@ -11,7 +11,7 @@ use lib.Seq.{take-at}
 use borrow.Author.Tests.{eq-eqb, ne-eqb, lt-ltb, le-ltb, eqb-false, ltb-true}
 use borrow.Rule.Slice.PartMut.{putMid}
 use Rattle.labels.proofs.Slices.{rest}
-use Rattle.labels.specs.declared.label.Labels.{Labels}
+use Rattle.machines.specs.Cases.{Case}
 use Rattle.sheet_lines.specs.Sheets.{headOf, listed, fitting, bytesOf}
 use Rattle.sheet_lines.specs.Working.{putAt, endingIn, lineIn, lineWith, lineBy, Standing, EndingsKnown, Filled}
 use Rattle.sheet_lines.specs.Working.{Full, Scratch, fromsAfter, endsAfter}
@@ -82,13 +82,13 @@ last-ends p b n m =
     ∙ bytes-behind (listed g n m) (listed g (n + m) 1) ∙ simp (append-nil, append-assoc)
 
 -- the lines of a turn that were written
-module _ (k : Labels) (l r w f : List ℕ) (p : Point) (ways : ℕ) (froms ends ys zs : List ℕ) (to t n u to′ n′ : ℕ)
-    (b : List ℕ) (same : b ≡ endingIn k l r w f (p .letter) t)
-    (known : EndingsKnown (endingIn k l r w f (p .letter)) ways froms ends ys to) (room : to ≤ length ys)
+module _ (w : Case) (p : Point) (ways : ℕ) (froms ends ys zs : List ℕ) (to t n u to′ n′ : ℕ)
+    (b : List ℕ) (same : b ≡ endingIn w (p .letter) t)
+    (known : EndingsKnown (endingIn w (p .letter)) ways froms ends ys to) (room : to ≤ length ys)
     (begun : n ≤ u)
     (full : Full (fitting (length ys - to) (listed (lineWith p b) n (u - n))) ys to n zs to′ n′) where
   abbrev e : ℕ → List ℕ
-  e = endingIn k l r w f (p .letter)
+  e = endingIn w (p .letter)
 
   abbrev block : List (List ℕ)
   block = fitting (length ys - to) (listed (lineWith p b) n (u - n))
@@ -160,26 +160,26 @@ module _ (k : Labels) (l r w f : List ℕ) (p : Point) (ways : ℕ) (froms ends 
   turn-known len z s v fs es x y = rw (x, y) (turn-after len z s v)
 
   -- they are lines of the point
-  module _ (xs : List ℕ) (start i end : ℕ) (filled : Filled (lineBy k l r w f p) xs start i end ys to n)
+  module _ (xs : List ℕ) (start i end : ℕ) (filled : Filled (lineBy w p) xs start i end ys to n)
       (within-end : u ≤ end) (in-turn : u ≤ n + (p .after - n % p .after)) (some : 0 < p .after)
       (turn : t ≡ n / p .after % p .ways) where
-    same-lines : (x : ℕ) → x < u - n → lineWith p b (n + x) ≡ lineBy k l r w f p (n + x)
+    same-lines : (x : ℕ) → x < u - n → lineWith p b (n + x) ≡ lineBy w p (n + x)
     unfolding lineWith lineBy lineIn
     same-lines x h =
         let q : (n + x) / p .after ≡ n / p .after = turn-same n x (p .after) some (omega (arith, h, in-turn, begun)) in
         ap (headOf (p .number) (n + x) (p .letter) ++_) (same ∙ ap e (turn ∙ ap (_% p .ways) (sym q)))
 
-    pub turn-done : u ≤ n′ → Filled (lineBy k l r w f p) xs start i end zs to′ n′
+    pub turn-done : u ≤ n′ → Filled (lineBy w p) xs start i end zs to′ n′
     turn-done h =
         let z : n + (u - n) ≡ n′ = omega (arith, turn-reached, h, begun) in
-        rw z at (filled-point (lineBy k l r w f p) xs start i end ys to n filled (lineWith p b) n (u - n) same-lines
+        rw z at (filled-point (lineBy w p) xs start i end ys to n filled (lineWith p b) n (u - n) same-lines
         (omega (arith, within-end, begun)) zs to′ n′ full (omega (arith, z)))
 
     pub turn-full : n′ < u
-        → Full (fitting (length xs - start) (listed (lineBy k l r w f p) i (end - i))) xs start i zs to′ n′
+        → Full (fitting (length xs - start) (listed (lineBy w p) i (end - i))) xs start i zs to′ n′
     turn-full h =
         let z : n + (n′ - n) ≡ n′ = omega (arith, turn-reached) in
-        rw z at (full-point (lineBy k l r w f p) xs start i end ys to n filled (lineWith p b) n (u - n) same-lines
+        rw z at (full-point (lineBy w p) xs start i end ys to n filled (lineWith p b) n (u - n) same-lines
         (omega (arith, within-end, begun)) zs to′ n′ full (omega (arith, h, begun)))
 
 -- the cases of remembering

@@ -25,7 +25,7 @@ use Rattle.machines.specs.Joints.{jointSteps, jointOf, isLeftAlone, isRightAlon
 use Rattle.machines.specs.Joints.{isReal, fitJoint, isJointRun, checkJoint}
 use Rattle.formulas.specs.Formulas.{wholeOf, formulaOf, isFormula, nestsFit, checkFormula}
 use Rattle.casebook.specs.Records.{lengthsOf, fitLength, mayStand, nextAt, bodyOf, labelsOf}
-use Rattle.casebook.specs.Reading.{readQuestion, readRun, readRight, readLeft, readOf}
+use Rattle.casebook.specs.Reading.{readQuestion, readRun, readRight, readLeft, readOf, caseOf}
 use Rattle.casebook.specs.declared.read.Reading.{Reading}
 use Rattle.casebook.specs.declared.read.Reading.the-variants as reading
 use Rattle.verdict.specs.Verdicts.{jointHolds, halfHolds, checkJointCall, checkHalfCall, verdictOf, answered}
@@ -37,7 +37,7 @@ use Rattle.dividing.specs.Quotients.{treeBy, quotientBy, nodesOf, textOf, check
 use Rattle.quotient.specs.Calls.{treeByHalf, treeByNumber, checkByNumber, byNumber}
 use Rattle.digits.specs.Digits.{digitsWithin, decimal, hexDigit, hexadecimal}
 use Rattle.sheet_lines.specs.Sheets.{letterOf, endingOf, headOf, quotientAt, textAt, lineOf, listed, linesOf}
-use Rattle.sheet_lines.specs.Sheets.{countedLines, partsLines, readLines, sheetOf}
+use Rattle.sheet_lines.specs.Sheets.{countedLines, caseLines, readLines, sheetOf}
 
 -- a case: k, the two tables, the run and the question, as the casebook's records have them
 pub record Case : Type 0 where
@@ -141,8 +141,9 @@ due c = record { count = counted.Splittings (c .splittings); size = 2 * c .split
 
 -- the count of a casebook's splittings
 abbrev countIn : List ℕ → Reading → Counted
-countIn s (reading.Casebook c) =
-    countOf (labelsOf s (c .labels)) (bodyOf s (c .left)) (bodyOf s (c .right)) (bodyOf s (c .run))
+countIn s (reading.Casebook p) =
+    let c = caseOf s p in
+    countOf (c .labels) (c .left) (c .right) (c .run)
 countIn s (reading.Refused x) = counted.Refused x
 
 abbrev computed : Case → Answers
@@ -167,6 +168,7 @@ unfolding cases readOf readLeft readRight readRun readQuestion nextAt mayStand l
     byNumber checkByNumber treeByNumber treeByHalf quotientBy treeBy quotient answerOf checkTree checkSize nodesOf
     textOf size spell leftHalf rightHalf halfBytes written halfOf twos
     halfVerdict checkHalfCall halfHolds checkHalf isHalfRun stepFits beyond
-    sheetOf readLines partsLines countedLines linesOf listed lineOf headOf endingOf quotientAt textAt letterOf decimal
+    sheetOf readLines caseOf caseLines countedLines linesOf listed lineOf headOf endingOf quotientAt textAt letterOf
+    decimal
     digitsWithin hexadecimal hexDigit
 published = refl

@@ -7,39 +7,38 @@ use lib.ListN.{length, drop, length-drop}
 use lib.Seq.{take-all}
 use Rattle.hml.specs.System.{steps}
 use Rattle.labels.specs.Refusals.{inFront}
-use Rattle.labels.specs.declared.label.Labels.{Labels}
+use Rattle.machines.specs.Cases.{Case}
 use Rattle.machines.specs.Joints.{jointOf}
 use Rattle.casebook.specs.Reading.{readOf}
 use Rattle.casebook.specs.declared.read.Reading.{Reading}
 use Rattle.casebook.specs.declared.read.Reading.the-variants as reading
-use Rattle.splitting.specs.Splittings.{countOf}
 use Rattle.splitting.specs.declared.count.Counted.{Counted}
 use Rattle.splitting.specs.declared.count.Counted.the-variants as count
-use Rattle.sheet_lines.specs.Sheets.{partsLines, readLines, sheetOf, bytesOf, fitting, linesDue, blockOf}
+use Rattle.sheet_lines.specs.Sheets.{caseLines, readLines, sheetOf, bytesOf, fitting, linesDue, blockOf}
 use Rattle.sheet_lines.specs.Blocks.{blockFrom}
-use Rattle.sheet_lines.specs.Working.{Asked, numberedLine, fittedOf, fittedOutput}
+use Rattle.sheet_lines.specs.Working.{countIn, Asked, numberedLine, fittedOf, fittedOutput}
 use Rattle.sheet_lines.specs.declared.lines.Fitted.{Fitted}
 use Rattle.sheet_lines.proofs.Filling.{length-listed}
 use Rattle.sheet_lines.proofs.FillLaws.{sheet-small}
 use Rattle.sheet_lines.proofs.PartsLines.{numbered-log, lines-are, refused-count, read-asked}
 
 -- a sheet has at most 201 times 65,535 lines
-parts-short : (k : Labels) (l r s f : List ℕ) → Asked k l r s f → length (partsLines k l r s f) ≤ 13172535
-parts-short k l r s f asked = go (countOf k l r s) refl
+case-short : (c : Case) → Asked c → length (caseLines c) ≤ 13172535
+case-short c asked = go (countIn c) refl
   where
-    go : (c : Counted) → countOf k l r s ≡ c → length (partsLines k l r s f) ≤ 13172535
+    go : (x : Counted) → countIn c ≡ x → length (caseLines c) ≤ 13172535
     go (count.Splittings n) e =
-        let z = ap length (lines-are k l r s f asked n e)
-        ∙ length-listed (numberedLine k l r s f n) 0 (suc (steps (jointOf s)) * n) in
-        omega (arith, z, sheet-small k l r s f n (numbered-log k l r s f asked n e))
-    go (count.Refused x) e = omega (arith, ap length (refused-count k l r s f x e))
+        let z = ap length (lines-are c asked n e)
+        ∙ length-listed (numberedLine c n) 0 (suc (steps (jointOf (c .run))) * n) in
+        omega (arith, z, sheet-small c n (numbered-log c asked n e))
+    go (count.Refused x) e = omega (arith, ap length (refused-count c x e))
 
 pub sheet-short : (s : List ℕ) → length (sheetOf s) ≤ 13172535
 unfolding sheetOf readLines
 sheet-short s = go (readOf s) refl
   where
     go : (r : Reading) → readOf s ≡ r → length (readLines s r) ≤ 13172535
-    go (reading.Casebook c) e = parts-short _ _ _ _ _ (read-asked s 0 0 c e _ _ _ _ _ refl refl refl refl refl)
+    go (reading.Casebook p) e = case-short _ (read-asked s p e)
     go (reading.Refused x) e = omega arith
 
 -- all lines that are left are asked for

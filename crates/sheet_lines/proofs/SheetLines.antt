@@ -11,10 +11,10 @@ use lib.Seq.{take-nil, drop-nil}
 use borrow.Author.Tests.{lt-ltb, le-ltb, ne-eqb, ltb-true, leb-true, leb-false}
 use Rattle.hml.specs.Lists.{each}
 use Rattle.hml.specs.System.{steps}
+use Rattle.machines.specs.Cases.{Case}
 use Rattle.machines.specs.Joints.{jointOf}
 use Rattle.labels.specs.Refusals.{inFront}
 use Rattle.labels.specs.declared.refusal.Refusal.the-variants.{OutputTooShort}
-use Rattle.labels.specs.declared.label.Labels.{Labels}
 use Rattle.sheet_lines.specs.Sheets.{lineOf, linesOf, listed, bytesOf, fitting, firstTooLong, checkRoom}
 use Rattle.sheet_lines.specs.Sheets.{blockOf, writtenOr, blockAnswer, blockOutput}
 use Rattle.sheet_lines.specs.Working.{putAt, Full, numberedLine, fittedOf, fittedOutput}
@@ -47,13 +47,13 @@ module _ {A : Type 0} (f : ℕ → ℕ → A) (c : ℕ) (some : 1 ≤ c) where
       ∙ sym (listed-behind flat (p * c) c (m * c)) ∙ ap (listed flat (p * c)) (sym z)
 
 -- the lines of a sheet by their numbers
-pub lines-numbered : (k : Labels) (l r s f : List ℕ) (c : ℕ) → 1 ≤ c
-    → linesOf k l r s f c ≡ listed (numberedLine k l r s f c) 0 (suc (steps (jointOf s)) * c)
+pub lines-numbered : (c : Case) (ways : ℕ) → 1 ≤ ways
+    → linesOf c ways ≡ listed (numberedLine c ways) 0 (suc (steps (jointOf (c .run))) * ways)
 unfolding linesOf numberedLine
-lines-numbered k l r s f c h =
-    let z : 0 * c ≡ 0 = zero-mul c in
-    stretches (lineOf k l r s f) c h 0 (suc (steps (jointOf s)))
-    ∙ ap (λ x. listed (λ i. lineOf k l r s f (i / c) (i % c)) x (suc (steps (jointOf s)) * c)) z
+lines-numbered c ways h =
+    let z : 0 * ways ≡ 0 = zero-mul ways in
+    stretches (lineOf c) ways h 0 (suc (steps (jointOf (c .run))))
+    ∙ ap (λ x. listed (λ i. lineOf c (i / ways) (i % ways)) x (suc (steps (jointOf (c .run))) * ways)) z
 
 module _ {A : Type 0} (g : ℕ → A) where
   -- those behind the first ones

@@ -12,11 +12,10 @@ use Rattle.labels.specs.declared.refusal.Refusal.{Refusal}
 use Rattle.labels.specs.declared.refusal.Refusal.the-variants.{OutputTooShort}
 use Rattle.labels.specs.declared.refusal.Check.{Check}
 use Rattle.labels.specs.declared.refusal.Check.the-variants as check
-use Rattle.labels.specs.declared.label.Labels.{Labels}
 use Rattle.halves.specs.declared.side.Side.the-variants as side
+use Rattle.machines.specs.Cases.{Case}
 use Rattle.machines.specs.Joints.{jointOf}
-use Rattle.casebook.specs.Records.{bodyOf, labelsOf}
-use Rattle.casebook.specs.Reading.{readOf}
+use Rattle.casebook.specs.Reading.{readOf, caseOf}
 use Rattle.casebook.specs.declared.read.Reading.{Reading}
 use Rattle.casebook.specs.declared.read.Reading.the-variants as reading
 use Rattle.verdict.specs.Verdicts.{jointVerdict, halfVerdict}
@@ -65,18 +64,21 @@ abbrev pub textRoom : ℕ
 textRoom = 8192
 
 -- the quotient of the question by the right half of a splitting, at a point: what its call answers, and its bytes
-unfoldable pub quotientAt : Labels → List ℕ → List ℕ → List ℕ → List ℕ → ℕ → ℕ → Quotient
-quotientAt k l r s f point n = byNumber k l r s f n side.Right point textRoom
+unfoldable pub quotientAt : Case → ℕ → ℕ → Quotient
+quotientAt c point n = byNumber c n side.Right point textRoom
 
-unfoldable pub textAt : Labels → List ℕ → List ℕ → List ℕ → List ℕ → ℕ → ℕ → List ℕ
-textAt k l r s f point n = textOf (treeByNumber k l r s f n side.Right point)
+unfoldable pub textAt : Case → ℕ → ℕ → List ℕ
+textAt c point n = textOf (treeByNumber c n side.Right point)
 
 -- a line: "point, splitting number, joint verdict (T or F), quotient by the right half in lower-case hexadecimal, left
 -- half's verdict, all three at that point"
-unfoldable pub lineOf : Labels → List ℕ → List ℕ → List ℕ → List ℕ → ℕ → ℕ → List ℕ
-lineOf k l r s f point n = headOf point n (letterOf (jointVerdict k l r s f point))
-    ++ endingOf (quotientAt k l r s f point n) (textAt k l r s f point n)
-    (letterOf (halfVerdict k l (leftHalf k l r s n) (textAt k l r s f point n) point))
+unfoldable pub lineOf : Case → ℕ → ℕ → List ℕ
+lineOf c point n =
+    headOf point n (letterOf (jointVerdict (c .labels) (c .left) (c .right) (c .run) (c .question) point))
+    ++ endingOf (quotientAt c point n) (textAt c point n)
+    (letterOf
+    (halfVerdict (c .labels) (c .left) (leftHalf (c .labels) (c .left) (c .right) (c .run) n)
+    (textAt c point n) point))
 
 -- what g gives from i on, so many times
 unfoldable pub listed : {A : Type 0} → (ℕ → A) → ℕ → ℕ → List A
@@ -84,9 +86,9 @@ listed g i zero = []
 listed g i (suc m) = g i ∷ listed g (suc i) m
 
 -- "For each point from 0, and within it each splitting of the whole run, it prints a line"
-unfoldable pub linesOf : Labels → List ℕ → List ℕ → List ℕ → List ℕ → ℕ → List (List ℕ)
-linesOf k l r s f count =
-    each (λ point. listed (lineOf k l r s f point) 0 count) (listed (λ point. point) 0 (suc (steps (jointOf s))))
+unfoldable pub linesOf : Case → ℕ → List (List ℕ)
+linesOf c count =
+    each (λ point. listed (lineOf c point) 0 count) (listed (λ point. point) 0 (suc (steps (jointOf (c .run)))))
 
 -- "A refused casebook or count prints only one line, as `R 8`"
 unfoldable pub refusedLine : Refusal → List ℕ
@@ -96,13 +98,11 @@ unfoldable pub countedLines : Counted → (ℕ → List (List ℕ)) → List (Li
 countedLines (count.Splittings n) g = g n
 countedLines (count.Refused x) g = refusedLine x ∷ []
 
-unfoldable pub partsLines : Labels → List ℕ → List ℕ → List ℕ → List ℕ → List (List ℕ)
-partsLines k l r s f = countedLines (countOf k l r s) (linesOf k l r s f)
+unfoldable pub caseLines : Case → List (List ℕ)
+caseLines c = countedLines (countOf (c .labels) (c .left) (c .right) (c .run)) (linesOf c)
 
 unfoldable pub readLines : List ℕ → Reading → List (List ℕ)
-readLines s (reading.Casebook c) =
-    partsLines (labelsOf s (c .labels)) (bodyOf s (c .left)) (bodyOf s (c .right)) (bodyOf s (c .run))
-    (bodyOf s (c .question))
+readLines s (reading.Casebook p) = caseLines (caseOf s p)
 readLines s (reading.Refused x) = refusedLine x ∷ []
 
 -- the sheet of any bytes

@@ -4,21 +4,28 @@ use mathlib.Core.Path.{_≡_}
 use mathlib.Core.Logic.{_⊎_}
 use mathlib.Core.Bool.{cond}
 use mathlib.Core.List.{List, _++_}
+use mathlib.Core.Option.{Option}
 use lib.ListN.{length, getD, take, drop, set}
 use lib.Dec.{ltb, eqb}
 unfoldable pub use Rattle.digits.specs.Working.{putAt}
+use Rattle.hml.specs.Formula.{Formula}
 use Rattle.labels.specs.Refusals.{inFront}
+use Rattle.labels.specs.declared.refusal.Check.{Check}
 use Rattle.labels.specs.declared.refusal.Check.the-variants.{Sound}
-use Rattle.labels.specs.declared.label.Labels.{Labels}
+use Rattle.halves.specs.declared.side.Side.the-variants as side
+use Rattle.machines.specs.Cases.{Case, withRun}
 use Rattle.formulas.specs.Formulas.{questionLimit, checkFormula}
-use Rattle.splitting.specs.Splittings.{splittingsOf, splittingLimit, checkLog, rightHalf}
+use Rattle.verdict.specs.Verdicts.{jointVerdict}
+use Rattle.splitting.specs.Splittings.{splittingsOf, splittingLimit, checkLog, countOf, rightHalf}
 use Rattle.splitting.specs.declared.count.Counted.{Counted}
 use Rattle.splitting.specs.declared.count.Counted.the-variants as count
+use Rattle.dividing.specs.declared.divide.Quotient.{Quotient}
+use Rattle.quotient.specs.Calls.{treeByNumber, checkByNumber, byNumber, byNumberOutput}
 use Rattle.sheet_lines.specs.declared.point.Point.{Point}
 use Rattle.sheet_lines.specs.declared.kept.Kept.{Kept}
 use Rattle.sheet_lines.specs.declared.lines.Fitted.{Fitted}
-use Rattle.sheet_lines.specs.Sheets.{endingOf, headOf, lineOf, quotientAt, textAt, listed, bytesOf, fitting}
-use Rattle.sheet_lines.specs.Sheets.{firstTooLong}
+use Rattle.sheet_lines.specs.Sheets.{letterOf, endingOf, headOf, lineOf, quotientAt, textAt, listed}
+use Rattle.sheet_lines.specs.Sheets.{bytesOf, fitting, firstTooLong}
 
 -- lines i to j are written behind a place, where an output xs begins, and those up to `end` are due: the output is ys
 -- now, and the next line's place is `at`
@@ -37,30 +44,74 @@ pub record Full (block : List (List ℕ)) (xs : List ℕ) (start i : ℕ) (ys : 
   pub place : at ≡ start + length (bytesOf block)
   pub counted : j ≡ i + length block
 
--- a log and a question that no check refuses
-pub record Asked (k : Labels) (l r s f : List ℕ) : Type 0 where
-  pub log : checkLog k l r s ≡ Sound
-  pub question : checkFormula k questionLimit f ≡ Sound
+-- of a case: the check of its log, how many splittings the log has, what their count answers, and the right half of
+-- one
+abbrev pub logCheck : Case → Check
+logCheck c = checkLog (c .labels) (c .left) (c .right) (c .run)
 
--- and the number of the log's splittings
-pub record Numbered (k : Labels) (l r s f : List ℕ) (count : ℕ) : Type 0 where
-  pub asked : Asked k l r s f
-  pub counted : count ≡ length (splittingsOf k l r s)
+abbrev pub waysOf : Case → ℕ
+waysOf c = length (splittingsOf (c .labels) (c .left) (c .right) (c .run))
+
+abbrev pub countIn : Case → Counted
+countIn c = countOf (c .labels) (c .left) (c .right) (c .run)
+
+abbrev pub halfIn : Case → ℕ → List ℕ
+halfIn c i = rightHalf (c .labels) (c .left) (c .right) (c .run) i
+
+-- the letter of the joint verdict on it at a point
+abbrev pub letterAt : Case → ℕ → ℕ
+letterAt c point =
+    letterOf (jointVerdict (c .labels) (c .left) (c .right) (c .run) (c .question) point)
+
+-- the call for the quotient by the right half of splitting n, at a point: its check, its tree, its answer and output
+abbrev pub checkAt : Case → ℕ → ℕ → Check
+checkAt c point n = checkByNumber c n point
+
+abbrev pub treeAt : Case → ℕ → ℕ → Option Formula
+treeAt c point n = treeByNumber c n side.Right point
+
+abbrev pub answerAt : Case → ℕ → ℕ → ℕ → Quotient
+answerAt c point n room = byNumber c n side.Right point room
+
+abbrev pub outputAt : Case → ℕ → ℕ → List ℕ → List ℕ
+outputAt c point n out = byNumberOutput c n side.Right point out
+
+-- and at the end of its run, for splitting t
+abbrev pub quotientIn : Case → ℕ → ℕ → Quotient
+quotientIn c t room = answerAt c (length (c .run) / 3) t room
+
+abbrev pub outputIn : Case → ℕ → List ℕ → List ℕ
+outputIn c t out = outputAt c (length (c .run) / 3) t out
+
+-- a case whose log no check refuses, and whose splittings can be numbered
+pub record Splits (c : Case) : Type 0 where
+  pub log : logCheck c ≡ Sound
+  pub few : waysOf c ≤ splittingLimit
+
+-- a case of which no check refuses the log or the question
+pub record Asked (c : Case) : Type 0 where
+  pub log : logCheck c ≡ Sound
+  pub question : checkFormula (c .labels) questionLimit (c .question) ≡ Sound
+
+-- and the number of its splittings
+pub record Numbered (c : Case) (count : ℕ) : Type 0 where
+  pub asked : Asked c
+  pub counted : count ≡ waysOf c
   pub few : count ≤ splittingLimit
   pub some : 1 ≤ count
 
 -- line i of the sheet
-unfoldable pub numberedLine : Labels → List ℕ → List ℕ → List ℕ → List ℕ → ℕ → ℕ → List ℕ
-numberedLine k l r s f count i = lineOf k l r s f (i / count) (i % count)
+unfoldable pub numberedLine : Case → ℕ → ℕ → List ℕ
+numberedLine c count i = lineOf c (i / count) (i % count)
 
--- the ending of the lines whose splitting has number t in a window, at the window's end
-unfoldable pub endingIn : Labels → List ℕ → List ℕ → List ℕ → List ℕ → ℕ → ℕ → List ℕ
-endingIn k l r w f letter t =
-    endingOf (quotientAt k l r w f (length w / 3) t) (textAt k l r w f (length w / 3) t) letter
+-- the ending of the lines whose splitting has number t in a window, at the window's end; a window is a case whose run
+-- is a part of another's
+unfoldable pub endingIn : Case → ℕ → ℕ → List ℕ
+endingIn w letter t = endingOf (quotientAt w (length (w .run) / 3) t) (textAt w (length (w .run) / 3) t) letter
 
 -- such a line
-unfoldable pub lineIn : Labels → List ℕ → List ℕ → List ℕ → List ℕ → ℕ → ℕ → ℕ → ℕ → List ℕ
-lineIn k l r w f letter point n t = headOf point n letter ++ endingIn k l r w f letter t
+unfoldable pub lineIn : Case → ℕ → ℕ → ℕ → ℕ → List ℕ
+lineIn w letter point n t = headOf point n letter ++ endingIn w letter t
 
 -- the line of splitting n of a point, with a given ending
 unfoldable pub lineWith : Point → List ℕ → ℕ → List ℕ
@@ -79,8 +130,8 @@ unfoldable pub Tens : ℕ → ℕ → Type 0
 Tens n end = (n ≤ end) × (end ≤ n - n % 10 + 10)
 
 -- the line of splitting n of a point: its number in the window is n / after % ways
-unfoldable pub lineBy : Labels → List ℕ → List ℕ → List ℕ → List ℕ → Point → ℕ → List ℕ
-lineBy k l r w f p n = lineIn k l r w f (p .letter) (p .number) n (n / p .after % p .ways)
+unfoldable pub lineBy : Case → Point → ℕ → List ℕ
+lineBy w p n = lineIn w (p .letter) (p .number) n (n / p .after % p .ways)
 
 -- where endings stand in an output, from one place to another in front of `at`, for each number below `ways`; 0 as the
 -- second place if it stands nowhere
@@ -119,43 +170,46 @@ Forgotten ends n = (t : ℕ) → t < n → getD ends t 0 ≡ 0
 unfoldable pub afterOf : ℕ → ℕ → ℕ
 afterOf ways n = cond (eqb ways 1) 65536 n
 
--- the two parts of a window that is cut behind its first m steps, each as a log of its own
-unfoldable pub olderPart : List ℕ → ℕ → List ℕ
-olderPart w m = take (3 * m + 2) w
+-- the run of a case from one point to another, as a case of its own
+unfoldable pub between : Case → ℕ → ℕ → Case
+between c from to = withRun c (take (3 * (to - from) + 2) (drop (3 * from) (c .run)))
 
-unfoldable pub newerPart : List ℕ → ℕ → List ℕ
-newerPart w m = drop (3 * m) w
+-- the two parts of a window that is cut behind its first m steps, each as a case of its own
+unfoldable pub olderPart : Case → ℕ → Case
+olderPart w m = withRun w (take (3 * m + 2) (w .run))
+
+unfoldable pub newerPart : Case → ℕ → Case
+newerPart w m = withRun w (drop (3 * m) (w .run))
 
 -- a half stands at a place of the table of halves, which has 401 bytes for each
 unfoldable pub HalfAt : List ℕ → ℕ → List ℕ → Type 0
 HalfAt halves i h = take (length h) (drop (401 * i) halves) ≡ h
 
--- the right halves of the first n splittings of a log stand there, from the place `first` on
-unfoldable pub HalvesAt : Labels → List ℕ → List ℕ → List ℕ → List ℕ → ℕ → ℕ → Type 0
-HalvesAt k l r s halves first n = (i : ℕ) → i < n → HalfAt halves (first + i) (rightHalf k l r s i)
+-- the right halves of the first n splittings of a case stand there, from the place `first` on
+unfoldable pub HalvesAt : Case → List ℕ → ℕ → ℕ → Type 0
+HalvesAt c halves first n = (i : ℕ) → i < n → HalfAt halves (first + i) (halfIn c i)
 
 -- those of both parts of a window: the older part's from place 0 on, the newer part's from place 256 on
-pub record PartHalves (k : Labels) (l r w : List ℕ) (kept : Kept) (halves : List ℕ) : Type 0 where
-  pub points : kept .older + kept .newer ≡ length w / 3
-  pub counted : kept .ways ≡ length (splittingsOf k l r (newerPart w (kept .older)))
-  pub fewOlder : length (splittingsOf k l r (olderPart w (kept .older))) ≤ 256
+pub record PartHalves (w : Case) (kept : Kept) (halves : List ℕ) : Type 0 where
+  pub points : kept .older + kept .newer ≡ length (w .run) / 3
+  pub counted : kept .ways ≡ waysOf (newerPart w (kept .older))
+  pub fewOlder : waysOf (olderPart w (kept .older)) ≤ 256
   pub fewNewer : kept .ways ≤ 256
-  pub olderHalves : HalvesAt k l r (olderPart w (kept .older)) halves 0
-      (length (splittingsOf k l r (olderPart w (kept .older))))
-  pub newerHalves : HalvesAt k l r (newerPart w (kept .older)) halves 256 (kept .ways)
+  pub olderHalves : HalvesAt (olderPart w (kept .older)) halves 0 (waysOf (olderPart w (kept .older)))
+  pub newerHalves : HalvesAt (newerPart w (kept .older)) halves 256 (kept .ways)
 
 -- the table has room for 512 halves, and holds those of the window's parts, or none are kept
-pub record Halved (k : Labels) (l r w : List ℕ) (kept : Kept) (halves : List ℕ) : Type 0 where
+pub record Halved (w : Case) (kept : Kept) (halves : List ℕ) : Type 0 where
   pub size : length halves ≡ 205312
-  pub stands : (kept .ways ≡ 0) ⊎ PartHalves k l r w kept halves
+  pub stands : (kept .ways ≡ 0) ⊎ PartHalves w kept halves
 
--- what the lines of a point share: a window and a question that no check refuses, how many splittings the window has,
--- and their halves
-pub record Shared (k : Labels) (l r w f : List ℕ) (p : Point) (halves : List ℕ) : Type 0 where
-  pub asked : Asked k l r w f
-  pub counted : p .ways ≡ length (splittingsOf k l r w)
-  pub few : length (splittingsOf k l r w) ≤ splittingLimit
-  pub halved : Halved k l r w (p .kept) halves
+-- what the lines of a point share: a window of which no check refuses the log or the question, how many splittings it
+-- has, and their halves
+pub record Shared (w : Case) (p : Point) (halves : List ℕ) : Type 0 where
+  pub asked : Asked w
+  pub counted : p .ways ≡ waysOf w
+  pub few : waysOf w ≤ splittingLimit
+  pub halved : Halved w (p .kept) halves
 
 -- lines that are due, as far as they fit into so many bytes, and whether the first of them is longer; the output
 -- afterwards

@@ -1,29 +1,27 @@
 // The two last fields of a line: the quotient by the right half, and the left half's verdict.
 use crate::kept::Kept;
 use crate::kept::quotient_text;
+use casebook::read::Parts;
 use digits::decimal::put_decimal;
 use digits::hexadecimal::put_hexadecimal;
 use dividing::divide::Quotient;
-use labels::label::Labels;
 use labels::refusal::Refusal;
 ghost use mathlib.Core.Path.{_≡_};
 ghost use mathlib.Core.List.{[], _∷_, _++_};
 ghost use Prim.Native.Nat.{_+_, _*_, _≤_, _<_};
 ghost use lib.ListN.{length, take};
 ghost use Rattle.labels.specs.Refusals.{numberOf};
-ghost use Rattle.splitting.specs.Splittings.{splittingsOf, splittingLimit};
+ghost use Rattle.casebook.specs.Reading.{caseOf};
+ghost use Rattle.splitting.specs.Splittings.{splittingLimit};
 ghost use Rattle.digits.specs.Digits.{decimal, hexadecimal};
 ghost use Rattle.sheet_lines.specs.Sheets.{blank, dash, lineFeed};
-ghost use Rattle.sheet_lines.specs.Working.{putAt, endingIn, Asked, Halved};
+ghost use Rattle.sheet_lines.specs.Working.{putAt, waysOf, endingIn, Asked, Halved};
 
 // Writes the ending of the lines by splitting t of a window, at its end, to the front of `ending`, and gives its
 // length.
-pub(crate) fn find_ending<'a>(
-    labels: Labels,
-    left: &'a [u8],
-    right: &'a [u8],
-    window: &[u8],
-    question: &[u8],
+pub(crate) fn find_ending(
+    casebook: &[u8],
+    window: Parts,
     t: usize,
     kept: Kept,
     halves: &[u8],
@@ -31,20 +29,15 @@ pub(crate) fn find_ending<'a>(
     text: &mut [u8],
     ending: &mut [u8],
 ) -> usize
-    requires { ⌜ Asked labels (now left) (now right) (now window) (now question)
-        × Halved labels (now left) (now right) (now window) kept (now halves) ⌝ }
-    requires { ⌜ (t < length (splittingsOf labels (now left) (now right) (now window)))
-        × (length (splittingsOf labels (now left) (now right) (now window)) ≤ splittingLimit) ⌝ }
-    requires { ⌜ (length (now text) ≡ 8192) × (length (now ending) ≡ 16387) ⌝ }
-    ensures { λ r. ⌜ r ≡ length
-        (endingIn labels (now (left .entry)) (now (right .entry)) (now (window .entry)) (now (question .entry)) letter
-        t) ⌝ }
-    ensures { λ r. ⌜ take r (now (ending .exit))
-        ≡ endingIn labels (now (left .entry)) (now (right .entry)) (now (window .entry)) (now (question .entry)) letter
-        t ⌝ }
+    requires { ⌜ Asked (caseOf (now casebook) window) × (t < waysOf (caseOf (now casebook) window))
+        × (waysOf (caseOf (now casebook) window) ≤ splittingLimit) ⌝ }
+    requires { ⌜ Halved (caseOf (now casebook) window) kept (now halves) × (length (now text) ≡ 8192) ⌝ }
+    requires { ⌜ length (now ending) ≡ 16387 ⌝ }
+    ensures { λ r. ⌜ r ≡ length (endingIn (caseOf (now (casebook .entry)) window) letter t) ⌝ }
+    ensures { λ r. ⌜ take r (now (ending .exit)) ≡ endingIn (caseOf (now (casebook .entry)) window) letter t ⌝ }
     ensures { λ r. ⌜ r ≤ 16387 ⌝ }
 {
-    match quotient_text(labels, left, right, window, question, t, kept, halves, text) {
+    match quotient_text(casebook, window, t, kept, halves, text) {
         Quotient::Written(n) => put_fields(&text[..n], letter, ending),
         Quotient::Refused(refusal) => put_refusal(refusal, ending),
     }

@@ -81,19 +81,25 @@ fn write_digits(
         (listed (digitLine (now (line .entry)) place number) number (until - number))) (now (out .entry)) at number
         (now (out .exit)) (r .at) (r .number) ⌝ }
 {
-    let mut digit = 48 + (number % 10) as u8;
-    let mut i = number;
+    let first = 48 + (number % 10) as u8;
+    let end = first + (until - number) as u8;
+    let mut digit = first;
     let mut to = at;
-    while i < until {
+    while digit < end {
         if out.len() - to < line.len() {
-            return Progress { number: i, at: to };
+            return Progress {
+                number: number + (digit - first) as usize,
+                at: to,
+            };
         }
         put_line(line, place, digit, to, out);
         to += line.len();
-        i += 1;
         digit += 1;
     }
-    Progress { number: i, at: to }
+    Progress {
+        number: until,
+        at: to,
+    }
 }
 
 // Writes a line at a place, with this digit in the line's place for it.

@@ -1,23 +1,25 @@
 // Lines of the sheet of any bytes, as many as fit into an output.
+use crate::case::count_of;
+use crate::case::steps_of;
 use crate::point::Progress;
 use crate::point::write_point;
+use casebook::read::Parts;
 use casebook::read::Reading;
 use casebook::read::read;
 use digits::decimal::digit_count;
 use digits::decimal::put_decimal;
 use formulas::backs::back_depth;
-use labels::label::Labels;
 use labels::number::smaller;
 use labels::refusal::Refusal;
 use splitting::count::Counted;
-use splitting::count::count;
 ghost use mathlib.Core.Path.{_≡_};
 ghost use mathlib.Core.List.{[], _∷_};
 ghost use Prim.Native.Nat.{suc, _+_, _*_, _≤_};
 ghost use lib.ListN.{length, take, drop};
 ghost use Rattle.hml.specs.System.{steps};
 ghost use Rattle.machines.specs.Joints.{jointOf};
-ghost use Rattle.sheet_lines.specs.Sheets.{refusedLine, partsLines, linesDue, listed, fitting, blockAnswer};
+ghost use Rattle.casebook.specs.Reading.{caseOf};
+ghost use Rattle.sheet_lines.specs.Sheets.{refusedLine, caseLines, linesDue, listed, fitting, blockAnswer};
 ghost use Rattle.sheet_lines.specs.Sheets.{blockOutput};
 ghost use Rattle.sheet_lines.specs.Working.{putAt, Asked, Numbered, numberedLine, Full, fittedOf, fittedOutput};
 
@@ -62,51 +64,24 @@ pub(crate) fn fit_lines(casebook: &[u8], first: usize, most: usize, out: &mut [u
     ensures { λ r. ⌜ now (out .exit) ≡ fittedOutput (linesDue (now (casebook .entry)) first most) (now (out .entry)) ⌝ }
 {
     match read(casebook) {
-        Reading::Casebook(parts) => {
-            let left = parts.left;
-            let right = parts.right;
-            let run = parts.run;
-            let question = parts.question;
-            let labels = parts.labels(casebook);
-            fit_parts(
-                labels,
-                left.body(casebook),
-                right.body(casebook),
-                run.body(casebook),
-                question.body(casebook),
-                first,
-                most,
-                out,
-            )
-        }
+        Reading::Casebook(parts) => fit_case(casebook, parts, first, most, out),
         Reading::Refused(refusal) => fit_refused(refusal, first, most, out),
     }
 }
 
-// The lines of a log and a question that no check refuses, unless the count does.
-fn fit_parts<'a>(
-    labels: Labels,
-    left: &'a [u8],
-    right: &'a [u8],
-    run: &[u8],
-    question: &[u8],
-    first: usize,
-    most: usize,
-    out: &mut [u8],
-) -> Fitted
-    requires { ⌜ Asked labels (now left) (now right) (now run) (now question) ⌝ }
+// The lines of a case of which no check refuses the log or the question, unless the count does.
+fn fit_case(casebook: &[u8], parts: Parts, first: usize, most: usize, out: &mut [u8]) -> Fitted
+    requires { ⌜ Asked (caseOf (now casebook) parts) ⌝ }
     ensures { λ r. ⌜ r ≡ fittedOf
-        (take most (drop first
-        (partsLines labels (now (left .entry)) (now (right .entry)) (now (run .entry)) (now (question .entry)))))
+        (take most (drop first (caseLines (caseOf (now (casebook .entry)) parts))))
         (length (now (out .entry))) ⌝ }
     ensures { λ r. ⌜ now (out .exit) ≡ fittedOutput
-        (take most (drop first
-        (partsLines labels (now (left .entry)) (now (right .entry)) (now (run .entry)) (now (question .entry)))))
+        (take most (drop first (caseLines (caseOf (now (casebook .entry)) parts))))
         (now (out .entry)) ⌝ }
 {
-    match count(labels, left, right, run) {
+    match count_of(casebook, parts) {
         Counted::Splittings(splittings) => {
-            let total = (run.len() / 3 + 1) * splittings;
+            let total = (steps_of(casebook, parts) + 1) * splittings;
             if total <= first {
                 return Fitted {
                     lines: 0,
@@ -122,56 +97,31 @@ fn fit_parts<'a>(
                 };
             }
             let due = smaller(most, total - first);
-            fit_sheet(
-                labels,
-                left,
-                right,
-                run,
-                question,
-                splittings,
-                first,
-                due,
-                out,
-            )
+            fit_sheet(casebook, parts, splittings, first, due, out)
         }
         Counted::Refused(refusal) => fit_refused(refusal, first, most, out),
     }
 }
 
 // So many lines, from line `first` on, or as many of them as fit.
-fn fit_sheet<'a>(
-    labels: Labels,
-    left: &'a [u8],
-    right: &'a [u8],
-    run: &[u8],
-    question: &[u8],
+fn fit_sheet(
+    casebook: &[u8],
+    parts: Parts,
     splittings: usize,
     first: usize,
     due: usize,
     out: &mut [u8],
 ) -> Fitted
-    requires { ⌜ Numbered labels (now left) (now right) (now run) (now question) splittings ⌝ }
-    requires { ⌜ (1 ≤ due) × (first + due ≤ suc (steps (jointOf (now run))) * splittings) ⌝ }
+    requires { ⌜ Numbered (caseOf (now casebook) parts) splittings ⌝ }
+    requires { ⌜ (1 ≤ due) × (first + due ≤ suc (steps (jointOf (caseOf (now casebook) parts .run))) * splittings) ⌝ }
     ensures { λ r. ⌜ r ≡ fittedOf
-        (listed (numberedLine labels (now (left .entry)) (now (right .entry)) (now (run .entry)) (now (question .entry))
-        splittings) first due)
+        (listed (numberedLine (caseOf (now (casebook .entry)) parts) splittings) first due)
         (length (now (out .entry))) ⌝ }
     ensures { λ r. ⌜ now (out .exit) ≡ fittedOutput
-        (listed (numberedLine labels (now (left .entry)) (now (right .entry)) (now (run .entry)) (now (question .entry))
-        splittings) first due)
+        (listed (numberedLine (caseOf (now (casebook .entry)) parts) splittings) first due)
         (now (out .entry)) ⌝ }
 {
-    let done = fill(
-        labels,
-        left,
-        right,
-        run,
-        question,
-        splittings,
-        first,
-        due,
-        out,
-    );
+    let done = fill(casebook, parts, splittings, first, due, out);
     let lines = done.number - first;
     Fitted {
         lines,
@@ -182,25 +132,23 @@ fn fit_sheet<'a>(
 
 // Fills an output with lines, point by point: line i is that of point i / splittings and of splitting i % splittings.
 // Gives the line that is due next, and how many bytes are written.
-fn fill<'a>(
-    labels: Labels,
-    left: &'a [u8],
-    right: &'a [u8],
-    run: &[u8],
-    question: &[u8],
+fn fill(
+    casebook: &[u8],
+    parts: Parts,
     splittings: usize,
     first: usize,
     due: usize,
     out: &mut [u8],
 ) -> Progress
-    requires { ⌜ Numbered labels (now left) (now right) (now run) (now question) splittings ⌝ }
-    requires { ⌜ first + due ≤ suc (steps (jointOf (now run))) * splittings ⌝ }
+    requires { ⌜ Numbered (caseOf (now casebook) parts) splittings ⌝ }
+    requires { ⌜ first + due ≤ suc (steps (jointOf (caseOf (now casebook) parts .run))) * splittings ⌝ }
     ensures { λ r. ⌜ Full
         (fitting (length (now (out .entry)))
-        (listed (numberedLine labels (now (left .entry)) (now (right .entry)) (now (run .entry)) (now (question .entry))
-        splittings) first due)) (now (out .entry)) 0 first (now (out .exit)) (r .at) (r .number) ⌝ }
+        (listed (numberedLine (caseOf (now (casebook .entry)) parts) splittings) first due)) (now (out .entry)) 0 first
+        (now (out .exit)) (r .at) (r .number) ⌝ }
 {
-    let back = back_depth(question);
+    let question = parts.question;
+    let back = back_depth(question.body(casebook));
     let mut froms = [0usize; 8192];
     let mut ends = [0usize; 8192];
     let mut halves = [0u8; 205312];
@@ -214,11 +162,8 @@ fn fill<'a>(
         let number = i % splittings;
         let until = smaller(splittings, number + (end - i));
         let done = write_point(
-            labels,
-            left,
-            right,
-            run,
-            question,
+            casebook,
+            parts,
             back,
             point,
             number,

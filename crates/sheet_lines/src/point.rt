@@ -1,12 +1,14 @@
 // The lines of one point.
+use crate::case::labels_of;
+use crate::case::part_of;
+use crate::case::splittings_of;
+use crate::case::steps_of;
 use crate::ending::find_ending;
 use crate::kept::Kept;
 use crate::kept::keep_halves;
 use crate::line::write_turn;
-use labels::label::Labels;
+use casebook::read::Parts;
 use labels::number::smaller;
-use splitting::count::Counted;
-use splitting::count::count;
 use verdict::answer::Verdict;
 use verdict::joint::joint;
 ghost use mathlib.Core.Path.{_≡_};
@@ -14,11 +16,13 @@ ghost use Prim.Native.Nat.{_+_, _-_, _≤_, _<_};
 ghost use lib.ListN.{length, take, drop};
 ghost use Rattle.hml.specs.System.{steps};
 ghost use Rattle.machines.specs.Joints.{jointOf};
-ghost use Rattle.splitting.specs.Splittings.{splittingsOf, splittingLimit, countOf};
+ghost use Rattle.casebook.specs.Reading.{caseOf};
+ghost use Rattle.splitting.specs.Splittings.{splittingLimit};
 ghost use Rattle.formulas.specs.Working.{backsOf};
 ghost use Rattle.sheet_lines.specs.Sheets.{letterOf, lineOf, listed, fitting};
-ghost use Rattle.sheet_lines.specs.Working.{Asked, Full, countedAs, afterOf, Forgotten, Scratch, endingIn};
-ghost use Rattle.sheet_lines.specs.Working.{lineBy, EndingsKnown, Shared, fromsAfter, endsAfter};
+ghost use Rattle.sheet_lines.specs.Working.{waysOf, countIn, letterAt, Asked, Full, countedAs, afterOf};
+ghost use Rattle.sheet_lines.specs.Working.{Forgotten, Scratch, endingIn, lineBy, EndingsKnown, Shared};
+ghost use Rattle.sheet_lines.specs.Working.{fromsAfter, endsAfter};
 
 // What the lines of a point share: the point's number, the joint verdict's letter, how many splittings there are of its
 // window, the steps before it by which quotients differ, and of what follows it, and how the halves of the window's
@@ -39,12 +43,9 @@ pub(crate) struct Progress {
 
 // Writes the lines of a point from splitting `number` on, behind a place, as many as fit, and not that of splitting
 // `until`. The question looks back at most `back` steps.
-pub(crate) fn write_point<'a>(
-    labels: Labels,
-    left: &'a [u8],
-    right: &'a [u8],
-    run: &[u8],
-    question: &[u8],
+pub(crate) fn write_point(
+    casebook: &[u8],
+    parts: Parts,
     back: usize,
     point: usize,
     number: usize,
@@ -57,26 +58,26 @@ pub(crate) fn write_point<'a>(
     text: &mut [u8],
     line: &mut [u8],
 ) -> Progress
-    requires { ⌜ Asked labels (now left) (now right) (now run) (now question) ⌝ }
-    requires { ⌜ (back ≡ backsOf (now question)) × (point ≤ steps (jointOf (now run))) ⌝ }
-    requires { ⌜ (number ≤ until) × (until ≤ length (splittingsOf labels (now left) (now right) (now run)))
-        × (length (splittingsOf labels (now left) (now right) (now run)) ≤ splittingLimit) ⌝ }
+    requires { ⌜ Asked (caseOf (now casebook) parts) ⌝ }
+    requires { ⌜ (back ≡ backsOf (caseOf (now casebook) parts .question))
+        × (point ≤ steps (jointOf (caseOf (now casebook) parts .run))) ⌝ }
+    requires { ⌜ (number ≤ until) × (until ≤ waysOf (caseOf (now casebook) parts))
+        × (waysOf (caseOf (now casebook) parts) ≤ splittingLimit) ⌝ }
     requires { ⌜ (at ≤ length (now out)) × (length (now halves) ≡ 205312)
         × Scratch (now froms) (now ends) (now text) (now line) ⌝ }
     ensures { λ r. ⌜ Full
         (fitting (length (now (out .entry)) - at)
-        (listed (lineOf labels (now (left .entry)) (now (right .entry)) (now (run .entry)) (now (question .entry))
-        point)
-        number (until - number))) (now (out .entry)) at number (now (out .exit)) (r .at) (r .number) ⌝ }
+        (listed (lineOf (caseOf (now (casebook .entry)) parts) point) number (until - number)))
+        (now (out .entry)) at number (now (out .exit)) (r .at) (r .number) ⌝ }
     ensures { λ r. ⌜ Scratch (now (froms .exit)) (now (ends .exit)) (now (text .exit)) (now (line .exit)) ⌝ }
 {
     let first = window_start(point, back);
-    let window = &run[3 * first..3 * point + 2];
-    let rest = &run[3 * point..];
-    let letter = letter_of(joint(labels, left, right, run, question, point));
-    let ways = splittings_of(labels, left, right, window);
-    let after = splittings_after(labels, left, right, rest, ways);
-    let kept = keep_halves(labels, left, right, window, ways, halves);
+    let window = part_of(casebook, parts, first, point);
+    let rest = part_of(casebook, parts, point, steps_of(casebook, parts));
+    let letter = letter_at(casebook, parts, point);
+    let ways = splittings_of(casebook, window);
+    let after = splittings_after(casebook, rest, ways);
+    let kept = keep_halves(casebook, window, ways, halves);
     let shared = Point {
         number: point,
         letter,
@@ -86,11 +87,8 @@ pub(crate) fn write_point<'a>(
     };
     forget(ends, ways);
     write_numbers(
-        labels,
-        left,
-        right,
+        casebook,
         window,
-        question,
         shared,
         number,
         until,
@@ -106,12 +104,9 @@ pub(crate) fn write_point<'a>(
 
 // The same with what the lines of the point share: turn by turn, until a line does not fit. A turn has the splittings
 // that follow each other and have the same number t in the window, so that their lines end alike.
-fn write_numbers<'a>(
-    labels: Labels,
-    left: &'a [u8],
-    right: &'a [u8],
-    window: &[u8],
-    question: &[u8],
+fn write_numbers(
+    casebook: &[u8],
+    window: Parts,
     point: Point,
     number: usize,
     until: usize,
@@ -125,15 +120,14 @@ fn write_numbers<'a>(
 ) -> Progress
     requires { ⌜ (point .number < 1000) × (number ≤ until) × (until ≤ 65536) × (at ≤ length (now out)) ⌝ }
     requires { ⌜ (0 < point .after) × (0 < point .ways) × (point .after ≤ 65536) ⌝ }
-    requires { ⌜ Shared labels (now left) (now right) (now window) (now question) point (now halves) ⌝ }
+    requires { ⌜ Shared (caseOf (now casebook) window) point (now halves) ⌝ }
     requires { ⌜ Scratch (now froms) (now ends) (now text) (now line) ⌝ }
-    requires { ⌜ EndingsKnown (endingIn labels (now left) (now right) (now window) (now question) (point .letter))
-        (point .ways) (now froms) (now ends) (now out) at ⌝ }
+    requires { ⌜ EndingsKnown (endingIn (caseOf (now casebook) window) (point .letter)) (point .ways) (now froms)
+        (now ends) (now out) at ⌝ }
     ensures { λ r. ⌜ Full
         (fitting (length (now (out .entry)) - at)
-        (listed (lineBy labels (now (left .entry)) (now (right .entry)) (now (window .entry)) (now (question .entry))
-        point)
-        number (until - number))) (now (out .entry)) at number (now (out .exit)) (r .at) (r .number) ⌝ }
+        (listed (lineBy (caseOf (now (casebook .entry)) window) point) number (until - number))) (now (out .entry)) at
+        number (now (out .exit)) (r .at) (r .number) ⌝ }
     ensures { λ r. ⌜ Scratch (now (froms .exit)) (now (ends .exit)) (now (text .exit)) (now (line .exit)) ⌝ }
 {
     let after = point.after;
@@ -143,11 +137,8 @@ fn write_numbers<'a>(
         let t = n / after % point.ways;
         let end = smaller(until, n + (after - n % after));
         let len = take_ending(
-            labels,
-            left,
-            right,
+            casebook,
             window,
-            question,
             point,
             t,
             to,
@@ -171,12 +162,9 @@ fn write_numbers<'a>(
 
 // Puts the ending of the lines by splitting t of the window behind the first 12 bytes of `line`, and gives its length:
 // copied from the output in front of `at`, if it stands there, else made anew.
-fn take_ending<'a>(
-    labels: Labels,
-    left: &'a [u8],
-    right: &'a [u8],
-    window: &[u8],
-    question: &[u8],
+fn take_ending(
+    casebook: &[u8],
+    window: Parts,
     point: Point,
     t: usize,
     at: usize,
@@ -188,16 +176,14 @@ fn take_ending<'a>(
     line: &mut [u8],
 ) -> usize
     requires { ⌜ (t < point .ways) × (at ≤ length (now out)) ⌝ }
-    requires { ⌜ Shared labels (now left) (now right) (now window) (now question) point (now halves) ⌝ }
+    requires { ⌜ Shared (caseOf (now casebook) window) point (now halves) ⌝ }
     requires { ⌜ Scratch (now froms) (now ends) (now text) (now line) ⌝ }
-    requires { ⌜ EndingsKnown (endingIn labels (now left) (now right) (now window) (now question) (point .letter))
-        (point .ways) (now froms) (now ends) (now out) at ⌝ }
+    requires { ⌜ EndingsKnown (endingIn (caseOf (now casebook) window) (point .letter)) (point .ways) (now froms)
+        (now ends) (now out) at ⌝ }
     ensures { λ r. ⌜ r ≡ length
-        (endingIn labels (now (left .entry)) (now (right .entry)) (now (window .entry)) (now (question .entry))
-        (point .letter) t) ⌝ }
+        (endingIn (caseOf (now (casebook .entry)) window) (point .letter) t) ⌝ }
     ensures { λ r. ⌜ take r (drop 12 (now (line .exit)))
-        ≡ endingIn labels (now (left .entry)) (now (right .entry)) (now (window .entry)) (now (question .entry))
-        (point .letter) t ⌝ }
+        ≡ endingIn (caseOf (now (casebook .entry)) window) (point .letter) t ⌝ }
     ensures { λ r. ⌜ r ≤ 16387 ⌝ }
 {
     if t < 8192 {
@@ -208,11 +194,8 @@ fn take_ending<'a>(
         }
     }
     find_ending(
-        labels,
-        left,
-        right,
+        casebook,
         window,
-        question,
         t,
         point.kept,
         halves,
@@ -266,26 +249,34 @@ fn letter_of(verdict: Verdict) -> u8
     }
 }
 
-// How many splittings a log has; 1 where the count is refused.
-pub(crate) fn splittings_of(labels: Labels, left: &[u8], right: &[u8], run: &[u8]) -> usize
-    ensures { λ r. ⌜ r ≡ countedAs (countOf labels (now (left .entry)) (now (right .entry)) (now (run .entry))) ⌝ }
+// The letter of the joint verdict at a point.
+fn letter_at(casebook: &[u8], parts: Parts, point: usize) -> u8
+    ensures { λ r. ⌜ r ≡ letterAt (caseOf (now (casebook .entry)) parts) point ⌝ }
 {
-    match count(labels, left, right, run) {
-        Counted::Splittings(n) => n,
-        Counted::Refused(_) => 1,
-    }
+    let labels = labels_of(casebook, parts);
+    let left = parts.left;
+    let right = parts.right;
+    let run = parts.run;
+    let question = parts.question;
+    letter_of(joint(
+        labels,
+        left.body(casebook),
+        right.body(casebook),
+        run.body(casebook),
+        question.body(casebook),
+        point,
+    ))
 }
 
-// By how many splittings numbers are divided to find their number in the window. Where the window has one splitting
-// only, all numbers fall to it.
-fn splittings_after(labels: Labels, left: &[u8], right: &[u8], rest: &[u8], ways: usize) -> usize
-    ensures { λ r. ⌜ r ≡ afterOf ways
-        (countedAs (countOf labels (now (left .entry)) (now (right .entry)) (now (rest .entry)))) ⌝ }
+// By how many splittings numbers are divided to find their number in the window: by those of the rest of the run. Where
+// the window has one splitting only, all numbers fall to it.
+fn splittings_after(casebook: &[u8], rest: Parts, ways: usize) -> usize
+    ensures { λ r. ⌜ r ≡ afterOf ways (countedAs (countIn (caseOf (now (casebook .entry)) rest))) ⌝ }
 {
     if ways == 1 {
         return 65536;
     }
-    splittings_of(labels, left, right, rest)
+    splittings_of(casebook, rest)
 }
 
 // No ending of an earlier point stands in the output any more.

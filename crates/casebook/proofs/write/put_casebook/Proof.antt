@@ -1,6 +1,7 @@
 -- Each record goes into the rest of the output behind those before it.
 use native.Mathlib.Omega.{arith}
 use Rattle.labels.proofs.Outputs.{front-length}
+use Rattle.machines.specs.Cases.{caseWith}
 use Rattle.casebook.specs.Writing.{casebookBytes}
 use Rattle.casebook.proofs.RoundTrip.{casebook-length}
 use Rattle.casebook.proofs.Writing.{fifth-room, all-put}
@@ -103,16 +104,17 @@ same-length c =
     let c3 = c2 .before .before .before .before in
     let c4 = c3 .before .before .before .before in
     let s = c4 .before .before .before .before .before .before .before .before in
-    front-length (casebookBytes (s .args .labels) (s .args .left .now) (s .args .right .now) (s .args .run .now)
-    (s .args .question .now)) (s .args .out .now) _
+    front-length
+    (casebookBytes (caseWith (s .args .labels) (s .args .left .now) (s .args .right .now) (s .args .run .now)
+    (s .args .question .now))) (s .args .out .now) _
     (all-put (s .args .labels) (s .args .left .now) (s .args .right .now) (s .args .run .now) (s .args .question .now)
     (s .args .out .now) _ _ _ _ (c4 .put-record .ensures) (c3 .put-record2 .ensures) (c2 .put-record3 .ensures)
     (c1 .put-record4 .ensures) _ (c .before .before .put-record5 .ensures))
     (omega (
       arith,
       s .pre .room,
-      casebook-length (s .args .labels) (s .args .left .now) (s .args .right .now) (s .args .run .now)
-          (s .args .question .now),
+      casebook-length (caseWith (s .args .labels) (s .args .left .now) (s .args .right .now) (s .args .run .now)
+          (s .args .question .now)),
     ))
 
 returns : tie.Need-returns

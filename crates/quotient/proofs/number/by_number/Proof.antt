@@ -1,4 +1,4 @@
--- The labels, what is asked and the split decide, or the division by the known half, cut at the point, of the splitting.
+-- The labels, what is asked and the split decide, or the division by the splitting's known half, cut at the point.
 use borrow.Author.Needs.{needs}
 use Rattle.quotient.proofs.number.by_number.Statement.{statement}
 use Rattle.quotient.proofs.number.by_number.Tie as tie

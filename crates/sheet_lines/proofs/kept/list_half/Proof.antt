@@ -2,7 +2,20 @@ use borrow.Author.Needs.{needs}
 use Rattle.sheet_lines.proofs.kept.list_half.Statement.{statement}
 use Rattle.sheet_lines.proofs.kept.list_half.Tie as tie
 use native.Mathlib.Omega.{arith}
+use Rattle.casebook.specs.Reading.{caseOf}
 use Rattle.sheet_lines.proofs.KeptTable.{half-listed}
+
+labels-of-requires : tie.Need-labels-of-requires
+labels-of-requires c κs = search needs
+
+body-requires : tie.Need-body-requires
+body-requires c κs = search needs
+
+body-requires-2 : tie.Need-body-requires-2
+body-requires-2 c κs = search needs
+
+body-requires-3 : tie.Need-body-requires-3
+body-requires-3 c κs = search needs
 
 slice-aggregate-split : tie.Need-slice-aggregate-split
 slice-aggregate-split c = search needs
@@ -26,15 +39,23 @@ same-length : tie.Need-same-length
 same-length c = search needs
 
 returns : tie.Need-returns
+unfolding caseOf
 returns c =
-    let s = c .before .before .before .before .before .before .before .before .before .before in
-    half-listed _ _ _ _ (s .pre .0) _ (s .pre .1 .0) _ _ _ _ (c .before .before .before .split .ensures .1 .1)
-    (omega arith) (s .pre .1 .1)
+    let c1 = c .before .before .before .before .before .before in
+    let s = c1 .before .before .before .before .before .before .before .before .before in
+    half-listed (caseOf (s .args .casebook .now) (s .args .parts)) (s .pre .0 .0 .log) _ _ _ _
+    (c1 .before .before .before .before .before .before .labels-of .ensures) (c1 .before .before .body .ensures)
+    (c1 .before .body2 .ensures) (c1 .body3 .ensures) _ (s .pre .0 .1, s .pre .0 .0 .few) _ _ _ _
+    (c .before .before .before .split .ensures .1 .1) (omega arith) (s .pre .1)
 
 pub list-half-spec : {M : Type 1} → statement M
 list-half-spec =
     tie.close
     (tie.spec
+    labels-of-requires
+    body-requires
+    body-requires-2
+    body-requires-3
     slice-aggregate-split
     mul-split
     sub-split

@@ -1,16 +1,16 @@
 use borrow.Author.Needs.{needs}
 use Rattle.sheet_lines.proofs.kept.middle.Statement.{statement}
 use Rattle.sheet_lines.proofs.kept.middle.Tie as tie
-use Prim.Native.Nat.{_-_, _/_, _≤_}
+use Prim.Native.Nat.{_-_, _≤_}
 use native.Mathlib.Omega.{arith}
-use lib.ListN.{length}
+use Rattle.casebook.specs.Reading.{caseOf}
 use Rattle.sheet_lines.proofs.KeptTable.{square-few}
 
 abbrev Inv-loop : tie.InvT-loop
-Inv-loop k left right window ways low₀ high₀ low high = (low ≤ high) × (high ≤ length window / 3)
+Inv-loop casebook window steps ways low₀ high₀ low high = (low ≤ high) × (high ≤ steps)
 
 abbrev μ-loop : tie.MeasureT-loop
-μ-loop k left right window ways low₀ high₀ low high = high - low
+μ-loop casebook window steps ways low₀ high₀ low high = high - low
 
 loop-holds : tie.Need-loop-holds Inv-loop μ-loop
 loop-holds c = omega arith
@@ -21,23 +21,19 @@ sub-mid c = omega arith
 add-mid : tie.Need-add-mid Inv-loop μ-loop
 add-mid c = omega arith
 
-mul-splittings-of : tie.Need-mul-splittings-of Inv-loop μ-loop
-mul-splittings-of c = omega arith
-
-sub-splittings-of : tie.Need-sub-splittings-of Inv-loop μ-loop
-sub-splittings-of c = omega arith
-
-part-splittings-of-start : tie.Need-part-splittings-of-start Inv-loop μ-loop
-part-splittings-of-start c = omega arith
-
-part-splittings-of-end : tie.Need-part-splittings-of-end Inv-loop μ-loop
-part-splittings-of-end c = omega arith
+part-of-requires : tie.Need-part-of-requires Inv-loop μ-loop
+part-of-requires c κs = (omega arith, c .before .before .before .pre)
 
 splittings-of-requires : tie.Need-splittings-of-requires Inv-loop μ-loop
 splittings-of-requires c κs = search needs
 
 mul-if1 : tie.Need-mul-if1 Inv-loop μ-loop
-mul-if1 c = omega (arith, square-few _ _ _ _ _ (c .splittings-of .ensures))
+mul-if1 c =
+    omega (
+      arith,
+      square-few (caseOf (c .before .before .before .before .before .args .casebook .now)
+          (c .before .part-of .result)) _ (c .splittings-of .ensures),
+    )
 
 loop-less : tie.Need-loop-less Inv-loop μ-loop
 loop-less c = omega arith
@@ -66,10 +62,7 @@ middle-spec =
     loop-holds
     sub-mid
     add-mid
-    mul-splittings-of
-    sub-splittings-of
-    part-splittings-of-start
-    part-splittings-of-end
+    part-of-requires
     splittings-of-requires
     mul-if1
     loop-less

@@ -1,39 +1,64 @@
 use Rattle.sheet_lines.proofs.line.write_digits.Statement.{statement}
 use Rattle.sheet_lines.proofs.line.write_digits.Tie as tie
-use Prim.Native.Nat.{_+_, _-_, _%_}
+use Prim.Native.Nat.{_+_, _-_, _%_, _≤_}
 use mathlib.Core.Path.{_≡_}
 use native.Mathlib.Omega.{arith}
 use Rattle.sheet_lines.specs.Working.{Filled, digitLine}
 use Rattle.sheet_lines.proofs.Filling.{kept, filled-none, filled-end}
 use Rattle.sheet_lines.proofs.TurnLaws.{tens-few, digits-more, digits-stop}
 
+-- the number of the next line is as far above the first one as its digit is
 abbrev Inv-loop : tie.InvT-loop
-Inv-loop number until line place at out₀ digit₀ i₀ to₀ out digit i to =
-    Filled (digitLine line place number) out₀ at number until out to i × (digit ≡ 48 + number % 10 + (i - number))
+Inv-loop number until line place at out₀ first end digit₀ to₀ out digit to =
+    Filled (digitLine line place number) out₀ at number until out to (number + (digit - (48 + number % 10)))
+    × (48 + number % 10 ≤ digit) × (digit ≤ 48 + number % 10 + (until - number))
 
 abbrev μ-loop : tie.MeasureT-loop
-μ-loop number until line place at out₀ digit₀ i₀ to₀ out digit i to = until - i
+μ-loop number until line place at out₀ first end digit₀ to₀ out digit to =
+    48 + number % 10 + (until - number) - digit
 
-cast-digit : tie.Need-cast-digit Inv-loop μ-loop
-cast-digit c = omega arith
+cast-first : tie.Need-cast-first Inv-loop μ-loop
+cast-first c = omega arith
 
-add-digit : tie.Need-add-digit Inv-loop μ-loop
-add-digit c = omega arith
+add-first : tie.Need-add-first Inv-loop μ-loop
+add-first c = omega arith
+
+sub-end : tie.Need-sub-end Inv-loop μ-loop
+sub-end c = omega (arith, tens-few _ _ (c .before .before .pre .0) .0)
+
+cast-end : tie.Need-cast-end Inv-loop μ-loop
+cast-end c = omega (arith, tens-few _ _ (c .before .before .pre .0))
+
+add-end : tie.Need-add-end Inv-loop μ-loop
+add-end c = omega (arith, tens-few _ _ (c .before .before .pre .0))
 
 loop-holds : tie.Need-loop-holds Inv-loop μ-loop
 loop-holds c =
-    (filled-none _ _ _ _ _ (tens-few _ _ (c .before .before .pre .0) .0) (c .before .before .pre .3), omega arith)
+    let few = tens-few _ _ (c .before .before .pre .0) in
+    let n = c .before .before .args .number in
+    let z : n + (48 + n % 10 - (48 + n % 10)) ≡ n = omega arith in
+    (rw z (filled-none _ _ _ _ _ (few .0) (c .before .before .pre .3)), omega arith, omega arith)
 
 sub-if1 : tie.Need-sub-if1 Inv-loop μ-loop
 sub-if1 c = omega (arith, c .before .loop .inv .0 .room, kept _ _ _ _ _ _ _ _ (c .before .loop .inv .0))
+
+sub-t17 : tie.Need-sub-t17 Inv-loop μ-loop
+sub-t17 c = omega (arith, c .before .before .loop .inv .1)
+
+cast-t18 : tie.Need-cast-t18 Inv-loop μ-loop
+cast-t18 c = omega arith
+
+add-t19 : tie.Need-add-t19 Inv-loop μ-loop
+add-t19 c = omega (arith, c .before .before .before .before .before .pre .1, c .before .before .loop .inv)
 
 same-length : tie.Need-same-length Inv-loop μ-loop
 same-length c = kept _ _ _ _ _ _ _ _ (c .before .before .loop .inv .0)
 
 returns : tie.Need-returns Inv-loop μ-loop
 returns c =
-    digits-stop _ _ _ _ _ _ _ _ _ _ (c .before .before .loop .inv .0) (omega arith) (c .before .before .loop .inv .1)
-    (omega (arith, c .if1 .taken))
+    let inv = c .before .before .loop .inv in
+    digits-stop _ _ _ _ _ _ _ _ _ (c .before .before .loop .digit) (inv .0)
+    (omega (arith, inv .1, c .before .loop-test .taken)) (omega (arith, inv .1)) (omega (arith, c .if1 .taken))
 
 put-line-requires : tie.Need-put-line-requires Inv-loop μ-loop
 put-line-requires c κs =
@@ -47,37 +72,43 @@ add-to c =
     let loop = c .before .before .before .before .before .before .loop in
     omega (arith, loop .inv .0 .room, kept _ _ _ _ _ _ _ _ (loop .inv .0), c .before .before .before .before .if1 .left)
 
-add-i : tie.Need-add-i Inv-loop μ-loop
-add-i c = omega (arith, c .before .before .before .before .before .before .before .before .before .pre .1)
-
-add-digit-2 : tie.Need-add-digit-2 Inv-loop μ-loop
-add-digit-2 c =
+add-digit : tie.Need-add-digit Inv-loop μ-loop
+add-digit c =
     omega (
       arith,
-      c .before .before .before .before .before .before .loop .inv .1,
-      tens-few _ _ (c .before .before .before .before .before .before .before .before .before .pre .0) .1,
+      c .before .before .before .before .before .loop-test .taken,
+      tens-few _ _ (c .before .before .before .before .before .before .before .before .before .pre .0),
     )
 
 loop-less : tie.Need-loop-less Inv-loop μ-loop
-loop-less c = omega arith
+loop-less c = omega (arith, c .before .before .before .before .before .loop-test .taken)
 
 loop-again : tie.Need-loop-again Inv-loop μ-loop
-loop-again c = (
-  digits-more _ _ _ _ _ _ _ _ _ _ (c .before .before .before .before .before .before .loop .inv .0) (omega arith)
-      (c .before .before .before .before .before .before .loop .inv .1) _
-      (omega (arith, c .before .before .before .before .if1 .left)) (c .before .before .put-line .ensures),
-  omega (
-    arith,
-    c .before .before .before .before .before .before .loop .inv .1,
-    c .before .before .before .before .before .before .loop .inv .0 .begun,
-  ),
-)
+loop-again c =
+    let c1 = c .before .before .before .before in
+    let test = c1 .before .loop-test .taken in
+    let inv = c1 .before .before .loop .inv in
+    let n = c1 .before .before .before .before .before .args .number in
+    let d = c1 .before .before .loop .digit in
+    let z : n + (d - (48 + n % 10)) + 1 ≡ n + (d + 1 - (48 + n % 10)) = omega (arith, inv .1) in (
+      rw (← z) (digits-more _ _ _ _ _ _ _ _ _ _ (inv .0) (omega (arith, inv .1, test)) (omega (arith, inv .1)) _
+          (omega (arith, c1 .if1 .left)) (c .before .before .put-line .ensures)),
+      omega (arith, inv .1),
+      omega (arith, test),
+    )
 
 same-length-2 : tie.Need-same-length-2 Inv-loop μ-loop
 same-length-2 c = kept _ _ _ _ _ _ _ _ (c .before .loop .inv .0)
 
 returns-2 : tie.Need-returns-2 Inv-loop μ-loop
-returns-2 c = filled-end _ _ _ _ _ _ _ _ (c .before .loop .inv .0) (omega (arith, c .before .loop .inv .0 .due))
+returns-2 c =
+    let inv = c .before .loop .inv in
+    let n = c .before .before .before .before .args .number in
+    let u = c .before .before .before .before .args .until in
+    let few = tens-few _ _ (c .before .before .before .before .pre .0) in
+    let z : n + (c .before .loop .digit - (48 + n % 10))
+    ≡ u = omega (arith, inv .1, inv .2, c .loop-test .left, few .0) in
+    filled-end _ _ _ _ _ _ _ _ (rw z at (inv .0)) (omega arith)
 
 pub write-digits-spec : {M : Type 1} → statement M
 write-digits-spec =
@@ -85,16 +116,21 @@ write-digits-spec =
     (tie.spec
     Inv-loop
     μ-loop
-    cast-digit
-    add-digit
+    cast-first
+    add-first
+    sub-end
+    cast-end
+    add-end
     loop-holds
     sub-if1
+    sub-t17
+    cast-t18
+    add-t19
     same-length
     returns
     put-line-requires
     add-to
-    add-i
-    add-digit-2
+    add-digit
     loop-less
     loop-again
     same-length-2

@@ -30,7 +30,8 @@ smaller-requires : tie.Need-smaller-requires Inv-loop μ-loop
 smaller-requires c κs = search needs
 
 write-tens-requires : tie.Need-write-tens-requires Inv-loop μ-loop
-write-tens-requires c κs = let s = c .before .before .before .before .before .before .before in
+write-tens-requires c κs =
+    let s = c .before .before .before .before .before .before .before in
     let inv = c .before .before .before .before .loop .inv in (
       (
         s .pre .0 .0,

@@ -6,29 +6,33 @@ use mathlib.Core.Path.{_≡_, refl, sym, _∙_}
 use native.Mathlib.Omega.{arith}
 use native.Mathlib.Nat.{mod-lt}
 use lib.ListN.{length}
+use Rattle.formulas.specs.Working.{backsOf}
+use Rattle.casebook.specs.Reading.{caseOf}
 use Rattle.sheet_lines.specs.Working.{Filled, Scratch, numberedLine}
+use Rattle.sheet_lines.proofs.CaseLaws.{question-shown}
 use Rattle.sheet_lines.proofs.Filling.{kept, filled-none}
 use Rattle.sheet_lines.proofs.FillLaws.{point-within, until-within, lines-within, reached, next-within}
 use Rattle.sheet_lines.proofs.FillLaws.{point-full, point-done, sheet-full, sheet-small}
 
 abbrev Inv-loop : tie.InvT-loop
-Inv-loop k left right run question splittings first due out₀ back froms₀ ends₀ halves₀ text₀ line₀ end i₀ at₀ out froms
-    ends halves text line i at =
-    Filled (numberedLine k left right run question splittings) out₀ 0 first end out at i × Scratch froms ends text line
+Inv-loop casebook parts splittings first due out₀ back froms₀ ends₀ halves₀ text₀ line₀ end i₀ at₀ out froms ends
+    halves text line i at =
+    Filled (numberedLine (caseOf casebook parts) splittings) out₀ 0 first end out at i × Scratch froms ends text line
     × (length halves ≡ 205312)
 
 abbrev μ-loop : tie.MeasureT-loop
-μ-loop k left right run question splittings first due out₀ back froms₀ ends₀ halves₀ text₀ line₀ end i₀ at₀ out froms
-    ends halves text line i at =
+μ-loop casebook parts splittings first due out₀ back froms₀ ends₀ halves₀ text₀ line₀ end i₀ at₀ out froms ends halves
+    text line i at =
     end - i
+
+body-requires : tie.Need-body-requires Inv-loop μ-loop
+body-requires c κs = search needs
 
 back-depth-requires : tie.Need-back-depth-requires Inv-loop μ-loop
 back-depth-requires c κs = search needs
 
 add-end : tie.Need-add-end Inv-loop μ-loop
-add-end c =
-    let s = c .before .before .before .before .before .before in
-    omega (arith, s .pre .1, sheet-small _ _ _ _ _ _ (s .pre .0))
+add-end c = let s = c .before .before .before .before .before in omega (arith, s .pre .1, sheet-small _ _ (s .pre .0))
 
 loop-holds : tie.Need-loop-holds Inv-loop μ-loop
 loop-holds c = (
@@ -38,22 +42,23 @@ loop-holds c = (
 )
 
 div-point : tie.Need-div-point Inv-loop μ-loop
-div-point c = omega (arith, c .before .before .before .before .before .before .before .before .pre .0 .some)
+div-point c = omega (arith, c .before .before .before .before .before .before .before .pre .0 .some)
 
 rem-number : tie.Need-rem-number Inv-loop μ-loop
-rem-number c = omega (arith, c .before .before .before .before .before .before .before .before .pre .0 .some)
+rem-number c = omega (arith, c .before .before .before .before .before .before .before .pre .0 .some)
 
 sub-smaller : tie.Need-sub-smaller Inv-loop μ-loop
 sub-smaller c = omega arith
 
 add-smaller : tie.Need-add-smaller Inv-loop μ-loop
 add-smaller c =
-    let s = c .before .before .before .before .before .before .before .before in
+    let s = c .before .before .before .before .before .before .before in
     omega (
       arith,
       s .pre .1,
-      sheet-small _ _ _ _ _ _ (s .pre .0),
-      mod-lt (c .before .loop .i) {m = s .args .splittings} (omega (arith, s .pre .0 .some)),
+      sheet-small _ _ (s .pre .0),
+      mod-lt (c .before .loop .i) {m = s .args .splittings}
+          (omega (arith, s .pre .0 .some)),
     )
 
 smaller-requires : tie.Need-smaller-requires Inv-loop μ-loop
@@ -74,17 +79,20 @@ write-point-requires : tie.Need-write-point-requires Inv-loop μ-loop
 write-point-requires c κs =
     let loop = c .before .before .before .before .before .before .before .before .loop in
     let s = c .before .before .before .before .before .before .before .before .before .before .before .before .before
-    .before .before in
+    .before in
     let n = s .pre .0 in
     let inv = loop .inv in
     let h : loop .i < s .args .first + s .args .due = omega arith in
-    let until = until-within (s .args .labels) _ _ _ _ _ n _ _ (s .pre .1) _ h _
+    let until = until-within _ _ n _ _ (s .pre .1) _ h _
     (c .before .before .before .before .before .before .smaller .ensures) in (
       n .asked,
       (
         (
-          c .before .before .before .before .before .before .before .before .before .back-depth .ensures .0,
-          point-within (s .args .labels) _ _ _ _ _ n _ _ (s .pre .1) _ h,
+          c .before .before .before .before .before .before .before .before .before .back-depth .ensures .0
+              ∙ question-shown _ _ _
+              (c .before .before .before .before .before .before .before .before .before .before .body .ensures)
+              backsOf,
+          point-within _ _ n _ _ (s .pre .1) _ h,
         ),
         (
           (until .0, until .1, rw (← n .counted) (n .few)),
@@ -99,9 +107,14 @@ sub-i c =
     c .before .before .before .before .before .before .before .before .before .before .before .before .before .before
     .before .loop in
     let s = c .before .before .before .before .before .before .before .before .before .before .before .before .before
-    .before .before .before .before .before .before .before .before .before in
-    let h : loop .i < s .args .first + s .args .due = omega arith in
-    reached (s .args .labels) _ _ _ _ _ (s .pre .0) _ _ (s .pre .1) _ h _
+    .before .before .before .before .before .before .before .before in
+    let h : loop .i < s .args .first + s .args .due =
+    omega (
+      arith,
+      c .before .before .before .before .before .before .before .before .before .before .before .before .before .before
+          .loop-test .taken,
+    ) in
+    reached _ _ (s .pre .0) _ _ (s .pre .1) _ h _
     (c .before .before .before .before .before .before .before .before .before .before .before .before .before .smaller
     .ensures) _ _ _ _ _ _ (loop .inv .0) (c .before .before .before .before .before .before .write-point .ensures .0) .0
 
@@ -111,22 +124,28 @@ add-i c =
     c .before .before .before .before .before .before .before .before .before .before .before .before .before .before
     .before .loop in
     let s = c .before .before .before .before .before .before .before .before .before .before .before .before .before
-    .before .before .before .before .before .before .before .before .before in
-    let h : loop .i < s .args .first + s .args .due = omega arith in
+    .before .before .before .before .before .before .before .before in
+    let h : loop .i < s .args .first + s .args .due =
+    omega (
+      arith,
+      c .before .before .before .before .before .before .before .before .before .before .before .before .before .before
+          .loop-test .taken,
+    ) in
     omega (
       arith,
       s .pre .1,
-      sheet-small _ _ _ _ _ _ (s .pre .0),
-      next-within (s .args .labels) _ _ _ _ _ (s .pre .0) _ _ (s .pre .1) _ h _
+      sheet-small _ _ (s .pre .0),
+      next-within _ _ (s .pre .0) _ _ (s .pre .1) _ h _
           (c .before .before .before .before .before .before .before .before .before .before .before .before .before
-          .smaller .ensures) _ _ _ _ _ _ (loop .inv .0)
+          .smaller
+          .ensures) _ _ _ _ _ _ (loop .inv .0)
           (c .before .before .before .before .before .before .write-point .ensures .0),
     )
 
 same-length : tie.Need-same-length Inv-loop μ-loop
 same-length c =
     let c1 = c .before .before .before .before .before .before .before .before in
-    c1 .write-point .kept .1 .1 .1 .1 .1 .1 .1 .1 .1 .1 .0
+    c1 .write-point .kept .1 .1 .1 .1 .1 .1 .1 .0
     ∙ kept _ _ _ _ _ _ _ _ (c1 .before .before .before .before .before .before .before .before .before .loop .inv .0)
 
 returns : tie.Need-returns Inv-loop μ-loop
@@ -135,9 +154,14 @@ returns c =
     c .before .before .before .before .before .before .before .before .before .before .before .before .before .before
     .before .before .before .loop in
     let s = c .before .before .before .before .before .before .before .before .before .before .before .before .before
-    .before .before .before .before .before .before .before .before .before .before .before in
-    let h : loop .i < s .args .first + s .args .due = omega arith in
-    point-full (s .args .labels) _ _ _ _ _ (s .pre .0) _ _ (s .pre .1) _ h _
+    .before .before .before .before .before .before .before .before .before .before in
+    let h : loop .i < s .args .first + s .args .due =
+    omega (
+      arith,
+      c .before .before .before .before .before .before .before .before .before .before .before .before .before .before
+          .before .before .loop-test .taken,
+    ) in
+    point-full _ _ (s .pre .0) _ _ (s .pre .1) _ h _
     (c .before .before .before .before .before .before .before .before .before .before .before .before .before .before
     .before .smaller .ensures) _ _ _ _ _ _ (loop .inv .0)
     (c .before .before .before .before .before .before .before .before .write-point .ensures .0) (omega arith)
@@ -145,34 +169,44 @@ returns c =
 loop-less : tie.Need-loop-less Inv-loop μ-loop
 loop-less c =
     let s = c .before .before .before .before .before .before .before .before .before .before .before .before .before
-    .before .before .before .before .before .before .before .before .before .before .before in
+    .before .before .before .before .before .before .before .before .before .before in
     let h : c .before .before .before .before .before .before .before .before .before .before .before .before .before
-    .before .before .before .before .loop .i
-    < s .args .first + s .args .due = omega arith in
+    .before .before .before .before .loop .i < s .args .first + s .args .due =
     omega (
       arith,
-      lines-within (s .args .labels) _ _ _ _ _ (s .pre .0) _ _ (s .pre .1) _ h _
+      c .before .before .before .before .before .before .before .before .before .before .before .before .before
+          .before .before .before .loop-test .taken,
+    ) in
+    omega (
+      arith,
+      lines-within _ _ (s .pre .0) _ _ (s .pre .1) _ h _
           (c .before .before .before .before .before .before .before .before .before .before .before .before .before
-          .before .before .smaller .ensures),
+          .before
+          .before .smaller .ensures),
     )
 
 loop-again : tie.Need-loop-again Inv-loop μ-loop
 loop-again c =
     let s = c .before .before .before .before .before .before .before .before .before .before .before .before .before
-    .before .before .before .before .before .before .before .before .before .before .before in
+    .before .before .before .before .before .before .before .before .before .before in
     let h : c .before .before .before .before .before .before .before .before .before .before .before .before .before
-    .before .before .before .before .loop .i
-    < s .args .first + s .args .due = omega arith in (
-      point-done (s .args .labels) _ _ _ _ _ (s .pre .0) _ _ (s .pre .1) _ h _
+    .before .before .before .before .loop .i < s .args .first + s .args .due =
+    omega (
+      arith,
+      c .before .before .before .before .before .before .before .before .before .before .before .before .before
+          .before .before .before .loop-test .taken,
+    ) in (
+      point-done _ _ (s .pre .0) _ _ (s .pre .1) _ h _
           (c .before .before .before .before .before .before .before .before .before .before .before .before .before
-          .before .before .smaller .ensures) _ _ _ _ _ _
+          .before
+          .before .smaller .ensures) _ _ _ _ _ _
           (c .before .before .before .before .before .before .before .before .before .before .before .before .before
-          .before .before .before .before .loop .inv .0)
+          .before
+          .before .before .before .loop .inv .0)
           (c .before .before .before .before .before .before .before .before .write-point .ensures .0) (omega arith),
       c .before .before .before .before .before .before .before .before .write-point .ensures .1,
       c .before .before .before .before .before .before .before .before .write-point .kept .1 .1 .1 .1 .1 .1 .1 .1 .1 .1
-          .1 .1 .1 .0
-          ∙ c .before .before .before .before .before .before .before .before .before .before .before .before .before
+          .0 ∙ c .before .before .before .before .before .before .before .before .before .before .before .before .before
           .before .before .before .before .loop .inv .2,
     )
 
@@ -181,8 +215,8 @@ same-length-2 c = kept _ _ _ _ _ _ _ _ (c .before .loop .inv .0)
 
 returns-2 : tie.Need-returns-2 Inv-loop μ-loop
 returns-2 c =
-    let s = c .before .before .before .before .before .before .before .before in
-    sheet-full (s .args .labels) _ _ _ _ _ (s .pre .0) _ _ (s .pre .1) _ _ _ _ (c .before .loop .inv .0) (omega arith)
+    let s = c .before .before .before .before .before .before .before in
+    sheet-full _ _ (s .pre .0) _ _ (s .pre .1) _ _ _ _ (c .before .loop .inv .0) (omega arith)
 
 pub fill-spec : {M : Type 1} → statement M
 fill-spec =
@@ -190,6 +224,7 @@ fill-spec =
     (tie.spec
     Inv-loop
     μ-loop
+    body-requires
     back-depth-requires
     add-end
     loop-holds

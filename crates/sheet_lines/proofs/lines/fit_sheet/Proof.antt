@@ -16,7 +16,7 @@ same-length c = search needs
 returns : tie.Need-returns
 returns c =
     let full = c .before .before .before .fill .ensures in
-    let some = c .before .before .before .before .before .before .before .before .before .before .pre .1 .0 in
+    let some = c .before .before .before .before .before .before .before .pre .1 .0 in
     (filled-fits _ _ _ some _ _ _ _ full, filled-output _ _ _ some _ _ _ _ full)
 
 pub fit-sheet-spec : {M : Type 1} → statement M

@@ -32,8 +32,10 @@ pub count-modal-count-forward-requires : (t : ℕ)
     → count-modal-lts.Need-count-forward-requires (count-modal-claims t) (count-modal-at t) count-modal.Post
 count-modal-count-forward-requires t c κs =
     let s = c .before .before .before .before .before .before in
-    let y = s .pre .1 .1 .0 in
-    (omega (arith, s .pre .0), (s .pre .1 .0, (y, (s .pre .1 .1 .1 .1, sym (c .before .before .is-forward .ensures) ∙ c .before .if1 .taken))))
+    let y = s .pre .1 .1 .0 in (
+      omega (arith, s .pre .0),
+      (s .pre .1 .0, (y, (s .pre .1 .1 .1 .1, sym (c .before .before .is-forward .ensures) ∙ c .before .if1 .taken))),
+    )
 
 pub count-modal-returns : (t : ℕ)
     → count-modal-lts.Need-returns (count-modal-claims t) (count-modal-at t) count-modal.Post

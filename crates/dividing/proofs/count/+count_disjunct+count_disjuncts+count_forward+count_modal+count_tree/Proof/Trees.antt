@@ -59,7 +59,18 @@ count-tree-count-modal-requires t c κs =
     let s = c .before .before .before .before .before .before .before .before in
     let y = s .pre .1 .1 .0 in (
       omega (arith, s .pre .0),
-      (s .pre .1 .0, (y, (positive _ (c .before .before .before .if2 .left), s .pre .1 .1 .1, sym (c .before .before .is-modality .ensures) ∙ c .before .if3 .taken))),
+      (
+        s .pre .1 .0,
+        (
+          y,
+          (
+            positive _ (c .before .before .before .if2 .left),
+            s .pre .1 .1 .1,
+            sym
+                (c .before .before .is-modality .ensures) ∙ c .before .if3 .taken,
+          ),
+        ),
+      ),
     )
 
 pub count-tree-returns-3 : (t : ℕ)
@@ -98,7 +109,8 @@ count-tree-count-tree-requires t c κs =
       (
         s .pre .1 .0,
         (
-          connective-ready _ _ _ _ y (connective-operator _ (y .part .tree) (c .before .before .before .before .before .if1 .left)
+          connective-ready _ _ _ _ y
+              (connective-operator _ (y .part .tree) (c .before .before .before .before .before .if1 .left)
               (sym (c .before .before .before .is-modality .ensures) ∙ c .before .before .if3 .left)),
           omega (arith, s .pre .1 .1 .1),
         ),
@@ -121,7 +133,8 @@ count-tree-returns-4 t c =
     let n = s .args .len in
     let r = halfOf (take n xs) in (
       counting.count-over _ _ _ _ _ _ (texts.text-not _ _ _ f (y .part) r (c .if4 .taken))
-          (positive _ (c .before .before .before .before .before .before .if2 .left)) (c .before .count-tree .ensures .0),
+          (positive _ (c .before .before .before .before .before .before .if2 .left))
+          (c .before .count-tree .ensures .0),
       c .before .count-tree .ensures .1,
     )
 
@@ -154,8 +167,11 @@ count-tree-sub-size t c =
     let s = c .before .before .before .before .before .before .before .before .before .before .before .before in
     let y = s .pre .1 .1 .0 in
     let f = s .args .f .now in
-    let o = and-or _ (connective-operator _ (y .part .tree) (c .before .before .before .before .before .before .before .before .if1 .left)
-    (sym (c .before .before .before .before .before .before .is-modality .ensures) ∙ c .before .before .before .before .before .if3 .left)) (c .before .if4 .left) in
+    let o = and-or _
+    (connective-operator _ (y .part .tree)
+    (c .before .before .before .before .before .before .before .before .if1 .left)
+    (sym (c .before .before .before .before .before .before .is-modality .ensures)
+    ∙ c .before .before .before .before .before .if3 .left)) (c .before .if4 .left) in
     omega (arith, size-read _ f (y .part) o, y .slots)
 
 pub count-tree-mul-size : (t : ℕ) → count-tree-lts.Need-mul-size (count-tree-claims t) (count-tree-at t) count-tree.Post
@@ -163,8 +179,11 @@ count-tree-mul-size t c =
     let s = c .before .before .before .before .before .before .before .before .before .before .before .before in
     let y = s .pre .1 .1 .0 in
     let f = s .args .f .now in
-    let o = and-or _ (connective-operator _ (y .part .tree) (c .before .before .before .before .before .before .before .before .if1 .left)
-    (sym (c .before .before .before .before .before .before .is-modality .ensures) ∙ c .before .before .before .before .before .if3 .left)) (c .before .if4 .left) in
+    let o = and-or _
+    (connective-operator _ (y .part .tree)
+    (c .before .before .before .before .before .before .before .before .if1 .left)
+    (sym (c .before .before .before .before .before .before .is-modality .ensures)
+    ∙ c .before .before .before .before .before .if3 .left)) (c .before .if4 .left) in
     omega (arith, size-read _ f (y .part) o, y .slots)
 
 pub count-tree-element-copy-out-size : (t : ℕ)
@@ -173,8 +192,11 @@ count-tree-element-copy-out-size t c =
     let s = c .before .before .before .before .before .before .before .before .before .before .before .before in
     let y = s .pre .1 .1 .0 in
     let f = s .args .f .now in
-    let o = and-or _ (connective-operator _ (y .part .tree) (c .before .before .before .before .before .before .before .before .if1 .left)
-    (sym (c .before .before .before .before .before .before .is-modality .ensures) ∙ c .before .before .before .before .before .if3 .left)) (c .before .if4 .left) in
+    let o = and-or _
+    (connective-operator _ (y .part .tree)
+    (c .before .before .before .before .before .before .before .before .if1 .left)
+    (sym (c .before .before .before .before .before .before .is-modality .ensures)
+    ∙ c .before .before .before .before .before .if3 .left)) (c .before .if4 .left) in
     omega (arith, size-read _ f (y .part) o, y .slots)
 
 pub count-tree-mul-second : (t : ℕ)
@@ -183,8 +205,11 @@ count-tree-mul-second t c =
     let s = c .before .before .before .before .before .before .before .before .before .before .before .before .before in
     let y = s .pre .1 .1 .0 in
     let f = s .args .f .now in
-    let o = and-or _ (connective-operator _ (y .part .tree) (c .before .before .before .before .before .before .before .before .before .if1 .left)
-    (sym (c .before .before .before .before .before .before .before .is-modality .ensures) ∙ c .before .before .before .before .before .before .if3 .left)) (c .before .before .if4 .left) in
+    let o = and-or _
+    (connective-operator _ (y .part .tree)
+    (c .before .before .before .before .before .before .before .before .before .if1 .left)
+    (sym (c .before .before .before .before .before .before .before .is-modality .ensures)
+    ∙ c .before .before .before .before .before .before .if3 .left)) (c .before .before .if4 .left) in
     let m = getD (s .args .sizes .now) (length f / 2 - 2) 0 in
     omega (arith, second-room _ f (y .part) o m refl, s .good)
 
@@ -194,8 +219,11 @@ count-tree-add-second t c =
     let s = c .before .before .before .before .before .before .before .before .before .before .before .before .before in
     let y = s .pre .1 .1 .0 in
     let f = s .args .f .now in
-    let o = and-or _ (connective-operator _ (y .part .tree) (c .before .before .before .before .before .before .before .before .before .if1 .left)
-    (sym (c .before .before .before .before .before .before .before .is-modality .ensures) ∙ c .before .before .before .before .before .before .if3 .left)) (c .before .before .if4 .left) in
+    let o = and-or _
+    (connective-operator _ (y .part .tree)
+    (c .before .before .before .before .before .before .before .before .before .if1 .left)
+    (sym (c .before .before .before .before .before .before .before .is-modality .ensures)
+    ∙ c .before .before .before .before .before .before .if3 .left)) (c .before .before .if4 .left) in
     let m = getD (s .args .sizes .now) (length f / 2 - 2) 0 in
     omega (arith, second-room _ f (y .part) o m refl, s .good)
 
@@ -230,7 +258,11 @@ count-tree-part-second-end t c = omega arith
 pub count-tree-sub-count-tree-3 : (t : ℕ)
     → count-tree-lts.Need-sub-count-tree-3 (count-tree-claims t) (count-tree-at t) count-tree.Post
 count-tree-sub-count-tree-3 t c =
-    omega (arith, positive _ (c .before .before .before .before .before .before .before .before .before .before .if2 .left))
+    omega (
+      arith,
+      positive _
+          (c .before .before .before .before .before .before .before .before .before .before .if2 .left),
+    )
 
 pub count-tree-sub-count-tree-4 : (t : ℕ)
     → count-tree-lts.Need-sub-count-tree-4 (count-tree-claims t) (count-tree-at t) count-tree.Post
@@ -242,8 +274,12 @@ count-tree-sub-count-tree-4 t c =
     let xs = s .args .run .now in
     let n = s .args .len in
     let r = halfOf (take n xs) in
-    let o = and-or _ (connective-operator _ (y .part .tree) (c .before .before .before .before .before .before .before .before .before .before .before .if1 .left)
-    (sym (c .before .before .before .before .before .before .before .before .before .is-modality .ensures) ∙ c .before .before .before .before .before .before .before .before .if3 .left)) (c .before .before .before .before .if4 .left) in
+    let o = and-or _
+    (connective-operator _ (y .part .tree)
+    (c .before .before .before .before .before .before .before .before .before .before .before .if1 .left)
+    (sym (c .before .before .before .before .before .before .before .before .before .is-modality .ensures)
+    ∙ c .before .before .before .before .before .before .before .before .if3 .left))
+    (c .before .before .before .before .if4 .left) in
     let m = getD (s .args .sizes .now) (length f / 2 - 2) 0 in
     omega (
       arith,
@@ -259,8 +295,12 @@ count-tree-count-tree-requires-2 t c κs =
     .before .before in
     let y = s .pre .1 .1 .0 in
     let f = s .args .f .now in
-    let o = and-or _ (connective-operator _ (y .part .tree) (c .before .before .before .before .before .before .before .before .before .before .before .if1 .left)
-    (sym (c .before .before .before .before .before .before .before .before .before .is-modality .ensures) ∙ c .before .before .before .before .before .before .before .before .if3 .left)) (c .before .before .before .before .if4 .left) in
+    let o = and-or _
+    (connective-operator _ (y .part .tree)
+    (c .before .before .before .before .before .before .before .before .before .before .before .if1 .left)
+    (sym (c .before .before .before .before .before .before .before .before .before .is-modality .ensures)
+    ∙ c .before .before .before .before .before .before .before .before .if3 .left))
+    (c .before .before .before .before .if4 .left) in
     let m = getD (s .args .sizes .now) (length f / 2 - 2) 0 in (
       omega (arith, s .pre .0, rest-length (2 * m + 2) f, second-room _ f (y .part) o m refl),
       (
@@ -282,13 +322,18 @@ count-tree-add-result-3 t c =
     let xs = s .args .run .now in
     let n = s .args .len in
     let r = halfOf (take n xs) in
-    let o = and-or _ (connective-operator _ (y .part .tree) (c .before .before .before .before .before .before .before .before .before .before .before .before .if1 .left)
-    (sym (c .before .before .before .before .before .before .before .before .before .before .is-modality .ensures) ∙ c .before .before .before .before .before .before .before .before .before .if3 .left)) (c .before .before .before .before .before .if4 .left) in
+    let o = and-or _
+    (connective-operator _ (y .part .tree)
+    (c .before .before .before .before .before .before .before .before .before .before .before .before .if1 .left)
+    (sym (c .before .before .before .before .before .before .before .before .before .before .is-modality .ensures)
+    ∙ c .before .before .before .before .before .before .before .before .before .if3 .left))
+    (c .before .before .before .before .before .if4 .left) in
     let m = getD (s .args .sizes .now) (length f / 2 - 2) 0 in
     omega (
       arith,
       counting.count-left _ _ _ _ _ (texts.text-both _ _ _ f (y .part) r o m refl) _ _
-          (positive _ (c .before .before .before .before .before .before .before .before .before .before .before .if2 .left))
+          (positive _
+          (c .before .before .before .before .before .before .before .before .before .before .before .if2 .left))
           (c .before .before .before .before .before .before .count-tree .ensures .0)
           (c .before .before .before .before .if5 .left),
       s .pre .1 .1 .1,
@@ -304,13 +349,18 @@ count-tree-add-result-4 t c =
     let xs = s .args .run .now in
     let n = s .args .len in
     let r = halfOf (take n xs) in
-    let o = and-or _ (connective-operator _ (y .part .tree) (c .before .before .before .before .before .before .before .before .before .before .before .before .if1 .left)
-    (sym (c .before .before .before .before .before .before .before .before .before .before .is-modality .ensures) ∙ c .before .before .before .before .before .before .before .before .before .if3 .left)) (c .before .before .before .before .before .if4 .left) in
+    let o = and-or _
+    (connective-operator _ (y .part .tree)
+    (c .before .before .before .before .before .before .before .before .before .before .before .before .if1 .left)
+    (sym (c .before .before .before .before .before .before .before .before .before .before .is-modality .ensures)
+    ∙ c .before .before .before .before .before .before .before .before .before .if3 .left))
+    (c .before .before .before .before .before .if4 .left) in
     let m = getD (s .args .sizes .now) (length f / 2 - 2) 0 in
     omega (
       arith,
       counting.count-left _ _ _ _ _ (texts.text-both _ _ _ f (y .part) r o m refl) _ _
-          (positive _ (c .before .before .before .before .before .before .before .before .before .before .before .if2 .left))
+          (positive _
+          (c .before .before .before .before .before .before .before .before .before .before .before .if2 .left))
           (c .before .before .before .before .before .before .count-tree .ensures .0)
           (c .before .before .before .before .if5 .left),
       s .pre .1 .1 .1,

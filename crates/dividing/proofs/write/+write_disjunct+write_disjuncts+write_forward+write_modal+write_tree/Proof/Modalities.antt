@@ -35,8 +35,13 @@ pub write-modal-write-forward-requires : (t : ℕ)
     → write-modal-lts.Need-write-forward-requires (write-modal-claims t) (write-modal-at t) write-modal.Post
 write-modal-write-forward-requires t c κs =
     let s = c .before .before .before .before .before .before .before .before in
-    let y = s .pre .1 .1 .0 in
-    (omega (arith, s .pre .0), (s .pre .1 .0, (y, (sym (c .before .before .before .is-forward .ensures) ∙ c .before .before .if1 .taken, s .pre .1 .1 .1 .1))))
+    let y = s .pre .1 .1 .0 in (
+      omega (arith, s .pre .0),
+      (
+        s .pre .1 .0,
+        (y, (sym (c .before .before .before .is-forward .ensures) ∙ c .before .before .if1 .taken, s .pre .1 .1 .1 .1)),
+      ),
+    )
 
 pub write-modal-same-length : (t : ℕ)
     → write-modal-lts.Need-same-length (write-modal-claims t) (write-modal-at t) write-modal.Post

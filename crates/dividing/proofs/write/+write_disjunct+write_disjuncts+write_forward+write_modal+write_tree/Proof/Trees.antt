@@ -144,7 +144,8 @@ write-tree-part-write-tree-end-2 t c = omega arith
 pub write-tree-write-tree-requires : (t : ℕ)
     → write-tree-lts.Need-write-tree-requires (write-tree-claims t) (write-tree-at t) write-tree.Post
 write-tree-write-tree-requires t c κs =
-    let s = c .before .before .before .before .before .before .before .before .before .before .before .before .before .before in
+    let s = c .before .before .before .before .before .before .before .before .before .before .before .before .before
+    .before in
     let y = s .pre .1 .1 .0 in
     let f = s .args .f .now in
     let xs = s .args .run .now in
@@ -152,7 +153,8 @@ write-tree-write-tree-requires t c κs =
     let r = halfOf (take n xs) in
     let room = s .pre .1 .1 .1 in
     let i = connective-operator _ (y .part .tree) (c .before .before .before .if2 .left)
-    (sym (c .before .before .before .before .before .before .before .before .before .is-modality .ensures) ∙ c .before .before .before .before .before .before .before .before .if1 .left) in
+    (sym (c .before .before .before .before .before .before .before .before .before .is-modality .ensures)
+    ∙ c .before .before .before .before .before .before .before .before .if1 .left) in
     let j = joined (getD f 0 0 ∷ 0 ∷ []) (text (s .args .labels) (s .args .table .now) (rest 2 f) r) in
     let inside : length ((getD f 0 0 ∷ 0 ∷ []) ++ text (s .args .labels) (s .args .table .now) (rest 2 f) r)
     ≤ length (s .args .out .now) =
@@ -179,7 +181,9 @@ write-tree-add-at t c =
     let r = halfOf (take n xs) in
     let room = s .pre .1 .1 .1 in
     let i = connective-operator _ (y .part .tree) (c .before .before .before .before .before .before .if2 .left)
-    (sym (c .before .before .before .before .before .before .before .before .before .before .before .before .is-modality .ensures) ∙ c .before .before .before .before .before .before .before .before .before .before .before .if1 .left) in
+    (sym (c .before .before .before .before .before .before .before .before .before .before .before .before
+    .is-modality .ensures)
+    ∙ c .before .before .before .before .before .before .before .before .before .before .before .if1 .left) in
     let j = joined (getD f 0 0 ∷ 0 ∷ []) (text (s .args .labels) (s .args .table .now) (rest 2 f) r) in
     let inside : length ((getD f 0 0 ∷ 0 ∷ []) ++ text (s .args .labels) (s .args .table .now) (rest 2 f) r)
     ≤ length (s .args .out .now) =
@@ -204,7 +208,9 @@ write-tree-same-length-3 t c =
     let r = halfOf (take n xs) in
     let room = s .pre .1 .1 .1 in
     let i = connective-operator _ (y .part .tree) (c .before .before .before .before .before .before .before .if2 .left)
-    (sym (c .before .before .before .before .before .before .before .before .before .before .before .before .before .is-modality .ensures) ∙ c .before .before .before .before .before .before .before .before .before .before .before .before .if1 .left) in
+    (sym (c .before .before .before .before .before .before .before .before .before .before .before .before .before
+    .is-modality .ensures)
+    ∙ c .before .before .before .before .before .before .before .before .before .before .before .before .if1 .left) in
     let j = joined (getD f 0 0 ∷ 0 ∷ []) (text (s .args .labels) (s .args .table .now) (rest 2 f) r) in
     let inside : length ((getD f 0 0 ∷ 0 ∷ []) ++ text (s .args .labels) (s .args .table .now) (rest 2 f) r)
     ≤ length (s .args .out .now) =
@@ -234,8 +240,12 @@ write-tree-sub-size t c =
     .before .before .before .before .before in
     let y = s .pre .1 .1 .0 in
     let f = s .args .f .now in
-    let o = and-or _ (connective-operator _ (y .part .tree) (c .before .before .before .before .before .before .before .if2 .left)
-    (sym (c .before .before .before .before .before .before .before .before .before .before .before .before .before .is-modality .ensures) ∙ c .before .before .before .before .before .before .before .before .before .before .before .before .if1 .left)) (c .if3 .left) in
+    let o = and-or _
+    (connective-operator _ (y .part .tree) (c .before .before .before .before .before .before .before .if2 .left)
+    (sym (c .before .before .before .before .before .before .before .before .before .before .before .before .before
+    .is-modality .ensures)
+    ∙ c .before .before .before .before .before .before .before .before .before .before .before .before .if1 .left))
+    (c .if3 .left) in
     omega (arith, size-read _ f (y .part) o, y .slots)
 
 pub write-tree-mul-size : (t : ℕ) → write-tree-lts.Need-mul-size (write-tree-claims t) (write-tree-at t) write-tree.Post
@@ -244,8 +254,12 @@ write-tree-mul-size t c =
     .before .before .before .before .before in
     let y = s .pre .1 .1 .0 in
     let f = s .args .f .now in
-    let o = and-or _ (connective-operator _ (y .part .tree) (c .before .before .before .before .before .before .before .if2 .left)
-    (sym (c .before .before .before .before .before .before .before .before .before .before .before .before .before .is-modality .ensures) ∙ c .before .before .before .before .before .before .before .before .before .before .before .before .if1 .left)) (c .if3 .left) in
+    let o = and-or _
+    (connective-operator _ (y .part .tree) (c .before .before .before .before .before .before .before .if2 .left)
+    (sym (c .before .before .before .before .before .before .before .before .before .before .before .before .before
+    .is-modality .ensures)
+    ∙ c .before .before .before .before .before .before .before .before .before .before .before .before .if1 .left))
+    (c .if3 .left) in
     omega (arith, size-read _ f (y .part) o, y .slots)
 
 pub write-tree-element-copy-out-size : (t : ℕ)
@@ -255,8 +269,12 @@ write-tree-element-copy-out-size t c =
     .before .before .before .before .before in
     let y = s .pre .1 .1 .0 in
     let f = s .args .f .now in
-    let o = and-or _ (connective-operator _ (y .part .tree) (c .before .before .before .before .before .before .before .if2 .left)
-    (sym (c .before .before .before .before .before .before .before .before .before .before .before .before .before .is-modality .ensures) ∙ c .before .before .before .before .before .before .before .before .before .before .before .before .if1 .left)) (c .if3 .left) in
+    let o = and-or _
+    (connective-operator _ (y .part .tree) (c .before .before .before .before .before .before .before .if2 .left)
+    (sym (c .before .before .before .before .before .before .before .before .before .before .before .before .before
+    .is-modality .ensures)
+    ∙ c .before .before .before .before .before .before .before .before .before .before .before .before .if1 .left))
+    (c .if3 .left) in
     omega (arith, size-read _ f (y .part) o, y .slots)
 
 pub write-tree-mul-second : (t : ℕ)
@@ -266,8 +284,13 @@ write-tree-mul-second t c =
     .before .before .before .before .before .before in
     let y = s .pre .1 .1 .0 in
     let f = s .args .f .now in
-    let o = and-or _ (connective-operator _ (y .part .tree) (c .before .before .before .before .before .before .before .before .if2 .left)
-    (sym (c .before .before .before .before .before .before .before .before .before .before .before .before .before .before .is-modality .ensures) ∙ c .before .before .before .before .before .before .before .before .before .before .before .before .before .if1 .left)) (c .before .if3 .left) in
+    let o = and-or _
+    (connective-operator _ (y .part .tree)
+    (c .before .before .before .before .before .before .before .before .if2 .left)
+    (sym (c .before .before .before .before .before .before .before .before .before .before .before .before .before
+    .before .is-modality .ensures)
+    ∙ c .before .before .before .before .before .before .before .before .before .before .before .before .before .if1
+    .left)) (c .before .if3 .left) in
     let m = getD (s .args .sizes .now) (length f / 2 - 2) 0 in
     omega (arith, second-room _ f (y .part) o m refl, s .good)
 
@@ -278,8 +301,13 @@ write-tree-add-second t c =
     .before .before .before .before .before .before in
     let y = s .pre .1 .1 .0 in
     let f = s .args .f .now in
-    let o = and-or _ (connective-operator _ (y .part .tree) (c .before .before .before .before .before .before .before .before .if2 .left)
-    (sym (c .before .before .before .before .before .before .before .before .before .before .before .before .before .before .is-modality .ensures) ∙ c .before .before .before .before .before .before .before .before .before .before .before .before .before .if1 .left)) (c .before .if3 .left) in
+    let o = and-or _
+    (connective-operator _ (y .part .tree)
+    (c .before .before .before .before .before .before .before .before .if2 .left)
+    (sym (c .before .before .before .before .before .before .before .before .before .before .before .before .before
+    .before .is-modality .ensures)
+    ∙ c .before .before .before .before .before .before .before .before .before .before .before .before .before .if1
+    .left)) (c .before .if3 .left) in
     let m = getD (s .args .sizes .now) (length f / 2 - 2) 0 in
     omega (arith, second-room _ f (y .part) o m refl, s .good)
 
@@ -325,9 +353,12 @@ write-tree-sub-write-tree-3 t c =
     let n = s .args .len in
     let r = halfOf (take n xs) in
     let room = s .pre .1 .1 .1 in
-    let i = connective-operator _ (y .part .tree) (c .before .before .before .before .before .before .before .before .before .before .if2 .left)
-    (sym (c .before .before .before .before .before .before .before .before .before .before .before .before .before .before
-    .before .before .is-modality .ensures) ∙ c .before .before .before .before .before .before .before .before .before .before .before .before .before .before
+    let i = connective-operator _ (y .part .tree)
+    (c .before .before .before .before .before .before .before .before .before .before .if2 .left)
+    (sym (c .before .before .before .before .before .before .before .before .before .before .before .before .before
+    .before
+    .before .before .is-modality .ensures)
+    ∙ c .before .before .before .before .before .before .before .before .before .before .before .before .before .before
     .before .if1 .left) in
     let j = joined (getD f 0 0 ∷ 0 ∷ []) (text (s .args .labels) (s .args .table .now) (rest 2 f) r) in
     let inside : length ((getD f 0 0 ∷ 0 ∷ []) ++ text (s .args .labels) (s .args .table .now) (rest 2 f) r)
@@ -350,9 +381,12 @@ write-tree-part-write-tree-start-3 t c =
     let n = s .args .len in
     let r = halfOf (take n xs) in
     let room = s .pre .1 .1 .1 in
-    let i = connective-operator _ (y .part .tree) (c .before .before .before .before .before .before .before .before .before .before .if2 .left)
-    (sym (c .before .before .before .before .before .before .before .before .before .before .before .before .before .before
-    .before .before .is-modality .ensures) ∙ c .before .before .before .before .before .before .before .before .before .before .before .before .before .before
+    let i = connective-operator _ (y .part .tree)
+    (c .before .before .before .before .before .before .before .before .before .before .if2 .left)
+    (sym (c .before .before .before .before .before .before .before .before .before .before .before .before .before
+    .before
+    .before .before .is-modality .ensures)
+    ∙ c .before .before .before .before .before .before .before .before .before .before .before .before .before .before
     .before .if1 .left) in
     let j = joined (getD f 0 0 ∷ 0 ∷ []) (text (s .args .labels) (s .args .table .now) (rest 2 f) r) in
     let inside : length ((getD f 0 0 ∷ 0 ∷ []) ++ text (s .args .labels) (s .args .table .now) (rest 2 f) r)
@@ -380,9 +414,13 @@ write-tree-write-tree-requires-2 t c κs =
     let r = halfOf (take n xs) in
     let room = s .pre .1 .1 .1 in
     let j = joined (getD f 0 0 ∷ 0 ∷ []) (text (s .args .labels) (s .args .table .now) (rest 2 f) r) in
-    let o = and-or _ (connective-operator _ (y .part .tree) (c .before .before .before .before .before .before .before .before .before .before .before .if2 .left)
-    (sym (c .before .before .before .before .before .before .before .before .before .before .before .before .before .before
-    .before .before .before .is-modality .ensures) ∙ c .before .before .before .before .before .before .before .before .before .before .before .before .before .before
+    let o = and-or _
+    (connective-operator _ (y .part .tree)
+    (c .before .before .before .before .before .before .before .before .before .before .before .if2 .left)
+    (sym (c .before .before .before .before .before .before .before .before .before .before .before .before .before
+    .before
+    .before .before .before .is-modality .ensures)
+    ∙ c .before .before .before .before .before .before .before .before .before .before .before .before .before .before
     .before .before .if1 .left)) (c .before .before .before .before .if3 .left) in
     let m = getD (s .args .sizes .now) (length f / 2 - 2) 0 in
     let w = two-pieces _ _ _ _ _ _ 2 _ j refl
@@ -409,19 +447,27 @@ write-tree-add-result t c =
     let n = s .args .len in
     let r = halfOf (take n xs) in
     let room = s .pre .1 .1 .1 in
-    let i = connective-operator _ (y .part .tree) (c .before .before .before .before .before .before .before .before .before .before .before .before
+    let i = connective-operator _ (y .part .tree)
+    (c .before .before .before .before .before .before .before .before .before .before .before .before
     .before .before .if2 .left)
-    (sym (c .before .before .before .before .before .before .before .before .before .before .before .before .before .before
-    .before .before .before .before .before .before .is-modality .ensures) ∙ c .before .before .before .before .before .before .before .before .before .before .before .before .before .before
+    (sym (c .before .before .before .before .before .before .before .before .before .before .before .before .before
+    .before
+    .before .before .before .before .before .before .is-modality .ensures)
+    ∙ c .before .before .before .before .before .before .before .before .before .before .before .before .before .before
     .before .before .before .before .before .if1 .left) in
     let j = joined (getD f 0 0 ∷ 0 ∷ []) (text (s .args .labels) (s .args .table .now) (rest 2 f) r) in
     let inside : length ((getD f 0 0 ∷ 0 ∷ []) ++ text (s .args .labels) (s .args .table .now) (rest 2 f) r)
     ≤ length (s .args .out .now) =
     omega (arith, texts.text-connective (s .args .labels) (s .args .table .now) _ f (y .part) r i, room) in
-    let o = and-or _ (connective-operator _ (y .part .tree) (c .before .before .before .before .before .before .before .before .before .before .before .before .before .before .if2 .left)
+    let o = and-or _
+    (connective-operator _ (y .part .tree)
+    (c .before .before .before .before .before .before .before .before .before .before .before .before .before .before
+    .if2 .left)
     (sym (c .before .before .before .before .before .before .before .before .before .before .before .before
-    .before .before .before .before .before .before .before .before .is-modality .ensures) ∙ c .before .before .before .before .before .before .before .before .before .before .before .before
-    .before .before .before .before .before .before .before .if1 .left)) (c .before .before .before .before .before .before .before .if3 .left) in
+    .before .before .before .before .before .before .before .before .is-modality .ensures)
+    ∙ c .before .before .before .before .before .before .before .before .before .before .before .before
+    .before .before .before .before .before .before .before .if1 .left))
+    (c .before .before .before .before .before .before .before .if3 .left) in
     let m = getD (s .args .sizes .now) (length f / 2 - 2) 0 in
     let w = two-pieces _ _ _ _ _ _ 2 _ j refl
     (c .before .before .before .before .before .before .before .before .before .before .before .before .before .before
