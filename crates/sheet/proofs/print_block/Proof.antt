@@ -1,3 +1,4 @@
+-- The block's bytes are those of the next lines, as handing over asks.
 use borrow.Author.Needs.{needs}
 use Rattle.sheet.proofs.print_block.Statement.{statement}
 use Rattle.sheet.proofs.print_block.Tie as tie

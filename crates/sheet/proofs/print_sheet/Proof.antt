@@ -1,3 +1,4 @@
+-- A loop over blocks; the lines before `first` were taken.
 use borrow.Author.Needs.{needs}
 use Rattle.sheet.proofs.print_sheet.Statement.{statement}
 use Rattle.sheet.proofs.print_sheet.Tie as tie

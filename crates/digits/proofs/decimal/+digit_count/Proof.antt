@@ -1,3 +1,4 @@
+-- One count for each size up to five digits; above, four more than a number four digits shorter has.
 use Prim.Native.Nat.{ℕ, _<_}
 use borrow.Fn.Kinds.{In}
 use borrow.Fn.PlainCycle.{Measures, is, falls, and}

@@ -1,3 +1,4 @@
+-- The digits in front by the same function, then four; the measure is the number.
 use Prim.Native.Nat.{ℕ, _<_}
 use borrow.Fn.Kinds.{In}
 use borrow.Fn.PlainCycle.{Measures, is, falls, and}

@@ -1,3 +1,4 @@
+-- Room for five bytes, or for the digits that there are; else nothing is written.
 use borrow.Author.Needs.{needs}
 use Rattle.digits.proofs.decimal.put_decimal.Statement.{statement}
 use Rattle.digits.proofs.decimal.put_decimal.Tie as tie

@@ -1,3 +1,4 @@
+-- Two digits, and two behind them.
 use borrow.Author.Needs.{needs}
 use Rattle.digits.proofs.decimal.put_four.Statement.{statement}
 use Rattle.digits.proofs.decimal.put_four.Tie as tie

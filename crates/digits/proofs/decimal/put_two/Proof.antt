@@ -1,3 +1,4 @@
+-- Two bytes, one after the other.
 use borrow.Author.Needs.{needs}
 use Rattle.digits.proofs.decimal.put_two.Statement.{statement}
 use Rattle.digits.proofs.decimal.put_two.Tie as tie

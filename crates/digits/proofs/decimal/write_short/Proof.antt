@@ -1,3 +1,4 @@
+-- One to five digits, each case by its law.
 use borrow.Author.Needs.{needs}
 use Rattle.digits.proofs.decimal.write_short.Statement.{statement}
 use Rattle.digits.proofs.decimal.write_short.Tie as tie

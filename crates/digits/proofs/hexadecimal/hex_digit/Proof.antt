@@ -1,3 +1,4 @@
+-- A digit below ten, or a letter.
 use borrow.Author.Needs.{needs}
 use Rattle.digits.proofs.hexadecimal.hex_digit.Statement.{statement}
 use Rattle.digits.proofs.hexadecimal.hex_digit.Tie as tie

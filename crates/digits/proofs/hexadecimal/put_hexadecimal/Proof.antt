@@ -1,3 +1,4 @@
+-- All digits have room and are written, or none is.
 use borrow.Author.Needs.{needs}
 use Rattle.digits.proofs.hexadecimal.put_hexadecimal.Statement.{statement}
 use Rattle.digits.proofs.hexadecimal.put_hexadecimal.Tie as tie

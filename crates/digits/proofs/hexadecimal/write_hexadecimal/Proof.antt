@@ -1,3 +1,4 @@
+-- A loop over the bytes, two digits each; those of the first i stand there.
 use Rattle.digits.proofs.hexadecimal.write_hexadecimal.Statement.{statement}
 use Rattle.digits.proofs.hexadecimal.write_hexadecimal.Tie as tie
 use Prim.Native.Nat.{_-_, _≤_}

@@ -1,3 +1,4 @@
+-- A place past the end has no room; else the bytes behind it are compared.
 use Rattle.digits.proofs.output.has_room.Statement.{statement}
 use Rattle.digits.proofs.output.has_room.Tie as tie
 use native.Mathlib.Omega.{arith}

@@ -1,3 +1,4 @@
+-- The lines that fit are the block, since no sheet has more lines than are asked for.
 use borrow.Author.Needs.{needs}
 use Rattle.sheet_lines.proofs.block.write_block.Statement.{statement}
 use Rattle.sheet_lines.proofs.block.write_block.Tie as tie

@@ -1,3 +1,4 @@
+-- The count of the log that the casebook's bytes show.
 use borrow.Author.Needs.{needs}
 use Rattle.sheet_lines.proofs.case.count_of.Statement.{statement}
 use Rattle.sheet_lines.proofs.case.count_of.Tie as tie

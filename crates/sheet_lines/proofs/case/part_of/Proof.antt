@@ -1,3 +1,4 @@
+-- The record of a part of the run has the bytes of that part.
 use borrow.Author.Needs.{needs}
 use Rattle.sheet_lines.proofs.case.part_of.Statement.{statement}
 use Rattle.sheet_lines.proofs.case.part_of.Tie as tie

@@ -1,3 +1,4 @@
+-- The number that was counted, or 1.
 use borrow.Author.Needs.{needs}
 use Rattle.sheet_lines.proofs.case.splittings_of.Statement.{statement}
 use Rattle.sheet_lines.proofs.case.splittings_of.Tie as tie

@@ -1,3 +1,4 @@
+-- The run's length says how many steps it has.
 use borrow.Author.Needs.{needs}
 use Rattle.sheet_lines.proofs.case.steps_of.Statement.{statement}
 use Rattle.sheet_lines.proofs.case.steps_of.Tie as tie

@@ -1,3 +1,4 @@
+-- The quotient's text, or its number where it is refused.
 use borrow.Author.Needs.{needs}
 use Rattle.sheet_lines.proofs.ending.find_ending.Statement.{statement}
 use Rattle.sheet_lines.proofs.ending.find_ending.Tie as tie

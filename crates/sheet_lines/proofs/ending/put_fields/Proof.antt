@@ -1,3 +1,4 @@
+-- Hexadecimal digits, then three bytes.
 use borrow.Author.Needs.{needs}
 use Rattle.sheet_lines.proofs.ending.put_fields.Statement.{statement}
 use Rattle.sheet_lines.proofs.ending.put_fields.Tie as tie

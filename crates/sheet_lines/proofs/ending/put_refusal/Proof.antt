@@ -1,3 +1,4 @@
+-- The number's digits, then three bytes.
 use borrow.Author.Needs.{needs}
 use Rattle.sheet_lines.proofs.ending.put_refusal.Statement.{statement}
 use Rattle.sheet_lines.proofs.ending.put_refusal.Tie as tie

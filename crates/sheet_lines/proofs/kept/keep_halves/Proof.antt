@@ -1,3 +1,4 @@
+-- Halves are kept where the window has many splittings and each of its parts few.
 use borrow.Author.Needs.{needs}
 use Rattle.sheet_lines.proofs.kept.keep_halves.Statement.{statement}
 use Rattle.sheet_lines.proofs.kept.keep_halves.Tie as tie

@@ -1,3 +1,4 @@
+-- The right half of one splitting is written to its place of the table.
 use borrow.Author.Needs.{needs}
 use Rattle.sheet_lines.proofs.kept.list_half.Statement.{statement}
 use Rattle.sheet_lines.proofs.kept.list_half.Tie as tie

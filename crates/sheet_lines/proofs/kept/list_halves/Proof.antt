@@ -1,3 +1,4 @@
+-- A loop over the splittings; the halves of the first i stand in the table.
 use Rattle.sheet_lines.proofs.kept.list_halves.Statement.{statement}
 use Rattle.sheet_lines.proofs.kept.list_halves.Tie as tie
 use Prim.Native.Nat.{_-_, _*_, _≤_}

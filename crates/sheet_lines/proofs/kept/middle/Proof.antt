@@ -1,3 +1,4 @@
+-- A loop that moves the cut; any place in the window will do.
 use borrow.Author.Needs.{needs}
 use Rattle.sheet_lines.proofs.kept.middle.Statement.{statement}
 use Rattle.sheet_lines.proofs.kept.middle.Tie as tie

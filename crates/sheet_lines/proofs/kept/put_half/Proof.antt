@@ -1,3 +1,4 @@
+-- Two copies from the table of halves, one behind the other.
 use borrow.Author.Needs.{needs}
 use Rattle.sheet_lines.proofs.kept.put_half.Statement.{statement}
 use Rattle.sheet_lines.proofs.kept.put_half.Tie as tie

@@ -1,3 +1,4 @@
+-- The call by number, or the division by a half from the table: both answer the same.
 use borrow.Author.Needs.{needs}
 use Rattle.machines.specs.Cases.{caseWith}
 use Rattle.sheet_lines.proofs.kept.quotient_text.Statement.{statement}

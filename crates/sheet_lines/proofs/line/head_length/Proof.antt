@@ -1,3 +1,4 @@
+-- The digits of two numbers, and four bytes.
 use borrow.Author.Needs.{needs}
 use Rattle.sheet_lines.proofs.line.head_length.Statement.{statement}
 use Rattle.sheet_lines.proofs.line.head_length.Tie as tie

@@ -1,3 +1,4 @@
+-- Two numbers and the letter, each with a blank behind it.
 use borrow.Author.Needs.{needs}
 use Rattle.sheet_lines.proofs.line.put_head.Statement.{statement}
 use Rattle.sheet_lines.proofs.line.put_head.Tie as tie

@@ -1,3 +1,4 @@
+-- The copy of a line, with one byte changed.
 use borrow.Author.Needs.{needs}
 use Rattle.sheet_lines.proofs.line.put_line.Statement.{statement}
 use Rattle.sheet_lines.proofs.line.put_line.Tie as tie

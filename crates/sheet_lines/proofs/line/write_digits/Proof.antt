@@ -1,3 +1,4 @@
+-- A loop over the last digit; the lines of the digits before it are written.
 use Rattle.sheet_lines.proofs.line.write_digits.Statement.{statement}
 use Rattle.sheet_lines.proofs.line.write_digits.Tie as tie
 use Prim.Native.Nat.{_+_, _-_, _%_, _≤_}

@@ -1,3 +1,4 @@
+-- The head of the first line is put in front of the ending, then the lines go by their last digit.
 use borrow.Author.Needs.{needs}
 use Rattle.sheet_lines.proofs.line.write_tens.Statement.{statement}
 use Rattle.sheet_lines.proofs.line.write_tens.Tie as tie

@@ -1,3 +1,4 @@
+-- A loop over tens; the lines of the numbers before i are written.
 use Rattle.sheet_lines.proofs.line.write_turn.Statement.{statement}
 use Rattle.sheet_lines.proofs.line.write_turn.Tie as tie
 use Prim.Native.Nat.{_-_}

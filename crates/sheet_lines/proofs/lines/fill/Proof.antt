@@ -1,3 +1,4 @@
+-- A loop over points; the lines before i are written.
 use Rattle.sheet_lines.proofs.lines.fill.Statement.{statement}
 use Rattle.sheet_lines.proofs.lines.fill.Tie as tie
 use borrow.Author.Needs.{needs}

@@ -1,3 +1,4 @@
+-- The count is refused, or the lines are filled in.
 use borrow.Author.Needs.{needs}
 use Rattle.sheet_lines.proofs.lines.fit_case.Statement.{statement}
 use Rattle.sheet_lines.proofs.lines.fit_case.Tie as tie

@@ -1,3 +1,4 @@
+-- The lines of a casebook that was read, or of a refusal.
 use borrow.Author.Needs.{needs}
 use Rattle.sheet_lines.proofs.lines.fit_lines.Statement.{statement}
 use Rattle.sheet_lines.proofs.lines.fit_lines.Tie as tie

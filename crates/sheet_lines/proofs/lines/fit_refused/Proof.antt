@@ -1,3 +1,4 @@
+-- One line, if it is asked for and fits.
 use borrow.Author.Needs.{needs}
 use Rattle.sheet_lines.proofs.lines.fit_refused.Statement.{statement}
 use Rattle.sheet_lines.proofs.lines.fit_refused.Tie as tie

@@ -1,3 +1,4 @@
+-- The lines from the first one due on.
 use borrow.Author.Needs.{needs}
 use Rattle.sheet_lines.proofs.lines.fit_sheet.Statement.{statement}
 use Rattle.sheet_lines.proofs.lines.fit_sheet.Tie as tie

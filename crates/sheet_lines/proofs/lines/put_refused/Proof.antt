@@ -1,3 +1,4 @@
+-- Two bytes, the number's digits, and a line feed.
 use borrow.Author.Needs.{needs}
 use Rattle.sheet_lines.proofs.lines.put_refused.Statement.{statement}
 use Rattle.sheet_lines.proofs.lines.put_refused.Tie as tie

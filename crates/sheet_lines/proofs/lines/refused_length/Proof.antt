@@ -1,3 +1,4 @@
+-- The number's digits, and three bytes.
 use borrow.Author.Needs.{needs}
 use Rattle.sheet_lines.proofs.lines.refused_length.Statement.{statement}
 use Rattle.sheet_lines.proofs.lines.refused_length.Tie as tie

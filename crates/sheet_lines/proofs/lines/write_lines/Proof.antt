@@ -1,3 +1,4 @@
+-- The lines that fit, or 18 where the first one due does not.
 use borrow.Author.Needs.{needs}
 use Rattle.sheet_lines.proofs.lines.write_lines.Statement.{statement}
 use Rattle.sheet_lines.proofs.lines.write_lines.Tie as tie

@@ -1,3 +1,4 @@
+-- A loop over the entries; the first i are 0.
 use Rattle.sheet_lines.proofs.point.forget.Statement.{statement}
 use Rattle.sheet_lines.proofs.point.forget.Tie as tie
 use Prim.Native.Nat.{_-_, _≤_}

@@ -1,3 +1,4 @@
+-- The letter of the joint verdict on the case that the bytes show.
 use borrow.Author.Needs.{needs}
 use Rattle.sheet_lines.proofs.point.letter_at.Statement.{statement}
 use Rattle.sheet_lines.proofs.point.letter_at.Tie as tie

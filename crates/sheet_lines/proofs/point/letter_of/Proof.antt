@@ -1,3 +1,4 @@
+-- A letter for each verdict.
 use borrow.Author.Needs.{needs}
 use Rattle.sheet_lines.proofs.point.letter_of.Statement.{statement}
 use Rattle.sheet_lines.proofs.point.letter_of.Tie as tie

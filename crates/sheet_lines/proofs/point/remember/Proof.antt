@@ -1,3 +1,4 @@
+-- Two entries are set if a line was written and they are there.
 use borrow.Author.Needs.{needs}
 use Rattle.sheet_lines.proofs.point.remember.Statement.{statement}
 use Rattle.sheet_lines.proofs.point.remember.Tie as tie

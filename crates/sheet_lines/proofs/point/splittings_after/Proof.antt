@@ -1,3 +1,4 @@
+-- A window of one splitting, or the count of the rest.
 use borrow.Author.Needs.{needs}
 use Rattle.sheet_lines.proofs.point.splittings_after.Statement.{statement}
 use Rattle.sheet_lines.proofs.point.splittings_after.Tie as tie

@@ -1,3 +1,4 @@
+-- An ending that stands in the output is copied; another is found.
 use borrow.Author.Needs.{needs}
 use Rattle.sheet_lines.proofs.point.take_ending.Statement.{statement}
 use Rattle.sheet_lines.proofs.point.take_ending.Tie as tie

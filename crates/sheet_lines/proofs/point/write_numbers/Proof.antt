@@ -1,3 +1,4 @@
+-- A loop over turns; the lines of the splittings before n are written, and the entries for endings hold.
 use Rattle.sheet_lines.proofs.point.write_numbers.Statement.{statement}
 use Rattle.sheet_lines.proofs.point.write_numbers.Tie as tie
 use Prim.Native.Nat.{_-_}

@@ -1,3 +1,4 @@
+-- What the lines of the point share, then its lines.
 use borrow.Author.Needs.{needs}
 use Rattle.sheet_lines.proofs.point.write_point.Statement.{statement}
 use Rattle.sheet_lines.proofs.point.write_point.Tie as tie

@@ -1,3 +1,4 @@
+-- The lines taken so far, and those handed over.
 use borrow.Author.Needs.{needs}
 use Rattle.sheet.proofs.output.Printed.hand_over.Statement.{statement}
 use Rattle.sheet.proofs.output.Printed.hand_over.Tie as tie
