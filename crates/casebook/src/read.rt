@@ -13,6 +13,7 @@ ghost use Rattle.labels.specs.declared.refusal.Check.the-variants.{Sound};
 ghost use Rattle.tables.specs.Tables.{checkTable};
 ghost use Rattle.casebook.specs.Records.{bodyOf, labelsOf};
 ghost use Rattle.casebook.specs.Reading.{longestCasebook, readQuestion, readRun, readRight, readLeft, readOf};
+ghost use Rattle.casebook.specs.Reading.{caseOf};
 
 // The length of the longest casebook.
 pub const LONGEST: usize = 3825;
@@ -36,7 +37,7 @@ pub struct Parts {
 impl Parts {
     // The labels that the casebook's bytes show.
     pub fn labels(self, s: &[u8]) -> Labels
-        ensures { λ r. ⌜ r ≡ labelsOf (now (s .entry)) (self .labels) ⌝ }
+        ensures { λ r. ⌜ r ≡ caseOf (now (s .entry)) self .labels ⌝ }
     {
         let first = self.labels;
         first.labels(s)

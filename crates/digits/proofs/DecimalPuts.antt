@@ -5,7 +5,7 @@ use mathlib.Core.List.{List, [], _∷_}
 use native.Mathlib.Omega.{arith}
 use lib.ListN.{length, set}
 use Rattle.digits.specs.Digits.{decimal}
-use Rattle.digits.specs.Working.{putAt}
+use Rattle.digits.specs.Outputs.{putAt}
 use Rattle.digits.proofs.DecimalLaws.{decimal-small, decimal-2, decimal-3, decimal-4, decimal-5}
 use Rattle.digits.proofs.DecimalLaws.{decimal-fours}
 use Rattle.digits.proofs.Puts.{put-one, put-then, behind-piece}

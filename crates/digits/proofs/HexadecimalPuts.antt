@@ -6,7 +6,7 @@ use native.Mathlib.Omega.{arith}
 use lib.ListN.{length, getD, set, take}
 use lib.Seq.{length-take-le, take-suc, take-length}
 use Rattle.digits.specs.Digits.{hexDigit, hexadecimal}
-use Rattle.digits.specs.Working.{putAt}
+use Rattle.digits.specs.Outputs.{putAt}
 use Rattle.digits.proofs.HexadecimalLaws.{length-hexadecimal, hexadecimal-behind}
 use Rattle.digits.proofs.Puts.{put-two, put-behind}
 

@@ -8,7 +8,7 @@ use lib.ListN.{length, set, length-set}
 use lib.Seq.{sets, length-sets}
 use lib.Dec.{leb}
 use borrow.Author.Tests.{le-leb, lt-leb, leb-true, leb-false}
-use Rattle.digits.specs.Working.{putAt, roomAt, putIfRoom, behindIfRoom}
+use Rattle.digits.specs.Outputs.{putAt, roomAt, putIfRoom, behindIfRoom}
 
 -- the list keeps its length
 pub length-put : (xs : List ℕ) (at : ℕ) (b : List ℕ) → length (putAt xs at b) ≡ length xs

@@ -1,3 +1,3 @@
--- In reading order; Working is how the code works.
+-- In reading order.
 pub mod Digits
-pub mod Working
+pub mod Outputs

@@ -5,7 +5,7 @@ ghost use mathlib.Core.List.{[], _∷_};
 ghost use Prim.Native.Nat.{_+_, _/_, _%_, _≤_, _<_};
 ghost use lib.ListN.{length};
 ghost use Rattle.digits.specs.Digits.{decimal};
-ghost use Rattle.digits.specs.Working.{putAt, putIfRoom, behindIfRoom};
+ghost use Rattle.digits.specs.Outputs.{putAt, putIfRoom, behindIfRoom};
 
 // How many digits a number has.
 pub fn digit_count(n: usize) -> usize

@@ -4,7 +4,7 @@ ghost use mathlib.Core.Path.{_≡_};
 ghost use Prim.Native.Nat.{_+_, _*_, _≤_, _<_};
 ghost use lib.ListN.{length};
 ghost use Rattle.digits.specs.Digits.{hexadecimal, hexDigit};
-ghost use Rattle.digits.specs.Working.{putAt, putIfRoom, behindIfRoom};
+ghost use Rattle.digits.specs.Outputs.{putAt, putIfRoom, behindIfRoom};
 
 // Writes bytes in hexadecimal at a place, and gives the place behind them. Where they have no room, the output is as
 // before and the answer is the same place.

@@ -8,18 +8,13 @@ use lib.Seq.{take-all, take-take, drop-drop}
 use Rattle.labels.specs.declared.label.Labels.{Labels}
 use Rattle.labels.specs.declared.refusal.Check.the-variants.{Sound}
 use Rattle.machines.specs.Cases.{Case, withRun}
-use Rattle.casebook.specs.Records.{bodyOf, labelsOf}
+use Rattle.casebook.specs.Records.{bodyOf}
 use Rattle.casebook.specs.Reading.{caseOf}
 use Rattle.casebook.specs.declared.record.Record.{Record}
 use Rattle.casebook.specs.declared.read.Parts.{Parts}
 use Rattle.splitting.proofs.LogRuns.{sound-log}
 use Rattle.sheet_lines.specs.Working.{logCheck, between}
 use Rattle.sheet_lines.proofs.Puts.{part-front}
-
--- the labels of the case that bytes show, as they are read
-pub labels-shown : (s : List ℕ) (p : Parts) → labelsOf s (p .labels) ≡ caseOf s p .labels
-unfolding caseOf
-labels-shown s p = refl
 
 -- what is made of its labels, and of the bodies of its records, is made of the case
 module _ (s : List ℕ) (p : Parts) {A : Type 0} where

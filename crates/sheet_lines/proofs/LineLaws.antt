@@ -11,7 +11,7 @@ use Rattle.labels.specs.declared.refusal.Refusal.the-variants as refusal
 use Rattle.digits.specs.Digits.{decimal}
 use Rattle.sheet_lines.specs.Sheets.{blank, lineFeed, headOf, refusedLine}
 use Rattle.sheet_lines.specs.Working.{putAt}
-use Rattle.digits.specs.Working.{putIfRoom, behindIfRoom}
+use Rattle.digits.specs.Outputs.{putIfRoom, behindIfRoom}
 use Rattle.digits.proofs.DecimalLaws.{count-within}
 use Rattle.digits.proofs.Puts.{placed, placed-behind}
 use Rattle.sheet_lines.proofs.Puts.{put-two, behind-piece, behind-one, behind-three, put-kept, put-set-kept}

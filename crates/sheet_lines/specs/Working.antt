@@ -7,7 +7,7 @@ use mathlib.Core.List.{List, _++_}
 use mathlib.Core.Option.{Option}
 use lib.ListN.{length, getD, take, drop, set}
 use lib.Dec.{ltb, eqb}
-unfoldable pub use Rattle.digits.specs.Working.{putAt}
+unfoldable pub use Rattle.digits.specs.Outputs.{putAt}
 use Rattle.hml.specs.Formula.{Formula}
 use Rattle.labels.specs.Refusals.{inFront}
 use Rattle.labels.specs.declared.refusal.Check.{Check}

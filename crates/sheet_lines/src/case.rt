@@ -1,7 +1,6 @@
-// A case as the bytes of a casebook show it: its labels, the count of its splittings, and parts of its run.
+// A case as the bytes of a casebook show it: the count of its splittings, and parts of its run.
 use casebook::read::Parts;
 use casebook::record::Record;
-use labels::label::Labels;
 use splitting::count::Counted;
 use splitting::count::count;
 ghost use mathlib.Core.Path.{_≡_};
@@ -10,18 +9,11 @@ ghost use lib.ListN.{length};
 ghost use Rattle.casebook.specs.Reading.{caseOf};
 ghost use Rattle.sheet_lines.specs.Working.{countIn, countedAs, between};
 
-// The labels of a case.
-pub(crate) fn labels_of(casebook: &[u8], parts: Parts) -> Labels
-    ensures { λ r. ⌜ r ≡ caseOf (now (casebook .entry)) parts .labels ⌝ }
-{
-    parts.labels(casebook)
-}
-
 // How many splittings its log has, or why they are not counted.
 pub(crate) fn count_of(casebook: &[u8], parts: Parts) -> Counted
     ensures { λ r. ⌜ r ≡ countIn (caseOf (now (casebook .entry)) parts) ⌝ }
 {
-    let labels = labels_of(casebook, parts);
+    let labels = parts.labels(casebook);
     let left = parts.left;
     let right = parts.right;
     let run = parts.run;

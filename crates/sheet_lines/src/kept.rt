@@ -1,6 +1,5 @@
 // The right halves of the splittings of a window's two parts, kept in a table: from them the half of each splitting of
 // the window is put together.
-use crate::case::labels_of;
 use crate::case::part_of;
 use crate::case::splittings_of;
 use crate::case::steps_of;
@@ -103,7 +102,7 @@ fn list_half(casebook: &[u8], parts: Parts, i: usize, place: usize, halves: &mut
     ensures { λ r. ⌜ now (halves .exit)
         ≡ putAt (now (halves .entry)) (401 * place) (halfIn (caseOf (now (casebook .entry)) parts) i) ⌝ }
 {
-    let labels = labels_of(casebook, parts);
+    let labels = parts.labels(casebook);
     let left = parts.left;
     let right = parts.right;
     let run = parts.run;
@@ -135,7 +134,7 @@ pub(crate) fn quotient_text(
     ensures { λ r. ⌜ r ≡ quotientIn (caseOf (now (casebook .entry)) parts) t (length (now (text .entry))) ⌝ }
     ensures { λ r. ⌜ now (text .exit) ≡ outputIn (caseOf (now (casebook .entry)) parts) t (now (text .entry)) ⌝ }
 {
-    let labels = labels_of(casebook, parts);
+    let labels = parts.labels(casebook);
     let left = parts.left;
     let right = parts.right;
     let run = parts.run;

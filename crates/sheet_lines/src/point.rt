@@ -1,5 +1,4 @@
 // The lines of one point.
-use crate::case::labels_of;
 use crate::case::part_of;
 use crate::case::splittings_of;
 use crate::case::steps_of;
@@ -253,7 +252,7 @@ fn letter_of(verdict: Verdict) -> u8
 fn letter_at(casebook: &[u8], parts: Parts, point: usize) -> u8
     ensures { λ r. ⌜ r ≡ letterAt (caseOf (now (casebook .entry)) parts) point ⌝ }
 {
-    let labels = labels_of(casebook, parts);
+    let labels = parts.labels(casebook);
     let left = parts.left;
     let right = parts.right;
     let run = parts.run;

@@ -6,7 +6,7 @@ use mathlib.Core.Path.{_≡_, refl}
 use native.Mathlib.Omega.{arith}
 use lib.ListN.{length, length-set, take}
 use Rattle.digits.specs.Digits.{hexadecimal}
-use Rattle.digits.specs.Working.{putAt}
+use Rattle.digits.specs.Outputs.{putAt}
 use Rattle.digits.proofs.HexadecimalPuts.{hex-none, hex-more, hex-all}
 
 abbrev Inv-loop : tie.InvT-loop

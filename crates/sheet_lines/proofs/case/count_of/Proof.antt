@@ -6,8 +6,8 @@ use mathlib.Core.Path.{_∙_}
 use Rattle.splitting.specs.Splittings.{countOf}
 use Rattle.sheet_lines.proofs.CaseLaws.{log-shown}
 
-labels-of-requires : tie.Need-labels-of-requires
-labels-of-requires c κs = search needs
+labels-requires : tie.Need-labels-requires
+labels-requires c κs = search needs
 
 body-requires : tie.Need-body-requires
 body-requires c κs = search needs
@@ -24,7 +24,7 @@ count-requires c κs = search needs
 returns : tie.Need-returns
 returns c =
     c .count .ensures
-    ∙ log-shown _ _ _ _ _ _ (c .before .before .before .before .before .before .before .labels-of .ensures)
+    ∙ log-shown _ _ _ _ _ _ (c .before .before .before .before .before .before .before .labels .ensures)
     (c .before .before .before .body .ensures) (c .before .before .body2 .ensures) (c .before .body3 .ensures)
     (λ x l r j. countOf x l r j)
 
@@ -32,7 +32,7 @@ pub count-of-spec : {M : Type 1} → statement M
 count-of-spec =
     tie.close
     (tie.spec
-    labels-of-requires
+    labels-requires
     body-requires
     body-requires-2
     body-requires-3

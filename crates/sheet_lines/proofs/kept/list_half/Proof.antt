@@ -6,8 +6,8 @@ use native.Mathlib.Omega.{arith}
 use Rattle.casebook.specs.Reading.{caseOf}
 use Rattle.sheet_lines.proofs.KeptTable.{half-listed}
 
-labels-of-requires : tie.Need-labels-of-requires
-labels-of-requires c κs = search needs
+labels-requires : tie.Need-labels-requires
+labels-requires c κs = search needs
 
 body-requires : tie.Need-body-requires
 body-requires c κs = search needs
@@ -45,7 +45,7 @@ returns c =
     let c1 = c .before .before .before .before .before .before in
     let s = c1 .before .before .before .before .before .before .before .before .before in
     half-listed (caseOf (s .args .casebook .now) (s .args .parts)) (s .pre .0 .0 .log) _ _ _ _
-    (c1 .before .before .before .before .before .before .labels-of .ensures) (c1 .before .before .body .ensures)
+    (c1 .before .before .before .before .before .before .labels .ensures) (c1 .before .before .body .ensures)
     (c1 .before .body2 .ensures) (c1 .body3 .ensures) _ (s .pre .0 .1, s .pre .0 .0 .few) _ _ _ _
     (c .before .before .before .split .ensures .1 .1) (omega arith) (s .pre .1)
 
@@ -53,7 +53,7 @@ pub list-half-spec : {M : Type 1} → statement M
 list-half-spec =
     tie.close
     (tie.spec
-    labels-of-requires
+    labels-requires
     body-requires
     body-requires-2
     body-requires-3

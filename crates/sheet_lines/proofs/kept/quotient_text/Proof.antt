@@ -14,8 +14,8 @@ use Rattle.quotient.specs.Calls.{byNumber, byNumberOutput}
 use Rattle.sheet_lines.proofs.CaseLaws.{case-shown}
 use Rattle.sheet_lines.proofs.KeptQuotients.{kept-parts, kept-numbers, kept-steps, half-together, kept-quotient}
 
-labels-of-requires : tie.Need-labels-of-requires
-labels-of-requires c κs = search needs
+labels-requires : tie.Need-labels-requires
+labels-requires c κs = search needs
 
 body-requires : tie.Need-body-requires
 body-requires c κs = search needs
@@ -41,7 +41,7 @@ returns c =
     let c2 = c1 .before .before .before .before .before in
     let s = c .before .before .before .before .before .before .before .before .before .before .before .before .before
     .before .before .before .before .before in
-    let labels = c2 .before .before .before .before .before .labels-of .ensures in (
+    let labels = c2 .before .before .before .before .before .labels .ensures in (
       c .before .before .by-number .ensures .0 ∙ case-shown _ _ _ _ _ _ labels (c1 .before .before .body2 .ensures)
           (c1 .before .body3 .ensures) (c2 .body .ensures) _ (c1 .body4 .ensures)
           (λ x l r j q. byNumber (caseWith x l r j q) (s .args .t) side.Right (length j / 3)
@@ -111,7 +111,7 @@ returns-2 c =
     (c .before .before .before .before .before .before .before .before .before .before .if1 .left) in
     kept-quotient _ (s .pre .0 .0) _ (s .pre .0 .1) (s .pre .0 .2) _ _ _
     (c .before .before .before .before .before .before .before .before .before .before .before .before .before .before
-    .before .before .before .labels-of .ensures) (c .before .before .before .before .before .before .body5 .ensures)
+    .before .before .before .labels .ensures) (c .before .before .before .before .before .before .body5 .ensures)
     (c .before .before .before .before .body6 .ensures) _ _ _ _
     (c2 .put-half .ensures .1 ∙ half-together _ (s .pre .0 .0 .log) _ (s .pre .0 .1) _ _ p) (c1 .divide .ensures .0)
     (c1 .divide .ensures .1)
@@ -120,7 +120,7 @@ pub quotient-text-spec : {M : Type 1} → statement M
 quotient-text-spec =
     tie.close
     (tie.spec
-    labels-of-requires
+    labels-requires
     body-requires
     body-requires-2
     body-requires-3

@@ -7,8 +7,8 @@ use Rattle.verdict.specs.Verdicts.{jointVerdict}
 use Rattle.sheet_lines.specs.Sheets.{letterOf}
 use Rattle.sheet_lines.proofs.CaseLaws.{case-shown}
 
-labels-of-requires : tie.Need-labels-of-requires
-labels-of-requires c κs = search needs
+labels-requires : tie.Need-labels-requires
+labels-requires c κs = search needs
 
 body-requires : tie.Need-body-requires
 body-requires c κs = search needs
@@ -35,7 +35,7 @@ returns c =
     c .letter-of .ensures
     ∙ ap letterOf
     (c .before .joint .ensures
-    ∙ case-shown _ _ _ _ _ _ (c1 .before .before .before .before .before .before .before .before .labels-of .ensures)
+    ∙ case-shown _ _ _ _ _ _ (c1 .before .before .before .before .before .before .before .before .labels .ensures)
     (c1 .before .before .before .body .ensures) (c1 .before .before .body2 .ensures) (c1 .before .body3 .ensures) _
     (c1 .body4 .ensures) (λ x l r j q. jointVerdict x l r j q point))
 
@@ -43,7 +43,7 @@ pub letter-at-spec : {M : Type 1} → statement M
 letter-at-spec =
     tie.close
     (tie.spec
-    labels-of-requires
+    labels-requires
     body-requires
     body-requires-2
     body-requires-3

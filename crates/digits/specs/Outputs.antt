@@ -1,4 +1,4 @@
--- How the code works: bytes written into an output. No call's promise cites this file.
+-- Bytes written into an output, from a place on, if they have room.
 use Prim.Native.Nat.{ℕ, _+_}
 use mathlib.Core.Bool.{Bool, cond}
 use mathlib.Core.List.{List}
