@@ -17,7 +17,7 @@ use Rattle.digits.proofs.DecimalLaws.{decimal-small, decimal-more}
 use Rattle.sheet_lines.proofs.LineLaws.{length-head}
 use Rattle.sheet_lines.proofs.Puts.{set-between, drop-put}
 use Rattle.sheet_lines.proofs.Filling.{length-listed, listed-agree, filled-line, filled-stop, filled-point}
-use Rattle.sheet_lines.proofs.Filling.{full-point}
+use Rattle.sheet_lines.proofs.Filling.{full-point, filled-none, filled-end}
 use Rattle.sheet_lines.proofs.FillLaws.{fitting-few}
 
 -- the digits of a number in front of its last one, by its tens
@@ -125,6 +125,22 @@ module _ (line : List ℕ) (place n end : ℕ) (xs ys : List ℕ) (start to i d 
   digits-stop h =
       filled-stop (digitLine line place n) xs start n end ys to i f (set line place d) digit-same due
       (omega (arith, h, length-set line place d))
+
+-- none fits into an output that is shorter than a line
+pub digits-none : (line : List ℕ) (place n end : ℕ) (xs : List ℕ) (start : ℕ) → n ≤ end → start ≤ length xs
+    → length xs < length line
+    → Full (fitting (length xs - start) (listed (digitLine line place n) n (end - n))) xs start n xs start n
+digits-none line place n end xs start h r short = go (ltb n end) refl
+  where
+    none : Filled (digitLine line place n) xs start n end xs start n
+    none = filled-none (digitLine line place n) xs start n end h r
+
+    go : (b : Bool) → ltb n end ≡ b
+        → Full (fitting (length xs - start) (listed (digitLine line place n) n (end - n))) xs start n xs start n
+    go true e =
+        digits-stop line place n end xs xs start start n (48 + n % 10) none (ltb-true n end e) (omega arith)
+        (omega (arith, short))
+    go false e = filled-end (digitLine line place n) xs start n end xs start n none (omega (arith, ltb-false n end e))
 
 -- a line with its head put in front of its ending
 module _ (p : Point) (n : ℕ) (xs ys : List ℕ) (start len : ℕ)

@@ -67,6 +67,7 @@ fn write_tens(
 }
 
 // The same from the whole line of the first number: the others are copies of it, with another last digit in its place.
+// `last` is the last place where a line has room.
 fn write_digits(
     number: usize,
     until: usize,
@@ -81,12 +82,16 @@ fn write_digits(
         (listed (digitLine (now (line .entry)) place number) number (until - number))) (now (out .entry)) at number
         (now (out .exit)) (r .at) (r .number) ⌝ }
 {
+    if out.len() < line.len() {
+        return Progress { number, at };
+    }
+    let last = out.len() - line.len();
     let first = 48 + (number % 10) as u8;
     let end = first + (until - number) as u8;
     let mut digit = first;
     let mut to = at;
     while digit < end {
-        if out.len() - to < line.len() {
+        if last < to {
             return Progress {
                 number: number + (digit - first) as usize,
                 at: to,
