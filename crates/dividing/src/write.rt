@@ -3,8 +3,8 @@ use crate::disjuncts::list_disjuncts;
 use crate::node::Past;
 use crate::node::past_node;
 use crate::node::put_node;
-use formulas::node::is_back;
 use formulas::node::is_forward;
+use formulas::node::is_modality;
 use labels::label::Label;
 use labels::label::Labels;
 ghost use mathlib.Core.Path.{_≡_};
@@ -14,7 +14,7 @@ ghost use lib.ListN.{length, getD, take};
 ghost use Rattle.labels.specs.Refusals.{inFront};
 ghost use Rattle.tables.specs.Tables.{SoundTable};
 ghost use Rattle.halves.specs.Halves.{halfOf};
-ghost use Rattle.formulas.specs.Operators.{isForward, isBack};
+ghost use Rattle.formulas.specs.Operators.{isForward, isModality};
 ghost use Rattle.dividing.specs.Working.{Ready, Listed, text, texts, firstText};
 
 // Writes the quotient of the first tree of f by the run in the first len bytes. Gives how many bytes it has.
@@ -37,11 +37,8 @@ pub(crate) fn write_tree(
     ensures { λ r. ⌜ now (run .exit) ≡ now (run .entry) ⌝ }
 {
     let operator = f[0];
-    if is_back(operator) {
-        return write_past(labels, table, sizes, run, len, f, out);
-    }
-    if is_forward(operator) {
-        return write_forward(labels, table, sizes, run, len, f, out);
+    if is_modality(operator) {
+        return write_modal(labels, table, sizes, run, len, f, out);
     }
     put_node(out, operator, 0);
     if operator < 2 {
@@ -59,8 +56,8 @@ pub(crate) fn write_tree(
     at + m
 }
 
-// The same for a back modality.
-fn write_past(
+// The same for a modality.
+fn write_modal(
     labels: Labels,
     table: &[u8],
     sizes: &[usize; 64],
@@ -71,7 +68,7 @@ fn write_past(
 ) -> usize
     requires { ⌜ SoundTable labels (now table) ⌝ }
     requires { ⌜ Ready (now sizes) (now run) len 0 (now f) ⌝ }
-    requires { ⌜ isBack (getD (now f) 0 0) ≡ true ⌝ }
+    requires { ⌜ isModality (getD (now f) 0 0) ≡ true ⌝ }
     requires { ⌜ length (text labels (now table) (now f) (halfOf (take len (now run)))) ≤ length (now out) ⌝ }
     ensures { λ r. ⌜ r ≡ length (text labels (now (table .entry)) (now (f .entry))
         (halfOf (take len (now (run .entry))))) ⌝ }
@@ -79,8 +76,12 @@ fn write_past(
         (halfOf (take len (now (run .entry))))) (now (out .entry)) ⌝ }
     ensures { λ r. ⌜ now (run .exit) ≡ now (run .entry) ⌝ }
 {
+    let operator = f[0];
+    if is_forward(operator) {
+        return write_forward(labels, table, sizes, run, len, f, out);
+    }
     let bytes: &[u8] = run;
-    match past_node(labels, f[0], Label(f[1]), &bytes[..len]) {
+    match past_node(labels, operator, Label(f[1]), &bytes[..len]) {
         Past::Node(node) => {
             let label = node.label;
             put_node(out, node.operator, label.0);

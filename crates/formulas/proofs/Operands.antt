@@ -184,11 +184,6 @@ pub back-operator : (o : ℕ) → isModality o ≡ true → isForward o ≡ fals
 unfolding isModality
 back-operator o e n = rw n at e
 
--- an operator that looks neither back nor forward is no modality
-pub neither-way : (o : ℕ) → isBack o ≡ false → isForward o ≡ false → isModality o ≡ false
-unfolding isModality
-neither-way o b a = rw (a, b)
-
 -- an operator that is neither of the two that look forward
 pub no-forward : (o : ℕ) → (o ≡ 5 → ⊥) → (o ≡ 7 → ⊥) → isForward o ≡ false
 no-forward o a b = forward-numbers o ∙ rw (ne-eqb o 5 a, ne-eqb o 7 b)

@@ -1,7 +1,7 @@
 -- A forward modality, by its listed disjuncts.
 use Prim.Native.Nat.{ℕ, _-_}
 use Rattle.dividing.proofs.write.write_forward.Reads as write-forward
-use Rattle.dividing.proofs.write.+write_disjunct+write_disjuncts+write_forward+write_past+write_tree.Lts-write_forward as write-forward-lts
+use Rattle.dividing.proofs.write.+write_disjunct+write_disjuncts+write_forward+write_modal+write_tree.Lts-write_forward as write-forward-lts
 use mathlib.Core.Path.{refl, ap}
 use native.Mathlib.Omega.{arith}
 use lib.ListN.{length, getD, take}
@@ -14,7 +14,7 @@ use Rattle.dividing.proofs.Pieces.{taken, piece-within, piece-length}
 use Rattle.dividing.proofs.Listing.{listed-fits}
 use Rattle.dividing.proofs.Readiness.{forward-ready}
 use Rattle.dividing.proofs.Forwards.{forward-texts, forward-listed}
-use Rattle.dividing.proofs.write.+write_disjunct+write_disjuncts+write_forward+write_past+write_tree.Proof.Measures.{
+use Rattle.dividing.proofs.write.+write_disjunct+write_disjuncts+write_forward+write_modal+write_tree.Proof.Measures.{
   write-forward-at,
   write-forward-claims,
 }

@@ -2,9 +2,9 @@
 -- one step more.
 use Prim.Native.Nat.{ℕ, _-_}
 use Rattle.dividing.proofs.write.write_disjunct.Reads as write-disjunct
-use Rattle.dividing.proofs.write.+write_disjunct+write_disjuncts+write_forward+write_past+write_tree.Lts-write_disjunct as write-disjunct-lts
+use Rattle.dividing.proofs.write.+write_disjunct+write_disjuncts+write_forward+write_modal+write_tree.Lts-write_disjunct as write-disjunct-lts
 use Rattle.dividing.proofs.write.write_disjuncts.Reads as write-disjuncts
-use Rattle.dividing.proofs.write.+write_disjunct+write_disjuncts+write_forward+write_past+write_tree.Lts-write_disjuncts as write-disjuncts-lts
+use Rattle.dividing.proofs.write.+write_disjunct+write_disjuncts+write_forward+write_modal+write_tree.Lts-write_disjuncts as write-disjuncts-lts
 use mathlib.Core.Path.{refl, _∙_}
 use mathlib.Core.List.{[], _∷_}
 use native.Mathlib.Omega.{arith}
@@ -17,7 +17,7 @@ use Rattle.labels.proofs.Outputs.{front-length}
 use Rattle.dividing.proofs.Pieces.{joined, two-pieces, first-fits, second-fits, second-length}
 use Rattle.dividing.proofs.Readiness.{longer-ready}
 use Rattle.dividing.proofs.Forwards.{listed-room, listed-keeps, listed-rest, texts-last, texts-more, first-text}
-use Rattle.dividing.proofs.write.+write_disjunct+write_disjuncts+write_forward+write_past+write_tree.Proof.Measures.{
+use Rattle.dividing.proofs.write.+write_disjunct+write_disjuncts+write_forward+write_modal+write_tree.Proof.Measures.{
   write-disjunct-at,
   write-disjuncts-at,
   write-disjunct-claims,

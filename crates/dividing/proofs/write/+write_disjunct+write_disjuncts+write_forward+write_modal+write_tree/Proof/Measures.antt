@@ -5,21 +5,21 @@ use borrow.Fn.Kinds.{In}
 use borrow.Fn.PlainCycle.{Measures, is, falls, and}
 use Rattle.dividing.proofs.write.write_disjunct.Reads as write-disjunct
 use Rattle.dividing.proofs.write.write_disjunct.Kinds as write-disjunct-kinds
-use Rattle.dividing.proofs.write.+write_disjunct+write_disjuncts+write_forward+write_past+write_tree.Lts-write_disjunct as write-disjunct-lts
+use Rattle.dividing.proofs.write.+write_disjunct+write_disjuncts+write_forward+write_modal+write_tree.Lts-write_disjunct as write-disjunct-lts
 use Rattle.dividing.proofs.write.write_disjuncts.Reads as write-disjuncts
 use Rattle.dividing.proofs.write.write_disjuncts.Kinds as write-disjuncts-kinds
-use Rattle.dividing.proofs.write.+write_disjunct+write_disjuncts+write_forward+write_past+write_tree.Lts-write_disjuncts as write-disjuncts-lts
+use Rattle.dividing.proofs.write.+write_disjunct+write_disjuncts+write_forward+write_modal+write_tree.Lts-write_disjuncts as write-disjuncts-lts
 use Rattle.dividing.proofs.write.write_forward.Reads as write-forward
 use Rattle.dividing.proofs.write.write_forward.Kinds as write-forward-kinds
-use Rattle.dividing.proofs.write.+write_disjunct+write_disjuncts+write_forward+write_past+write_tree.Lts-write_forward as write-forward-lts
-use Rattle.dividing.proofs.write.write_past.Reads as write-past
-use Rattle.dividing.proofs.write.write_past.Kinds as write-past-kinds
-use Rattle.dividing.proofs.write.+write_disjunct+write_disjuncts+write_forward+write_past+write_tree.Lts-write_past as write-past-lts
+use Rattle.dividing.proofs.write.+write_disjunct+write_disjuncts+write_forward+write_modal+write_tree.Lts-write_forward as write-forward-lts
+use Rattle.dividing.proofs.write.write_modal.Reads as write-modal
+use Rattle.dividing.proofs.write.write_modal.Kinds as write-modal-kinds
+use Rattle.dividing.proofs.write.+write_disjunct+write_disjuncts+write_forward+write_modal+write_tree.Lts-write_modal as write-modal-lts
 use Rattle.dividing.proofs.write.write_tree.Reads as write-tree
 use Rattle.dividing.proofs.write.write_tree.Kinds as write-tree-kinds
-use Rattle.dividing.proofs.write.+write_disjunct+write_disjuncts+write_forward+write_past+write_tree.Lts-write_tree as write-tree-lts
-use Rattle.formulas.proofs.node.is_back.Reads as is-back-reads
+use Rattle.dividing.proofs.write.+write_disjunct+write_disjuncts+write_forward+write_modal+write_tree.Lts-write_tree as write-tree-lts
 use Rattle.formulas.proofs.node.is_forward.Reads as is-forward-reads
+use Rattle.formulas.proofs.node.is_modality.Reads as is-modality-reads
 use Rattle.dividing.proofs.disjuncts.list_disjuncts.Reads as list-disjuncts-reads
 use Rattle.dividing.proofs.node.past_node.Reads as past-node-reads
 use Rattle.dividing.proofs.node.put_node.Reads as put-node-reads
@@ -38,8 +38,8 @@ abbrev pub μ-write-disjuncts : Measures 6 write-disjuncts-kinds.ps ℕ
 abbrev pub μ-write-forward : Measures 5 write-forward-kinds.ps ℕ
 μ-write-forward κs a = length (a .1 .1 .1 .1 .1 .0 .now) * K
 
-abbrev pub μ-write-past : Measures 5 write-past-kinds.ps ℕ
-μ-write-past κs a = length (a .1 .1 .1 .1 .1 .0 .now) * K + 1
+abbrev pub μ-write-modal : Measures 5 write-modal-kinds.ps ℕ
+μ-write-modal κs a = length (a .1 .1 .1 .1 .1 .0 .now) * K + 1
 
 abbrev pub μ-write-tree : Measures 5 write-tree-kinds.ps ℕ
 μ-write-tree κs a = length (a .1 .1 .1 .1 .1 .0 .now) * K + 2
@@ -88,13 +88,13 @@ write-forward-below t =
     (falls 5 write-forward-kinds.ps _<_ μ-write-forward t)
     write-forward.Pre
 
-abbrev pub write-past-at : ℕ → In 5 write-past-kinds.ps
-write-past-at t =
-    and 5 write-past-kinds.ps (is 5 write-past-kinds.ps μ-write-past t) write-past.Pre
+abbrev pub write-modal-at : ℕ → In 5 write-modal-kinds.ps
+write-modal-at t =
+    and 5 write-modal-kinds.ps (is 5 write-modal-kinds.ps μ-write-modal t) write-modal.Pre
 
-abbrev pub write-past-below : ℕ → In 5 write-past-kinds.ps
-write-past-below t =
-    and 5 write-past-kinds.ps (falls 5 write-past-kinds.ps _<_ μ-write-past t) write-past.Pre
+abbrev pub write-modal-below : ℕ → In 5 write-modal-kinds.ps
+write-modal-below t =
+    and 5 write-modal-kinds.ps (falls 5 write-modal-kinds.ps _<_ μ-write-modal t) write-modal.Pre
 
 abbrev pub write-tree-at : ℕ → In 5 write-tree-kinds.ps
 write-tree-at t =
@@ -122,8 +122,12 @@ abbrev pub write-forward-claims : ℕ → write-forward-lts.Claims
 write-forward-claims t =
     (list-disjuncts-reads.Asked, list-disjuncts-reads.Learnt, write-disjuncts-below t, write-disjuncts.Post)
 
-abbrev pub write-past-claims : ℕ → write-past-lts.Claims
-write-past-claims t = (
+abbrev pub write-modal-claims : ℕ → write-modal-lts.Claims
+write-modal-claims t = (
+  is-forward-reads.Asked,
+  is-forward-reads.Learnt,
+  write-forward-below t,
+  write-forward.Post,
   past-node-reads.Asked,
   past-node-reads.Learnt,
   put-node-reads.Asked,
@@ -134,14 +138,10 @@ write-past-claims t = (
 
 abbrev pub write-tree-claims : ℕ → write-tree-lts.Claims
 write-tree-claims t = (
-  is-back-reads.Asked,
-  is-back-reads.Learnt,
-  write-past-below t,
-  write-past.Post,
-  is-forward-reads.Asked,
-  is-forward-reads.Learnt,
-  write-forward-below t,
-  write-forward.Post,
+  is-modality-reads.Asked,
+  is-modality-reads.Learnt,
+  write-modal-below t,
+  write-modal.Post,
   put-node-reads.Asked,
   put-node-reads.Learnt,
   write-tree-below t,

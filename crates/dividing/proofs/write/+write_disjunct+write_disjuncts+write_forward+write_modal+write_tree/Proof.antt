@@ -1,48 +1,44 @@
 -- The cycle that writes a quotient, each piece into the rest of the output that the one before it left. The answers to
 -- its needs stand in rooms beside this file, by function.
 use Rattle.dividing.proofs.write.write_disjunct.Reads as write-disjunct
-use Rattle.dividing.proofs.write.+write_disjunct+write_disjuncts+write_forward+write_past+write_tree.Lts-write_disjunct as write-disjunct-lts
+use Rattle.dividing.proofs.write.+write_disjunct+write_disjuncts+write_forward+write_modal+write_tree.Lts-write_disjunct as write-disjunct-lts
 use Rattle.dividing.proofs.write.write_disjuncts.Reads as write-disjuncts
-use Rattle.dividing.proofs.write.+write_disjunct+write_disjuncts+write_forward+write_past+write_tree.Lts-write_disjuncts as write-disjuncts-lts
+use Rattle.dividing.proofs.write.+write_disjunct+write_disjuncts+write_forward+write_modal+write_tree.Lts-write_disjuncts as write-disjuncts-lts
 use Rattle.dividing.proofs.write.write_forward.Reads as write-forward
-use Rattle.dividing.proofs.write.+write_disjunct+write_disjuncts+write_forward+write_past+write_tree.Lts-write_forward as write-forward-lts
-use Rattle.dividing.proofs.write.write_past.Reads as write-past
-use Rattle.dividing.proofs.write.+write_disjunct+write_disjuncts+write_forward+write_past+write_tree.Lts-write_past as write-past-lts
+use Rattle.dividing.proofs.write.+write_disjunct+write_disjuncts+write_forward+write_modal+write_tree.Lts-write_forward as write-forward-lts
+use Rattle.dividing.proofs.write.write_modal.Reads as write-modal
+use Rattle.dividing.proofs.write.+write_disjunct+write_disjuncts+write_forward+write_modal+write_tree.Lts-write_modal as write-modal-lts
 use Rattle.dividing.proofs.write.write_tree.Reads as write-tree
-use Rattle.dividing.proofs.write.+write_disjunct+write_disjuncts+write_forward+write_past+write_tree.Lts-write_tree as write-tree-lts
-use Rattle.dividing.proofs.write.+write_disjunct+write_disjuncts+write_forward+write_past+write_tree.{statement}
-use Rattle.dividing.proofs.write.+write_disjunct+write_disjuncts+write_forward+write_past+write_tree.Tie.{close}
+use Rattle.dividing.proofs.write.+write_disjunct+write_disjuncts+write_forward+write_modal+write_tree.Lts-write_tree as write-tree-lts
+use Rattle.dividing.proofs.write.+write_disjunct+write_disjuncts+write_forward+write_modal+write_tree.{statement}
+use Rattle.dividing.proofs.write.+write_disjunct+write_disjuncts+write_forward+write_modal+write_tree.Tie.{close}
 use Prim.Native.Nat.{_+_, _-_}
-use Rattle.dividing.proofs.write.+write_disjunct+write_disjuncts+write_forward+write_past+write_tree.Proof.Measures.{
+use Rattle.dividing.proofs.write.+write_disjunct+write_disjuncts+write_forward+write_modal+write_tree.Proof.Measures.{
   μ-write-disjunct,
   μ-write-disjuncts,
   μ-write-forward,
-  μ-write-past,
+  μ-write-modal,
   μ-write-tree,
   write-disjunct-at,
   write-disjuncts-at,
   write-forward-at,
-  write-past-at,
+  write-modal-at,
   write-tree-at,
   write-disjunct-claims,
   write-disjuncts-claims,
   write-forward-claims,
-  write-past-claims,
+  write-modal-claims,
   write-tree-claims,
 }
-use Rattle.dividing.proofs.write.+write_disjunct+write_disjuncts+write_forward+write_past+write_tree.Proof.Trees.{
+use Rattle.dividing.proofs.write.+write_disjunct+write_disjuncts+write_forward+write_modal+write_tree.Proof.Trees.{
   write-tree-shared-slice-read-operator,
-  write-tree-is-back-requires,
-  write-tree-write-past-requires,
+  write-tree-is-modality-requires,
+  write-tree-write-modal-requires,
   write-tree-same-length,
   write-tree-returns,
-  write-tree-is-forward-requires,
-  write-tree-write-forward-requires,
+  write-tree-put-node-requires,
   write-tree-same-length-2,
   write-tree-returns-2,
-  write-tree-put-node-requires,
-  write-tree-same-length-3,
-  write-tree-returns-3,
   write-tree-sub-write-tree,
   write-tree-part-write-tree-start,
   write-tree-part-write-tree-end,
@@ -51,8 +47,8 @@ use Rattle.dividing.proofs.write.+write_disjunct+write_disjuncts+write_
   write-tree-part-write-tree-end-2,
   write-tree-write-tree-requires,
   write-tree-add-at,
-  write-tree-same-length-4,
-  write-tree-returns-4,
+  write-tree-same-length-3,
+  write-tree-returns-3,
   write-tree-sub-size,
   write-tree-mul-size,
   write-tree-element-copy-out-size,
@@ -66,33 +62,37 @@ use Rattle.dividing.proofs.write.+write_disjunct+write_disjuncts+write_
   write-tree-part-write-tree-end-3,
   write-tree-write-tree-requires-2,
   write-tree-add-result,
-  write-tree-same-length-5,
-  write-tree-returns-5,
+  write-tree-same-length-4,
+  write-tree-returns-4,
 }
-use Rattle.dividing.proofs.write.+write_disjunct+write_disjuncts+write_forward+write_past+write_tree.Proof.Pasts.{
-  write-past-shared-slice-read-past-node,
-  write-past-shared-slice-read-t17,
-  write-past-slice-aggregate-past-node,
-  write-past-past-node-requires,
-  write-past-enum-known-node,
-  write-past-put-node-requires,
-  write-past-sub-write-tree,
-  write-past-sub-write-tree-2,
-  write-past-part-write-tree-start,
-  write-past-part-write-tree-end,
-  write-past-sub-write-tree-3,
-  write-past-part-write-tree-start-2,
-  write-past-part-write-tree-end-2,
-  write-past-write-tree-requires,
-  write-past-add-result,
-  write-past-enum-told,
-  write-past-put-node-requires-2,
-  write-past-same-length,
-  write-past-returns,
-  write-past-same-length-2,
-  write-past-returns-2,
+use Rattle.dividing.proofs.write.+write_disjunct+write_disjuncts+write_forward+write_modal+write_tree.Proof.Modalities.{
+  write-modal-shared-slice-read-operator,
+  write-modal-is-forward-requires,
+  write-modal-write-forward-requires,
+  write-modal-same-length,
+  write-modal-returns,
+  write-modal-shared-slice-read-t14,
+  write-modal-slice-aggregate-past-node,
+  write-modal-past-node-requires,
+  write-modal-enum-known-node,
+  write-modal-put-node-requires,
+  write-modal-sub-write-tree,
+  write-modal-sub-write-tree-2,
+  write-modal-part-write-tree-start,
+  write-modal-part-write-tree-end,
+  write-modal-sub-write-tree-3,
+  write-modal-part-write-tree-start-2,
+  write-modal-part-write-tree-end-2,
+  write-modal-write-tree-requires,
+  write-modal-add-result,
+  write-modal-enum-told,
+  write-modal-put-node-requires-2,
+  write-modal-same-length-2,
+  write-modal-returns-2,
+  write-modal-same-length-3,
+  write-modal-returns-3,
 }
-use Rattle.dividing.proofs.write.+write_disjunct+write_disjuncts+write_forward+write_past+write_tree.Proof.Forwards.{
+use Rattle.dividing.proofs.write.+write_disjunct+write_disjuncts+write_forward+write_modal+write_tree.Proof.Forwards.{
   write-forward-shared-slice-read-list-disjuncts,
   write-forward-shared-slice-read-t13,
   write-forward-sub-list-disjuncts,
@@ -108,7 +108,7 @@ use Rattle.dividing.proofs.write.+write_disjunct+write_disjuncts+write_
   write-forward-same-length,
   write-forward-returns,
 }
-use Rattle.dividing.proofs.write.+write_disjunct+write_disjuncts+write_forward+write_past+write_tree.Proof.Disjuncts.{
+use Rattle.dividing.proofs.write.+write_disjunct+write_disjuncts+write_forward+write_modal+write_tree.Proof.Disjuncts.{
   write-disjuncts-write-disjunct-requires,
   write-disjuncts-same-length,
   write-disjuncts-returns,
@@ -153,18 +153,18 @@ use Rattle.dividing.proofs.write.+write_disjunct+write_disjuncts+write_
 }
 mod Measures
 mod Trees
-mod Pasts
+mod Modalities
 mod Forwards
 mod Disjuncts
 
-pub +write-disjunct+write-disjuncts+write-forward+write-past+write-tree-spec :
+pub +write-disjunct+write-disjuncts+write-forward+write-modal+write-tree-spec :
     {M : Type 1} → statement M
-+write-disjunct+write-disjuncts+write-forward+write-past+write-tree-spec =
++write-disjunct+write-disjuncts+write-forward+write-modal+write-tree-spec =
     close
     μ-write-disjunct
     μ-write-disjuncts
     μ-write-forward
-    μ-write-past
+    μ-write-modal
     μ-write-tree
     (λ t. write-disjunct-lts.spec (write-disjunct-claims t) (write-disjunct-at t)
     write-disjunct.Post
@@ -227,43 +227,43 @@ pub +write-disjunct+write-disjuncts+write-forward+write-past+write-tree-spec :
     (write-forward-write-disjuncts-requires t)
     (write-forward-same-length t)
     (write-forward-returns t))
-    (λ t. write-past-lts.spec (write-past-claims t) (write-past-at t)
-    write-past.Post
-    (write-past-shared-slice-read-past-node t)
-    (write-past-shared-slice-read-t17 t)
-    (write-past-slice-aggregate-past-node t)
-    (write-past-past-node-requires t)
-    (write-past-enum-known-node t)
-    (write-past-put-node-requires t)
-    (write-past-sub-write-tree t)
-    (write-past-sub-write-tree-2 t)
-    (write-past-part-write-tree-start t)
-    (write-past-part-write-tree-end t)
-    (write-past-sub-write-tree-3 t)
-    (write-past-part-write-tree-start-2 t)
-    (write-past-part-write-tree-end-2 t)
-    (write-past-write-tree-requires t)
-    (write-past-add-result t)
-    (write-past-enum-told t)
-    (write-past-put-node-requires-2 t)
-    (write-past-same-length t)
-    (write-past-returns t)
-    (write-past-same-length-2 t)
-    (write-past-returns-2 t))
+    (λ t. write-modal-lts.spec (write-modal-claims t) (write-modal-at t)
+    write-modal.Post
+    (write-modal-shared-slice-read-operator t)
+    (write-modal-is-forward-requires t)
+    (write-modal-write-forward-requires t)
+    (write-modal-same-length t)
+    (write-modal-returns t)
+    (write-modal-shared-slice-read-t14 t)
+    (write-modal-slice-aggregate-past-node t)
+    (write-modal-past-node-requires t)
+    (write-modal-enum-known-node t)
+    (write-modal-put-node-requires t)
+    (write-modal-sub-write-tree t)
+    (write-modal-sub-write-tree-2 t)
+    (write-modal-part-write-tree-start t)
+    (write-modal-part-write-tree-end t)
+    (write-modal-sub-write-tree-3 t)
+    (write-modal-part-write-tree-start-2 t)
+    (write-modal-part-write-tree-end-2 t)
+    (write-modal-write-tree-requires t)
+    (write-modal-add-result t)
+    (write-modal-enum-told t)
+    (write-modal-put-node-requires-2 t)
+    (write-modal-same-length-2 t)
+    (write-modal-returns-2 t)
+    (write-modal-same-length-3 t)
+    (write-modal-returns-3 t))
     λ t. write-tree-lts.spec (write-tree-claims t) (write-tree-at t)
     write-tree.Post
     (write-tree-shared-slice-read-operator t)
-    (write-tree-is-back-requires t)
-    (write-tree-write-past-requires t)
+    (write-tree-is-modality-requires t)
+    (write-tree-write-modal-requires t)
     (write-tree-same-length t)
     (write-tree-returns t)
-    (write-tree-is-forward-requires t)
-    (write-tree-write-forward-requires t)
+    (write-tree-put-node-requires t)
     (write-tree-same-length-2 t)
     (write-tree-returns-2 t)
-    (write-tree-put-node-requires t)
-    (write-tree-same-length-3 t)
-    (write-tree-returns-3 t)
     (write-tree-sub-write-tree t)
     (write-tree-part-write-tree-start t)
     (write-tree-part-write-tree-end t)
@@ -272,8 +272,8 @@ pub +write-disjunct+write-disjuncts+write-forward+write-past+write-tree-spec :
     (write-tree-part-write-tree-end-2 t)
     (write-tree-write-tree-requires t)
     (write-tree-add-at t)
-    (write-tree-same-length-4 t)
-    (write-tree-returns-4 t)
+    (write-tree-same-length-3 t)
+    (write-tree-returns-3 t)
     (write-tree-sub-size t)
     (write-tree-mul-size t)
     (write-tree-element-copy-out-size t)
@@ -287,5 +287,5 @@ pub +write-disjunct+write-disjuncts+write-forward+write-past+write-tree-spec :
     (write-tree-part-write-tree-end-3 t)
     (write-tree-write-tree-requires-2 t)
     (write-tree-add-result t)
-    (write-tree-same-length-5 t)
-    (write-tree-returns-5 t)
+    (write-tree-same-length-4 t)
+    (write-tree-returns-4 t)
