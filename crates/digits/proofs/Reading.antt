@@ -4,13 +4,8 @@ use mathlib.Core.Path.{_≡_, refl, sym, _∙_, ap}
 use mathlib.Core.List.{List, [], _∷_, _++_, append-assoc, append-nil}
 use native.Mathlib.Omega.{arith}
 use lib.ListN.{length, getD}
-use Rattle.digits.specs.Digits.{decimal}
+use Rattle.digits.specs.Digits.{decimal, readFrom}
 use Rattle.digits.proofs.DecimalLaws.{decimal-small, decimal-more, by-digits}
-
--- the number that has these digits behind those of n
-unfoldable pub readFrom : ℕ → List ℕ → ℕ
-readFrom n [] = n
-readFrom n (d ∷ l) = readFrom (10 * n + (d - 48)) l
 
 -- bytes that are digits, 0 to 9
 unfoldable pub AllDigits : List ℕ → Type 0

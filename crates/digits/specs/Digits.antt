@@ -1,5 +1,5 @@
--- Numbers in decimal, and bytes in "lower-case hexadecimal", as a sheet prints them.
-use Prim.Native.Nat.{ℕ, zero, suc, _+_, _/_, _%_}
+-- Numbers in decimal, written and read, and bytes in "lower-case hexadecimal", as a sheet prints them.
+use Prim.Native.Nat.{ℕ, zero, suc, _+_, _-_, _*_, _/_, _%_}
 use mathlib.Core.Bool.{cond}
 use mathlib.Core.List.{List, [], _∷_, _++_}
 use lib.Dec.{ltb}
@@ -12,6 +12,11 @@ digitsWithin (suc m) n = cond (ltb n 10) ((48 + n) ∷ []) (digitsWithin m (n / 
 -- a number in decimal, without zeros in front; n + 1 digits are always enough
 unfoldable pub decimal : ℕ → List ℕ
 decimal n = digitsWithin (suc n) n
+
+-- the number that has these digits behind those of n; digits alone are read from 0
+unfoldable pub readFrom : ℕ → List ℕ → ℕ
+readFrom n [] = n
+readFrom n (d ∷ l) = readFrom (10 * n + (d - 48)) l
 
 -- a hexadecimal digit: 0 to 9, then a to f
 unfoldable pub hexDigit : ℕ → ℕ

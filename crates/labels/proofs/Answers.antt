@@ -7,8 +7,8 @@ use Rattle.labels.specs.Refusals.{numberOf}
 use Rattle.labels.specs.declared.refusal.Refusal.{Refusal}
 use Rattle.labels.specs.declared.refusal.Refusal.the-variants as refusal
 
--- a refusal's number is 1 to 18, so 0 says that nothing is refused
-pub refusal-numbers : (r : Refusal) → (1 ≤ numberOf r) × (numberOf r ≤ 18)
+-- a refusal's number is 1 to 21, so 0 says that nothing is refused
+pub refusal-numbers : (r : Refusal) → (1 ≤ numberOf r) × (numberOf r ≤ 21)
 refusal-numbers refusal.Truncated = omega arith
 refusal-numbers refusal.WrongKind = omega arith
 refusal-numbers refusal.WrongLength = omega arith
@@ -27,6 +27,9 @@ refusal-numbers refusal.NotARun = omega arith
 refusal-numbers refusal.HalvesDoNotMatch = omega arith
 refusal-numbers refusal.QuotientTooLarge = omega arith
 refusal-numbers refusal.OutputTooShort = omega arith
+refusal-numbers refusal.NotOfForm = omega arith
+refusal-numbers refusal.WrongHeader = omega arith
+refusal-numbers refusal.UnknownLabel = omega arith
 
 -- values of which none is over a bound
 pub data Within (most : ℕ) : List ℕ → Type 0 where

@@ -1,4 +1,4 @@
--- The numbers of document 01, "Who can cause a refusal", and how checks follow one another.
+-- The numbers of document 01, "Who can cause a refusal", and of document 02, and how checks follow one another.
 use Prim.Native.Nat.{ℕ}
 use mathlib.Core.Bool.{Bool, true, false}
 use mathlib.Core.List.{List, [], _∷_, _++_}
@@ -28,6 +28,9 @@ numberOf refusal.NotARun = 15
 numberOf refusal.HalvesDoNotMatch = 16
 numberOf refusal.QuotientTooLarge = 17
 numberOf refusal.OutputTooShort = 18
+numberOf refusal.NotOfForm = 19
+numberOf refusal.WrongHeader = 20
+numberOf refusal.UnknownLabel = 21
 
 -- a check that refuses decides; a sound one leaves it to the next
 abbrev pub thenOf : Check → Check → Check

@@ -1,8 +1,9 @@
-// The refusals of document 01, and the answer of a check.
+// The refusals of documents 01 and 02, and the answer of a check.
 ghost use mathlib.Core.Path.{_≡_};
 ghost use Rattle.labels.specs.Refusals.{numberOf, thenOf};
 
-// Why a call is refused: one case for each number of "Who can cause a refusal", in the order of the numbers.
+// Why a call is refused: one case for each number of "Who can cause a refusal", then of document 02, in the order of
+// the numbers.
 pub enum Refusal {
     // 1 to 11: the author of the bytes.
     // The bytes end before the question record is complete.
@@ -15,7 +16,7 @@ pub enum Refusal {
     TooManyPairs,
     // No state at all or over 64, or a row with a state or label out of range.
     OutOfRange,
-    // A row not above the one before.
+    // A row not above the one before; in an Aldebaran text, a row given twice.
     RowNotAbove,
     // A ninth row from one state.
     NinthRow,
@@ -42,10 +43,17 @@ pub enum Refusal {
     QuotientTooLarge,
     // A lent output shorter than the answer.
     OutputTooShort,
+    // 19 to 21: an Aldebaran text.
+    // A missing header, or a line not of the form.
+    NotOfForm,
+    // A row count that differs from the lines, or a first state not below the states.
+    WrongHeader,
+    // A label that is not spelled as one.
+    UnknownLabel,
 }
 
 impl Refusal {
-    // The document's number, 1 to 18.
+    // The documents' number, 1 to 21.
     pub fn number(self) -> u8
         ensures { λ r. ⌜ r ≡ numberOf self ⌝ }
     {
@@ -68,6 +76,9 @@ impl Refusal {
             Refusal::HalvesDoNotMatch => 16,
             Refusal::QuotientTooLarge => 17,
             Refusal::OutputTooShort => 18,
+            Refusal::NotOfForm => 19,
+            Refusal::WrongHeader => 20,
+            Refusal::UnknownLabel => 21,
         }
     }
 }

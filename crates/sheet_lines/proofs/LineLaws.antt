@@ -7,7 +7,7 @@ use lib.ListN.{length, set, take, drop, length-append, length-set}
 use lib.Seq.{take-nil, drop-nil}
 use Rattle.labels.specs.Refusals.{numberOf}
 use Rattle.labels.specs.declared.refusal.Refusal.{Refusal}
-use Rattle.labels.specs.declared.refusal.Refusal.the-variants as refusal
+use Rattle.labels.proofs.Answers.{refusal-numbers}
 use Rattle.digits.specs.Digits.{decimal}
 use Rattle.sheet_lines.specs.Sheets.{blank, lineFeed, headOf, refusedLine}
 use Rattle.sheet_lines.specs.Working.{putAt}
@@ -18,24 +18,7 @@ use Rattle.sheet_lines.proofs.Puts.{put-two, behind-piece, behind-one, 
 
 -- numbers of refusals have two digits at most
 pub number-small : (x : Refusal) → numberOf x < 100
-number-small refusal.Truncated = omega arith
-number-small refusal.WrongKind = omega arith
-number-small refusal.WrongLength = omega arith
-number-small refusal.TooManyPairs = omega arith
-number-small refusal.OutOfRange = omega arith
-number-small refusal.RowNotAbove = omega arith
-number-small refusal.NinthRow = omega arith
-number-small refusal.NotReal = omega arith
-number-small refusal.NotATree = omega arith
-number-small refusal.NestedTooDeep = omega arith
-number-small refusal.BytesAfter = omega arith
-number-small refusal.PointBeyond = omega arith
-number-small refusal.TooManySplittings = omega arith
-number-small refusal.NoSuchSplitting = omega arith
-number-small refusal.NotARun = omega arith
-number-small refusal.HalvesDoNotMatch = omega arith
-number-small refusal.QuotientTooLarge = omega arith
-number-small refusal.OutputTooShort = omega arith
+number-small x = omega (arith, refusal-numbers x)
 
 -- the head: two numbers, a letter and three blanks
 pub length-head : (p n a : ℕ) → length (headOf p n a) ≡ length (decimal p) + length (decimal n) + 4

@@ -4,12 +4,12 @@ use Prim.Native.Nat.{ℕ, _+_, _-_, _%_, _≤_, _<_}
 use native.Mathlib.Omega.{arith}
 use mathlib.Core.Path.{_≡_, refl, sym, _∙_, ap}
 use mathlib.Core.Logic.{_↔_, _⊎_, inl, inr}
-use mathlib.Core.Bool.{Bool, true, false, cond, _||_, _&&_}
+use mathlib.Core.Bool.{Bool, true, false, cond}
 use mathlib.Core.List.{List, [], _∷_, _++_}
 use mathlib.Core.List.{List·Memᴰ·head as here, List·Memᴰ·tail as there, List·Memᴰ·not-nil as nowhere}
 use mathlib.Core.List.{List·Memᴰ·cases-cons as ∈-cons, Memᴰ·cast as ∈-cast}
 use lib.ListN.{length}
-use lib.Dec.{eqb, ltb}
+use lib.Dec.{eqb}
 use borrow.Author.Tests.{eqb-true}
 use Rattle.labels.proofs.Refusals.{Judges, accepts, judges, judged-unless, judged-fault, judged-iff, judged-then}
 use Rattle.hml.specs.Lists.{same, _∈_, only}
@@ -32,7 +32,7 @@ use Rattle.tables.specs.Working.{Ready}
 abbrev pub Ranged : Labels → ℕ → Row → Type 0
 Ranged k n r = (r .0 < n) × (r .1 ≤ count k) × (r .2 < n)
 
-decided-ranged : (k : Labels) (n : ℕ) (r : Row) → Decides (Ranged k n r) (inRange k n r)
+pub decided-ranged : (k : Labels) (n : ℕ) (r : Row) → Decides (Ranged k n r) (inRange k n r)
 unfolding inRange
 decided-ranged k n r = decided-iff (λ t. (t .0, t .1 .0, t .1 .1)) (λ t. (t .0, (t .1, t .2)))
     (decided-and (decided-lt (r .0) n) (decided-and (decided-le (r .1) (count k)) (decided-lt (r .2) n)))
@@ -46,68 +46,56 @@ follows-none : (before : List Row) → Follows before []
 follows-none [] = none
 follows-none (b ∷ before) = one
 
-row-path : {r s : Row} → r .0 ≡ s .0 → r .1 ≡ s .1 → r .2 ≡ s .2 → r ≡ s
+-- two rows with the same numbers are one
+pub row-path : {r s : Row} → r .0 ≡ s .0 → r .1 ≡ s .1 → r .2 ≡ s .2 → r ≡ s
 row-path e f g i = (e i, f i, g i)
 
--- compared by a number first, then by P
-data Lex (a b : ℕ) (P : Type 0) : Type 0 where
-  early : a < b → Lex a b P
-  late : a ≡ b → P → Lex a b P
-
-decided-lex : (a b : ℕ) {P : Type 0} {x : Bool} → Decides P x → Decides (Lex a b P) (ltb a b || (eqb a b && x))
-decided-lex a b {P} d = decided-iff to from (decided-or (decided-lt a b) (decided-and (decided-same a b) d))
-  where
-    to : (a < b) ⊎ ((a ≡ b) × P) → Lex a b P
-    to (inl h) = early h
-    to (inr t) = late (t .0) (t .1)
-
-    from : Lex a b P → (a < b) ⊎ ((a ≡ b) × P)
-    from (early h) = inl h
-    from (late e x) = inr (e, x)
+-- below by a number, or level there and below by P
+abbrev pub Lex : ℕ → ℕ → Type 0 → Type 0
+Lex a b P = (a < b) ⊎ ((a ≡ b) × P)
 
 lex-trans : {a b c : ℕ} {P Q R : Type 0} → (P → Q → R) → Lex a b P → Lex b c Q → Lex a c R
-lex-trans f (early h) (early k) = early (omega arith)
-lex-trans f (early h) (late e y) = early (omega arith)
-lex-trans f (late e x) (early k) = early (omega arith)
-lex-trans f (late e x) (late e′ y) = late (e ∙ e′) (f x y)
+lex-trans f (inl h) (inl k) = inl (omega arith)
+lex-trans f (inl h) (inr (e, y)) = inl (omega arith)
+lex-trans f (inr (e, x)) (inl k) = inl (omega arith)
+lex-trans f (inr (e, x)) (inr (d, y)) = inr (e ∙ d, f x y)
 
 lex-same : {a : ℕ} {P : Type 0} → Lex a a P → P
-lex-same (early h) = absurd (omega arith)
-lex-same (late e x) = x
+lex-same (inl h) = absurd (omega arith)
+lex-same (inr (e, x)) = x
 
 -- a row below another: by from, then label, then to
-Under : Row → Row → Type 0
-Under r s = Lex (r .0) (s .0) (Lex (r .1) (s .1) (r .2 < s .2))
+abbrev pub Below : Row → Row → Type 0
+Below r s = Lex (r .0) (s .0) (Lex (r .1) (s .1) (r .2 < s .2))
 
-decided-under : (r s : Row) → Decides (Under r s) (rowBelow r s)
-unfolding rowBelow Under
-decided-under r s = decided-lex (r .0) (s .0) (decided-lex (r .1) (s .1) (decided-lt (r .2) (s .2)))
+pub decided-below : (r s : Row) → Decides (Below r s) (rowBelow r s)
+unfolding rowBelow
+decided-below r s =
+    decided-or (decided-lt (r .0) (s .0)) (decided-and (decided-same (r .0) (s .0))
+    (decided-or (decided-lt (r .1) (s .1)) (decided-and (decided-same (r .1) (s .1)) (decided-lt (r .2) (s .2)))))
 
-under-trans : (r s u : Row) → Under r s → Under s u → Under r u
-unfolding Under
-under-trans r s u x y = lex-trans (λ x y. lex-trans (λ h k. omega (arith, h, k)) x y) x y
+pub below-trans : (r s u : Row) → rowBelow r s ≡ true → rowBelow s u ≡ true → rowBelow r u ≡ true
+below-trans r s u e f = decides (decided-below r u) .1
+    (lex-trans (λ x y. lex-trans (λ h k. omega (arith, h, k)) x y) (decides (decided-below r s) .0 e)
+    (decides (decided-below s u) .0 f))
 
-never-under : (r : Row) → Under r r → ⊥
-unfolding Under
-never-under r x = let h = lex-same (lex-same x) in omega arith
+pub never-below : (r : Row) → rowBelow r r ≡ true → ⊥
+never-below r e = let h = lex-same (lex-same (decides (decided-below r r) .0 e)) in omega (arith, h)
 
 -- the first of rows that rise is below each other
-head-under : {r s : Row} {rows : List Row} → Rising (r ∷ rows) → s ∈ rows → Under r s
-head-under one i = absurd (nowhere i)
-head-under {s} (more {r = r} {s = u} {rows = rows} e t) i = go (∈-cons i) (λ k. head-under t k)
+pub head-below : {r s : Row} {rows : List Row} → Rising (r ∷ rows) → s ∈ rows → rowBelow r s ≡ true
+head-below one i = absurd (nowhere i)
+head-below {s} (more {r = r} {s = u} {rows = rows} e t) i = go (∈-cons i) (λ k. head-below t k)
   where
-    h : Under r u
-    h = decides (decided-under r u) .0 e
-
-    go : (s ≡ u) ⊎ (s ∈ rows) → (s ∈ rows → Under u s) → Under r s
-    go (inl q) later = rw q h
-    go (inr k) later = under-trans r u s h (later k)
+    go : (s ≡ u) ⊎ (s ∈ rows) → (s ∈ rows → rowBelow u s ≡ true) → rowBelow r s ≡ true
+    go (inl q) later = rw q e
+    go (inr k) later = below-trans r u s e (later k)
 
 -- rows that rise are without repetition
 pub rows-distinct : {rows : List Row} → Rising rows → Distinct rows
 rows-distinct none = Distinct.none
 rows-distinct one = Distinct.some nowhere Distinct.none
-rows-distinct (more {r = r} e t) = Distinct.some (λ i. never-under r (head-under (more e t) i)) (rows-distinct t)
+rows-distinct (more {r = r} e t) = Distinct.some (λ i. never-below r (head-below (more e t) i)) (rows-distinct t)
 
 -- rows that fit after those before them, the newest first: in range, each above the one before, at most 8 from a state
 -- with those before
