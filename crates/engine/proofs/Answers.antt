@@ -1,5 +1,5 @@
 -- The boundary's answers by their cases, each from what the code knows at its return.
-use Prim.Native.Nat.{ℕ, _+_, _*_}
+use Prim.Native.Nat.{ℕ, _+_, _*_, _≤_}
 use mathlib.Core.Path.{_≡_, refl, sym, _∙_, ap}
 use mathlib.Core.Bool.{Bool, true, false, cond}
 use mathlib.Core.List.{List, [], _∷_}
@@ -15,6 +15,11 @@ use Rattle.casebook.specs.declared.read.Reading.{Reading}
 use Rattle.casebook.specs.declared.read.Reading.the-variants as reading
 use Rattle.casebook.proofs.RecordLaws.{Bytes}
 use Rattle.casebook.proofs.RoundTrip.{placing}
+use Rattle.labels.proofs.Answers.{Within, within-at}
+use Rattle.aldebaran.specs.Reading as text-reading
+use Rattle.aldebaran.specs.declared.read.TableRead.{TableRead}
+use Rattle.aldebaran.specs.declared.read.TableRead.the-variants as table-read
+use Rattle.aldebaran.proofs.Values as text-values
 use Rattle.engine.specs.declared.sheet.LinesAnswer.{LinesAnswer}
 use Rattle.engine.specs.Answers.{packed, only, placeAt, placeIn, linesTold, sideOf}
 use Rattle.engine.specs.Working.{Placed, placesOf}
@@ -49,6 +54,14 @@ module _ {A : Type 0} (f : A → Answer) {x r b : A} (promise : x ≡ r) (found 
       → _≡_ {A = LinesAnswer} (record { refusal = n; lines = 0; bytes = 0 }) (linesTold (f r))
   unfolding linesTold
   lines-refused y e h = rw (← same-answer, e, h)
+
+-- a table that was read, and its first state, are small
+pub table-small : (text : List ℕ) (room n first : ℕ) (x : TableRead) → x ≡ text-reading.readOf text room
+    → x ≡ table-read.Table n first → (n ≤ 1537) × (first ≤ 1537)
+unfolding text-reading.tableAnswer
+table-small text room n first x e f =
+    let w : Within 1537 (n ∷ first ∷ []) = rw (sym e ∙ f) at (text-values.read-within text room) in
+    (within-at w 0, within-at w 1)
 
 -- the records of a casebook that was read lie within as many bytes as the longest has
 pub placed : (s : List ℕ) → Bytes s → (x : Reading) (p : Parts) → x ≡ readOf s → x ≡ reading.Casebook p → Placed p

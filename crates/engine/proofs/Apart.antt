@@ -1,5 +1,5 @@
 -- Every answer of one number is taken apart rightly: for every input of each call, the header's two functions give
--- document 01's number, 0 where nothing is refused, and what the call tells of the values, 0 where it is refused.
+-- the documents' number, 0 where nothing is refused, and what the call tells of the values, 0 where it is refused.
 use Prim.Native.Nat.{ℕ, _+_, _≤_, _<_}
 use mathlib.Core.Path.{_≡_, ap}
 use mathlib.Core.Logic.{_↔_}
@@ -29,7 +29,10 @@ use Rattle.joining.proofs.Values.{join-within}
 use Rattle.dividing.specs.Quotients.{quotientAnswer}
 use Rattle.quotient.specs.Calls.{byHalf, byNumber, officeOf, lineAnswer}
 use Rattle.quotient.proofs.Values.{half-within, number-within, line-within}
-use Rattle.engine.specs.Answers.{packed, refusalIn, valueIn, nothing, only, twoBits, placeAt, placeIn}
+use Rattle.aldebaran.specs.Reading as text-reading
+use Rattle.aldebaran.specs.Writing as text-writing
+use Rattle.aldebaran.proofs.Values as text-values
+use Rattle.engine.specs.Answers.{packed, refusalIn, valueIn, nothing, only, twoBits, placeAt, placeIn, tableTold}
 
 -- what a caller finds in an answer
 pub record Apart (tell : List ℕ → ℕ) (a : Answer) : Type 0 where
@@ -41,7 +44,7 @@ pub apart : (tell : List ℕ → ℕ) (a : Answer) → tell (a .values) < 429496
 unfolding packed refusalIn valueIn
 apart tell a h = record { refusal = omega arith; value = omega arith }
 
--- the only value, two bits, a place: from a bound of the values
+-- the only value, two bits, a table with its first state, a place: from a bound of the values
 pub only-apart : (a : Answer) {most : ℕ} → Within most (a .values) → most ≤ 65535 → Apart only a
 unfolding only
 only-apart a w h = apart only a (omega (arith, within-at w 0))
@@ -49,6 +52,10 @@ only-apart a w h = apart only a (omega (arith, within-at w 0))
 pub bits-apart : (a : Answer) → Within 1 (a .values) → Apart twoBits a
 unfolding twoBits
 bits-apart a w = apart twoBits a (omega (arith, within-at w 0, within-at w 1))
+
+pub table-apart : (a : Answer) → Within 1537 (a .values) → Apart tableTold a
+unfolding tableTold
+table-apart a w = apart tableTold a (omega (arith, within-at w 0, within-at w 1))
 
 -- a place in a casebook that was read
 place-small : (ns : List ℕ) (i : ℕ) → Within longestCasebook ns → placeAt ns i < 4294967296
@@ -78,6 +85,15 @@ casebook-part-apart s bytes kind = apart (placeIn kind) _ (places-small kind _ (
 
 pub casebook-write-apart : (c : Case) (room : ℕ) → Apart only (writeAnswer (writeOf c room))
 casebook-write-apart c room = only-apart _ (write-within c room) (omega (arith, longest-is))
+
+-- of Aldebaran texts
+pub aldebaran-read-apart : (text : List ℕ) (room : ℕ)
+    → Apart tableTold (text-reading.tableAnswer (text-reading.readOf text room))
+aldebaran-read-apart text room = table-apart _ (text-values.read-within text room)
+
+pub aldebaran-write-apart : (t : List ℕ) (first room : ℕ)
+    → Apart only (text-writing.textAnswer (text-writing.writeOf t first room))
+aldebaran-write-apart t first room = only-apart _ (text-values.write-within t first room) (omega arith)
 
 -- of verdicts
 pub joint-verdict-apart : (k : Labels) (l r s f : List ℕ) (point : ℕ)

@@ -46,6 +46,10 @@ placeIn kind ns =
     (cond (eqb kind 4) (placeAt ns 6)
     (cond (eqb kind 5) (placeAt ns 8) 0))))
 
+-- a table's length and its first state: first state * 65536 + length
+unfoldable pub tableTold : List ℕ → ℕ
+tableTold ns = getD ns 1 0 * 65536 + getD ns 0 0
+
 -- lines of the sheet: the number, the lines and the bytes
 unfoldable pub linesTold : Answer → LinesAnswer
 linesTold a = record { refusal = a .number; lines = getD (a .values) 0 0; bytes = getD (a .values) 1 0 }

@@ -1,6 +1,7 @@
 // The calls for C and Rust: numbers as themselves, slices as pointer and length. Each answers one number: the refusal's
 // number times 2^32, plus the value (0 when refused). Only a cut answers a length, and lines of the sheet a struct.
 pub mod sheet;
+pub mod texts;
 
 use casebook::read::Parts;
 use casebook::read::Reading;
@@ -44,7 +45,7 @@ ghost use Rattle.engine.specs.Answers.{packed, nothing, only, twoBits, p
 ghost use Rattle.engine.specs.Working.{Placed, placesOf};
 
 // A refusal as a number.
-fn refused(refusal: Refusal) -> u64
+pub(crate) fn refused(refusal: Refusal) -> u64
     ensures { λ r. ⌜ r ≡ packed only (refusedAs refusal) ⌝ }
 {
     let number = refusal.number();

@@ -43,7 +43,7 @@ pub(crate) fn put_partners(line: &mut [u8], labels: Labels) -> usize {
     at
 }
 
-// The refusal of a number of document 01; sound for any other.
+// The refusal of a number of the documents; sound for any other.
 fn refusal_of(n: u8) -> Check {
     match n {
         1 => Check::Refused(Refusal::Truncated),
@@ -64,6 +64,9 @@ fn refusal_of(n: u8) -> Check {
         16 => Check::Refused(Refusal::HalvesDoNotMatch),
         17 => Check::Refused(Refusal::QuotientTooLarge),
         18 => Check::Refused(Refusal::OutputTooShort),
+        19 => Check::Refused(Refusal::NotOfForm),
+        20 => Check::Refused(Refusal::WrongHeader),
+        21 => Check::Refused(Refusal::UnknownLabel),
         _ => Check::Sound,
     }
 }

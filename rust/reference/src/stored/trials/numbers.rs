@@ -54,7 +54,7 @@ fn labels() -> Vec<Trial> {
 
 /// One check after the other: each number behind none and before none, and pairs of numbers near and far apart.
 fn thens() -> Vec<Trial> {
-    let all = (0..=18).flat_map(|first| (0..=18).map(move |second| (first, second)));
+    let all = (0..=21).flat_map(|first| (0..=21).map(move |second| (first, second)));
     let tried = |(first, second): &(u8, u8)| {
         *first == 0 || *second == 0 || first.abs_diff(*second) < 2 || first.abs_diff(*second) > 15
     };

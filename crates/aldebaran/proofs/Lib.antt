@@ -1,0 +1,24 @@
+-- In reading order: each file cites those before it.
+pub mod LineSplitting
+pub mod WrittenNumbers
+pub mod WrittenLines
+pub mod Exactly
+pub mod Scanning
+pub mod LineReading
+pub mod LabelReading
+pub mod RowReading
+pub mod Marking
+pub mod Order
+pub mod Marks
+pub mod MarkedRows
+pub mod Accepted
+pub mod Told
+pub mod ReadCalls
+pub mod RowCalls
+pub mod TextLengths
+pub mod TextPieces
+pub mod TextWriting
+pub mod Values
+pub mod Cases
+pub mod Shuffled
+pub mod RoundTrip

@@ -1,0 +1,5 @@
+-- In reading order; Working is how the code works.
+pub mod Forms
+pub mod Reading
+pub mod Writing
+pub mod Working
