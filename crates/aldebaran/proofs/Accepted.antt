@@ -24,8 +24,9 @@ use Rattle.tables.specs.Working.{below}
 use Rattle.tables.proofs.Chunks.{threes-chunks, chunks-read}
 use Rattle.tables.proofs.Rows.{span-size}
 use Rattle.tables.proofs.SoundTables.{judged-table}
-use Rattle.aldebaran.specs.Forms.{Form}
-use Rattle.aldebaran.specs.Reading.{fifteen, isLabel, rowsIn, all, fitHeader, fitRows, twice, ninth, checkForm}
+use Rattle.aldebaran_form.specs.Forms.{Form}
+use Rattle.aldebaran_form.specs.Forms.{fifteen}
+use Rattle.aldebaran.specs.Reading.{isLabel, rowsIn, all, fitHeader, fitRows, twice, ninth, checkForm}
 use Rattle.aldebaran.specs.Reading.{inOrder, tableBytes}
 use Rattle.aldebaran.proofs.Order.{order-same, order-length, order-rising, order-leaving, ninth-few, any-order}
 use Rattle.aldebaran.proofs.Marks.{all-ranged}

@@ -8,13 +8,14 @@ use mathlib.Core.Option.{some}
 use Rattle.hml.specs.Lists.{_∈_, each}
 use Rattle.hml.proofs.Lists.{each-map}
 use Rattle.hml.proofs.Tests.{apart}
-use Rattle.aldebaran.specs.Forms.{Header, Line, Form, headerLine, rowLine, ended, written}
-use Rattle.aldebaran.specs.Forms.{ShortHeader, PlainLine, Says}
-use Rattle.aldebaran.specs.Reading.{next, linesOf, headerIn, lineIn, linesIn, formIn, formOf}
+use Rattle.aldebaran_form.specs.Forms.{Header, Line, Form, headerLine, rowLine, ended, written}
+use Rattle.aldebaran_form.specs.Forms.{ShortHeader, PlainLine, Says}
+use Rattle.aldebaran_form.specs.Lines.{next, headerIn, lineIn}
+use Rattle.aldebaran.specs.Reading.{linesOf, linesIn, formIn, formOf}
 use Rattle.aldebaran.proofs.LineSplitting.{Plain, plain-nil, plain-cons, plain-front, plain-rest}
 use Rattle.aldebaran.proofs.LineSplitting.{WrittenOf, lines-written, lines-read}
-use Rattle.aldebaran.proofs.WrittenLines.{next-some, line-written, line-read, row-lacks}
-use Rattle.aldebaran.proofs.WrittenLines.{header-written, header-read, header-lacks}
+use Rattle.aldebaran_form.proofs.WrittenLines.{next-some, line-written, line-read, row-lacks}
+use Rattle.aldebaran_form.proofs.WrittenLines.{header-written, header-read, header-lacks}
 
 -- each of the lines is of the form
 abbrev pub PlainLines : List Line → Type 0

@@ -1,11 +1,6 @@
 -- In reading order: each file cites those before it.
 pub mod LineSplitting
-pub mod WrittenNumbers
-pub mod WrittenLines
 pub mod Exactly
-pub mod Scanning
-pub mod LineReading
-pub mod LabelReading
 pub mod RowReading
 pub mod Marking
 pub mod Order
@@ -15,9 +10,6 @@ pub mod Accepted
 pub mod Told
 pub mod ReadCalls
 pub mod RowCalls
-pub mod TextLengths
-pub mod TextPieces
-pub mod TextWriting
 pub mod Values
 pub mod Cases
 pub mod Shuffled

@@ -29,22 +29,23 @@ use Rattle.tables.specs.Tables.{statesOf, bytesOf, rowsOf, fitStates, inRange, 
 use Rattle.tables.proofs.Chunks.{threes-chunks, chunks-whole}
 use Rattle.tables.proofs.Rows.{length-rows}
 use Rattle.tables.proofs.SoundTables.{sound-table}
-use Rattle.aldebaran.specs.Forms.{lineFeed, quote, Header, Line, Form, Short, PlainLine, Says, spelled}
-use Rattle.aldebaran.specs.Reading.{formOf, fifteen, isLabel, rowsWith, rowsIn, all, fitHeader}
+use Rattle.aldebaran_form.specs.Forms.{lineFeed, quote, Header, Line, Form, Short, PlainLine, Says, spelled}
+use Rattle.aldebaran.specs.Reading.{formOf, isLabel, rowsWith, rowsIn, all, fitHeader}
+use Rattle.aldebaran_form.specs.Forms.{fifteen}
 use Rattle.aldebaran.specs.Reading.{fitRows, checkForm, tableBytes, checkRead, answered}
 use Rattle.aldebaran.specs.Reading.{readOfForm, readOf, outputOfForm, tableOutput}
-use Rattle.aldebaran.specs.Writing.{lineOf, formFor, textOf, checkText, writeOf, textOutput}
-use Rattle.aldebaran.specs.Writing.{answered as answered-text}
+use Rattle.aldebaran_writing.specs.Writing.{lineOf, formFor, textOf, checkText, writeOf, textOutput}
+use Rattle.aldebaran_writing.specs.Writing.{answered as answered-text}
 use Rattle.aldebaran.specs.declared.read.TableRead.the-variants as read
-use Rattle.aldebaran.specs.declared.write.TextWriting.the-variants as writing
-use Rattle.aldebaran.proofs.LineSplitting.{Lacks, lacks-nil, lacks-cons, lacks-append}
-use Rattle.aldebaran.proofs.WrittenNumbers.{decimal-lacks}
-use Rattle.aldebaran.proofs.LabelReading.{label-found}
+use Rattle.aldebaran_writing.specs.declared.write.TextWriting.the-variants as writing
+use Rattle.aldebaran_form.proofs.Lacks.{Lacks, lacks-nil, lacks-cons, lacks-append}
+use Rattle.aldebaran_form.proofs.WrittenNumbers.{decimal-lacks}
+use Rattle.aldebaran_form.proofs.LabelReading.{label-found}
 use Rattle.aldebaran.proofs.Exactly.{PlainLines, form-written, read-written}
 use Rattle.aldebaran.proofs.Order.{order-kept, order-length, rising-once, decided-ninth}
 use Rattle.aldebaran.proofs.RowCalls.{row-each}
 use Rattle.aldebaran.proofs.Accepted.{SoundForm, sound-form, accepted, table-rows, table-same}
-use Rattle.aldebaran.proofs.TextLengths.{text-short}
+use Rattle.aldebaran_writing.proofs.TextLengths.{text-short}
 use Rattle.aldebaran.proofs.Shuffled.{Shuffled, shuffled-length, shuffled-all, shuffled-rows, shuffled-twice}
 use Rattle.aldebaran.proofs.Shuffled.{shuffled-ninth, shuffled-order}
 

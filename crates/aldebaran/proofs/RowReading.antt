@@ -11,15 +11,18 @@ use lib.Dec.{ltb}
 use borrow.Author.Tests.{ltb-true, ltb-false}
 use Rattle.hml.proofs.Tests.{apart}
 use Rattle.labels.specs.declared.label.Label.{Label}
-use Rattle.aldebaran.specs.Forms.{lineFeed, Line}
-use Rattle.aldebaran.specs.Reading.{next, all, there, linesOf, lineIn, linesIn, labelOf, isLabel}
-use Rattle.aldebaran.specs.Working.{LineEnd, RowFound, rowLines, linesFound, lineFound, labelFound}
-use Rattle.aldebaran.specs.declared.label.Spelled.{Spelled}
-use Rattle.aldebaran.specs.declared.label.Spelled.the-variants as label
-use Rattle.aldebaran.specs.declared.line.RowLine.{RowLine}
+use Rattle.aldebaran_form.specs.Forms.{lineFeed, Line}
+use Rattle.aldebaran_form.specs.Lines.{next, lineIn, labelOf}
+use Rattle.aldebaran.specs.Reading.{all, there, linesOf, linesIn, isLabel}
+use Rattle.aldebaran.specs.Working.{LineEnd, RowFound, rowLines, linesFound}
+use Rattle.aldebaran_form.specs.Working.{lineFound, labelFound}
+use Rattle.aldebaran_form.specs.declared.label.Spelled.{Spelled}
+use Rattle.aldebaran_form.specs.declared.label.Spelled.the-variants as label
+use Rattle.aldebaran_form.specs.declared.line.RowLine.{RowLine}
 use Rattle.aldebaran.specs.declared.rows.NextRow.{NextRow}
 use Rattle.aldebaran.specs.declared.rows.Lines.{Lines}
-use Rattle.aldebaran.proofs.LineSplitting.{Lacks, lacks-places, lines-nil, lines-feed, lines-none}
+use Rattle.aldebaran_form.proofs.Lacks.{Lacks, lacks-places}
+use Rattle.aldebaran.proofs.LineSplitting.{lines-nil, lines-feed, lines-none}
 
 -- the search for a line feed: none so far
 pub record NoneYet (text : List ℕ) (at end : ℕ) : Type 0 where

@@ -1,30 +1,23 @@
 -- How large the values of answers can be.
-use Prim.Native.Nat.{ℕ, _+_, _≤_, _<_}
-use mathlib.Core.Path.{_≡_, refl, sym, _∙_, ap}
-use mathlib.Core.Bool.{Bool, true, false}
-use mathlib.Core.List.{List, _∷_}
+use Prim.Native.Nat.{ℕ, _≤_}
+use mathlib.Core.Path.{_≡_, refl}
+use mathlib.Core.List.{List}
 use mathlib.Core.Option.{Option, none, some}
 use native.Mathlib.Omega.{arith}
 use lib.ListN.{length}
-use lib.Dec.{eqb, leb, ltb}
-use borrow.Author.Tests.{ltb-true, leb-true, leb-false}
+use lib.Dec.{eqb, leb}
+use borrow.Author.Tests.{ltb-true, leb-true}
 use Rattle.hml.proofs.Tests.{both-true}
-use Rattle.labels.specs.Refusals.{refusedIf, firstOf}
+use Rattle.labels.specs.Refusals.{firstOf}
 use Rattle.labels.specs.declared.refusal.Check.{Check}
 use Rattle.labels.specs.declared.refusal.Check.the-variants as check
-use Rattle.labels.specs.declared.refusal.Refusal.the-variants as refusal
-use Rattle.labels.proofs.Refusals.{both-sound, unrefused}
+use Rattle.labels.proofs.Refusals.{both-sound}
 use Rattle.labels.proofs.Answers.{Within, next, none as no-more}
-use Rattle.tables.specs.Tables.{fitStates, statesOf, checkTable}
-use Rattle.aldebaran.specs.Forms.{Form}
-use Rattle.aldebaran.specs.Reading.{fifteen, fitHeader, formOf, checkForm, tableBytes, checkRead, answered}
+use Rattle.tables.specs.Tables.{fitStates}
+use Rattle.aldebaran_form.specs.Forms.{Form}
+use Rattle.aldebaran.specs.Reading.{fitHeader, formOf, checkForm, tableBytes, checkRead, answered}
 use Rattle.aldebaran.specs.Reading.{readOfForm, readOf, tableAnswer}
-use Rattle.aldebaran.specs.Writing.{textOf, checkText, writeOf, textAnswer}
-use Rattle.aldebaran.specs.Writing as writing-specs
-use Rattle.aldebaran.specs.declared.read.TableRead.{TableRead}
-use Rattle.aldebaran.specs.declared.read.TableRead.the-variants as read
 use Rattle.aldebaran.proofs.Accepted.{sound-form, sound-bytes}
-use Rattle.aldebaran.proofs.TextLengths.{text-short}
 
 -- of a reading: a table of at most 1,537 bytes, and a first state below 64
 small-first : (g : Form) → checkForm g ≡ check.Sound → g .header .first ≤ 63
@@ -50,16 +43,3 @@ read-within text room = by-form (formOf text)
     by-form : (f : Option Form) → Within 1537 (tableAnswer (readOfForm f room) .values)
     by-form none = no-more
     by-form (some g) = by-check g (checkRead g room) refl
-
--- of a writing: at most 7,696 bytes
-pub write-within : (t : List ℕ) (first room : ℕ) → Within 7696 (textAnswer (writeOf t first room) .values)
-unfolding writeOf textAnswer checkText firstOf
-write-within t first room = by-check (checkText t first room) refl
-  where
-    by-check : (c : Check) → checkText t first room ≡ c
-        → Within 7696 (textAnswer (writing-specs.answered c (length (textOf t first))) .values)
-    by-check check.Sound e =
-        let (s, f) = both-sound (checkTable fifteen t) _ e in
-        let low = unrefused (leb (statesOf t) first) refusal.WrongHeader (both-sound _ _ f .0) in
-        next (text-short t first s (omega (arith, leb-false (statesOf t) first low))) no-more
-    by-check (check.Refused x) e = no-more

@@ -1,5 +1,3 @@
 -- In reading order; Working is how the code works.
-pub mod Forms
 pub mod Reading
-pub mod Writing
 pub mod Working

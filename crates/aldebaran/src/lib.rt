@@ -1,9 +1,5 @@
-// Aldebaran texts, the form in which other tools save a machine: read into a table and its first state, and written.
-// Document 02, 1/12.
-mod label;
-mod line;
+// Reading an Aldebaran text, the form in which other tools save a machine, into a table and its first state. Document
+// 02, 1/12.
 mod mark;
 pub mod read;
 mod rows;
-mod scan;
-pub mod write;

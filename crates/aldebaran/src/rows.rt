@@ -1,8 +1,8 @@
 // The lines behind the header, one after the other.
-use crate::label::Spelled;
-use crate::label::label_of;
-use crate::line::RowLine;
-use crate::line::row_line;
+use aldebaran_form::label::Spelled;
+use aldebaran_form::label::label_of;
+use aldebaran_form::line::RowLine;
+use aldebaran_form::line::row_line;
 ghost use mathlib.Core.Path.{_≡_};
 ghost use mathlib.Core.Bool.{true, false};
 ghost use mathlib.Core.Option.{none};

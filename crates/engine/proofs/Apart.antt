@@ -30,8 +30,9 @@ use Rattle.dividing.specs.Quotients.{quotientAnswer}
 use Rattle.quotient.specs.Calls.{byHalf, byNumber, officeOf, lineAnswer}
 use Rattle.quotient.proofs.Values.{half-within, number-within, line-within}
 use Rattle.aldebaran.specs.Reading as text-reading
-use Rattle.aldebaran.specs.Writing as text-writing
+use Rattle.aldebaran_writing.specs.Writing as text-writing
 use Rattle.aldebaran.proofs.Values as text-values
+use Rattle.aldebaran_writing.proofs.Values as written-values
 use Rattle.engine.specs.Answers.{packed, refusalIn, valueIn, nothing, only, twoBits, placeAt, placeIn, tableTold}
 
 -- what a caller finds in an answer
@@ -93,7 +94,7 @@ aldebaran-read-apart text room = table-apart _ (text-values.read-within text roo
 
 pub aldebaran-write-apart : (t : List ℕ) (first room : ℕ)
     → Apart only (text-writing.textAnswer (text-writing.writeOf t first room))
-aldebaran-write-apart t first room = only-apart _ (text-values.write-within t first room) (omega arith)
+aldebaran-write-apart t first room = only-apart _ (written-values.write-within t first room) (omega arith)
 
 -- of verdicts
 pub joint-verdict-apart : (k : Labels) (l r s f : List ℕ) (point : ℕ)

@@ -2,12 +2,12 @@
 use crate::refused;
 use aldebaran::read::TableRead;
 use aldebaran::read::read;
-use aldebaran::write::TextWriting;
-use aldebaran::write::write;
+use aldebaran_writing::write::TextWriting;
+use aldebaran_writing::write::write;
 ghost use mathlib.Core.Path.{_≡_};
 ghost use lib.ListN.{length};
 ghost use Rattle.aldebaran.specs.Reading.{readOf, tableOutput, tableAnswer};
-ghost use Rattle.aldebaran.specs.Writing.{writeOf, textOutput, textAnswer};
+ghost use Rattle.aldebaran_writing.specs.Writing.{writeOf, textOutput, textAnswer};
 ghost use Rattle.engine.specs.Answers.{packed, only, tableTold};
 
 // Reads a text and writes its table: value first state * 65536 + the table's length.

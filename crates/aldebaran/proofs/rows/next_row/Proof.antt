@@ -4,7 +4,7 @@ use Rattle.aldebaran.proofs.rows.next_row.Tie as tie
 use borrow.Author.Needs.{needs}
 use borrow.Author.Tests.{not-true, not-false}
 use native.Mathlib.Omega.{arith}
-use Rattle.aldebaran.specs.declared.label.Spelled.the-variants as label
+use Rattle.aldebaran_form.specs.declared.label.Spelled.the-variants as label
 use Rattle.aldebaran.proofs.RowReading.{line-open, no-row, row, row-missing}
 
 line-end-requires : tie.Need-line-end-requires

@@ -1,7 +1,7 @@
 -- The writing's two cases; the lent output is what it left.
 use mathlib.Core.Path.{refl}
 use mathlib.Core.List.{[], _∷_}
-use Rattle.aldebaran.specs.Writing.{textAnswer}
+use Rattle.aldebaran_writing.specs.Writing.{textAnswer}
 use Rattle.engine.specs.Answers.{only}
 use Rattle.engine.proofs.Answers.{gives, refuses}
 use borrow.Author.Needs.{needs}

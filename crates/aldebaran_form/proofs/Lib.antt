@@ -1,0 +1,7 @@
+-- In reading order: each file cites those before it.
+pub mod Lacks
+pub mod WrittenNumbers
+pub mod WrittenLines
+pub mod Scanning
+pub mod LineReading
+pub mod LabelReading
