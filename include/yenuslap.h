@@ -13,6 +13,8 @@
  *   formula     its nodes in prefix order, two bytes each: operator, label (0 where it has none); a question
  *               has 1 to 64 nodes, a formula to be judged 1 to 4,096
  *   casebook    k, left table, right table, joint run and question, each as one record
+ *   text        a table with a first state in the Aldebaran text form, as other tools save machines: see
+ *               yenuslap_aldebaran_read
  *
  * A run stopped at a point p, from 0 to its number of steps, is its start and its first p steps.
  *
@@ -23,7 +25,8 @@
  * null, also where the length is 0: lend the address of some byte of yours then, none is read or written.
  *
  * The stack. Each call works on the stack of its thread alone. The most that was measured, on x86-64, is 0.7 MiB
- * for a verdict on a formula of 4,096 nodes, and 1.1 MiB for yenuslap_sheet_lines.
+ * for a verdict on a formula of 4,096 nodes, and 1.1 MiB for yenuslap_sheet_lines. yenuslap_aldebaran_read takes
+ * under 200 KiB, however long the text is.
  *
  * Answers. A call answers one uint64_t: take it apart by yenuslap_refusal and yenuslap_value below, which is
  * proved to give number and value of every answer. Two calls answer otherwise: yenuslap_cut a length alone, since
@@ -47,7 +50,7 @@
 extern "C" {
 #endif
 
-/* Why a call is refused. */
+/* Why a call is refused: 1 to 18 are document 01's numbers, 19 to 21 document 02's. */
 enum yenuslap_refusal_number {
     YENUSLAP_NOT_REFUSED = 0,
 
@@ -57,7 +60,7 @@ enum yenuslap_refusal_number {
     YENUSLAP_REFUSED_WRONG_LENGTH = 3,         /* a length that the record, or the part, cannot have */
     YENUSLAP_REFUSED_TOO_MANY_PAIRS = 4,       /* k over 15 */
     YENUSLAP_REFUSED_OUT_OF_RANGE = 5,         /* n is 0 or over 64, or a row's state or label out of range */
-    YENUSLAP_REFUSED_ROW_NOT_ABOVE = 6,        /* a row not above the one before */
+    YENUSLAP_REFUSED_ROW_NOT_ABOVE = 6,        /* a row not above the one before; in a text, a row given twice */
     YENUSLAP_REFUSED_NINTH_ROW = 7,            /* a ninth row from one state */
     YENUSLAP_REFUSED_NOT_REAL = 8,             /* a start state out of range, or a step not real */
     YENUSLAP_REFUSED_NOT_A_TREE = 9,           /* a formula that is not one whole tree of its nodes */
@@ -71,7 +74,12 @@ enum yenuslap_refusal_number {
     YENUSLAP_REFUSED_NOT_A_RUN = 15,           /* a half that is no run of its table, or over 200 steps */
     YENUSLAP_REFUSED_HALVES_DO_NOT_MATCH = 16, /* halves that do not match, unequal lengths included */
     YENUSLAP_REFUSED_QUOTIENT_TOO_LARGE = 17,  /* a quotient of over 4,096 nodes */
-    YENUSLAP_REFUSED_OUTPUT_TOO_SHORT = 18     /* an output shorter than the answer; judged last */
+    YENUSLAP_REFUSED_OUTPUT_TOO_SHORT = 18,    /* an output shorter than the answer; judged last */
+
+    /* 19 to 21: a fault in an Aldebaran text; 20 also a fault of the caller who writes one. */
+    YENUSLAP_REFUSED_NOT_OF_FORM = 19,         /* a missing header, or a line not of the form */
+    YENUSLAP_REFUSED_WRONG_HEADER = 20,        /* a row count other than the lines, or a first state not below n */
+    YENUSLAP_REFUSED_UNKNOWN_LABEL = 21        /* a label that is not spelled as one */
 };
 
 /* The refusal's number in an answer of one uint64_t, YENUSLAP_NOT_REFUSED if there is none. */
@@ -105,6 +113,9 @@ static inline uint32_t yenuslap_value(uint64_t answer)
 #define YENUSLAP_MOST_QUOTIENT 8192
 /* One line of a sheet, its line feed included. */
 #define YENUSLAP_MOST_LINE 16399
+/* A table that is read, and an Aldebaran text that is written. */
+#define YENUSLAP_MOST_TABLE 1537
+#define YENUSLAP_MOST_TEXT 7696
 
 /* Judges whether bytes are a sound casebook.
  *   value    0
@@ -251,6 +262,29 @@ struct yenuslap_lines {
 struct yenuslap_lines yenuslap_sheet_lines(const uint8_t *casebook, size_t casebook_len,
                                            size_t first, size_t most,
                                            uint8_t *out, size_t out_len);
+
+/* Reads an Aldebaran text of any length into a table, and gives its first state. The form, line by line, each
+ * line ended by a line feed:
+ *
+ *   des (first,rows,states)
+ *   (from,"label",to)          as many lines as rows says, in any order
+ *
+ * with no blank outside labels but the one after des, and numbers of at most five digits without leading zeros. A
+ * label is any bytes, or none, but double quotes and line feeds; the labels 0 to 30 are spelled i, a1!, a1?, a2!,
+ * a2? and so on to a15!, a15?, so k is taken as 15. The table has the text's rows in rising order.
+ *   value    first * 65536 + length: the first state, and the table's bytes, at most YENUSLAP_MOST_TABLE
+ *   refused  19; 20; 21; 5; 6 (a row given twice, wherever); 7; 18; each sought in the whole text before the next
+ *   lent     text is only read; table_out changes only where the table is written */
+uint64_t yenuslap_aldebaran_read(const uint8_t *text, size_t text_len,
+                                 uint8_t *table_out, size_t table_out_len);
+
+/* Writes the Aldebaran text of a table and a first state into out, the rows in the table's order. Reading it
+ * gives the same table and first state. k is taken as 15, whatever casebook the table is from.
+ *   value    the bytes written, at most YENUSLAP_MOST_TEXT
+ *   refused  3, 5 to 7 (table); 20 (first not below n); 18
+ *   lent     table is only read; out changes only where the text is written */
+uint64_t yenuslap_aldebaran_write(const uint8_t *table, size_t table_len, size_t first,
+                                  uint8_t *out, size_t out_len);
 
 #ifdef __cplusplus
 }

@@ -1,4 +1,5 @@
-/* Every call of include/yenuslap.h from C, sound and refused, held to values written by hand from document 01. */
+/* Every call of include/yenuslap.h from C, sound and refused, held to values written by hand from documents 01 and
+ * 02. */
 #include "checks.h"
 #include "suites.h"
 
@@ -11,6 +12,7 @@ int main(void)
     check_quotients();
     check_line_office();
     check_sheets();
+    check_aldebaran();
     check_from_cpp();
     return print_summary();
 }

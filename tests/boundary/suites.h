@@ -13,6 +13,7 @@ void check_cuts(void);
 void check_quotients(void);
 void check_line_office(void);
 void check_sheets(void);
+void check_aldebaran(void);
 void check_from_cpp(void);
 
 #ifdef __cplusplus

@@ -1,5 +1,7 @@
-//! A plain implementation of its own, written from document 01 and its list of open points, to compare the engine with.
+//! A plain implementation of its own, written from document 01, its list of open points and document 02,
+//! to compare the engine with.
 
+pub mod aldebaran;
 pub mod casebook;
 pub mod cut;
 pub mod fitted;

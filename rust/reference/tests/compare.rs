@@ -1,6 +1,28 @@
 //! Compares the engine, through its wrapper, with the reference on seeded inputs, sound and damaged.
 //! `cargo test --release -- --nocapture` also prints how many inputs of each kind were compared.
 
+#[path = "compare/aldebaran_both.rs"]
+mod aldebaran_both;
+#[path = "compare/aldebaran_changes.rs"]
+mod aldebaran_changes;
+#[path = "compare/aldebaran_document.rs"]
+mod aldebaran_document;
+#[path = "compare/aldebaran_faults.rs"]
+mod aldebaran_faults;
+#[path = "compare/aldebaran_labels.rs"]
+mod aldebaran_labels;
+#[path = "compare/aldebaran_large.rs"]
+mod aldebaran_large;
+#[path = "compare/aldebaran_numbers.rs"]
+mod aldebaran_numbers;
+#[path = "compare/aldebaran_order.rs"]
+mod aldebaran_order;
+#[path = "compare/aldebaran_sound.rs"]
+mod aldebaran_sound;
+#[path = "compare/aldebaran_texts.rs"]
+mod aldebaran_texts;
+#[path = "compare/aldebaran_writing.rs"]
+mod aldebaran_writing;
 #[path = "compare/alone.rs"]
 mod alone;
 #[path = "compare/book.rs"]

@@ -1,6 +1,7 @@
 //! The deepest formulas are judged by the engine on a stack of 8 MiB, and the deepest questions divided; their sheets are
-//! written on a stack of 2 MiB, which is what Rust gives a thread. They stand in a program of their own: a stack that does not suffice ends the whole program. What is expected is known from how the
-//! formulas are made.
+//! written on a stack of 2 MiB, which is what Rust gives a thread; Aldebaran texts are read and written on one of 256
+//! KiB. They stand in a program of their own: a stack that does not suffice ends the whole program. What is expected is
+//! known from how the inputs are made.
 
 use std::thread;
 
@@ -191,4 +192,37 @@ fn sheets_of_the_deepest_questions() {
     assert_eq!(sheet_ending(deep), (201, "00 T\n".into()));
     let too_large = [[2, 0].repeat(58), [5, 0].repeat(4), chain(1, [2, 0])].concat();
     assert_eq!(sheet_ending(too_large), (201, "17 -\n".into()));
+}
+
+/// A table of 64 states with eight rows each, to the state itself.
+fn full_table() -> Vec<u8> {
+    let rows = (0..64).flat_map(|state| (1..=8).flat_map(move |label| [state, label, state]));
+    [64].into_iter().chain(rows).collect()
+}
+
+/// The full table is written and read back, and a text of 99,999 lines is refused for its ninth rows.
+#[test]
+fn aldebaran_texts() {
+    let rows = (0..99_999).map(|n| (n / 1984, n / 64 % 31, n % 64));
+    let lines = rows.map(|(from, label, to)| {
+        let pair = (label + 1) / 2;
+        let label = match label {
+            0 => "i".to_string(),
+            odd if odd % 2 == 1 => format!("a{pair}!"),
+            _ => format!("a{pair}?"),
+        };
+        format!("({from},\"{label}\",{to})\n")
+    });
+    let long = "des (0,99999,64)\n".to_string() + &lines.collect::<String>();
+    let calls = move || {
+        let (mut text, mut table) = (vec![0; yenuslap::MOST_TEXT], vec![0; yenuslap::MOST_TABLE]);
+        let length = yenuslap::write_aldebaran(&full_table(), 63, &mut text).unwrap();
+        let read = yenuslap::read_aldebaran(&text[..length], &mut table).unwrap();
+        assert_eq!((read.length, read.first), (yenuslap::MOST_TABLE, 63));
+        assert_eq!(table, full_table());
+        let refused = yenuslap::read_aldebaran(long.as_bytes(), &mut table).unwrap_err();
+        assert_eq!(refused.number(), 7);
+    };
+    let thread = thread::Builder::new().stack_size(256 << 10);
+    thread.spawn(calls).unwrap().join().unwrap();
 }

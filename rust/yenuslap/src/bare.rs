@@ -1,5 +1,5 @@
-//! The engine's calls with their bare answers: the refusal's number of document 01 times 2^32 (0 if not refused), plus
-//! the value, which is 0 when refused. Only [`cut`] answers a length, which is 0 when refused, and [`sheet_lines`] a
+//! The engine's calls with their bare answers: the refusal's number times 2^32 (0 if not refused), plus the value,
+//! which is 0 when refused. Only [`cut`] answers a length, which is 0 when refused, and [`sheet_lines`] a
 //! struct.
 //!
 //! They are as safe as the wrapped calls, and take the same bytes: sides as 1 (left), 2 (right) or any other byte
@@ -162,6 +162,19 @@ extern "C" {
         out: *mut u8,
         out_len: usize,
     ) -> LinesAnswer;
+    fn yenuslap_aldebaran_read(
+        text: *const u8,
+        text_len: usize,
+        table_out: *mut u8,
+        table_out_len: usize,
+    ) -> u64;
+    fn yenuslap_aldebaran_write(
+        table: *const u8,
+        table_len: usize,
+        first: usize,
+        out: *mut u8,
+        out_len: usize,
+    ) -> u64;
 }
 
 /// Judges a casebook: value 0, or refusals 1 to 11.
@@ -448,6 +461,35 @@ pub fn sheet_lines(casebook: &[u8], first: usize, most: usize, out: &mut [u8]) -
             casebook.len(),
             first,
             most,
+            out.as_mut_ptr(),
+            out.len(),
+        )
+    }
+}
+
+/// Reads an Aldebaran text into `table_out`: value first state * 65536 + length of the table, or refusals 5 to 7 and 18
+/// to 21.
+pub fn aldebaran_read(text: &[u8], table_out: &mut [u8]) -> u64 {
+    // SAFETY: each pointer and length are one live slice; only `table_out`, lent to us alone, is written.
+    unsafe {
+        yenuslap_aldebaran_read(
+            text.as_ptr(),
+            text.len(),
+            table_out.as_mut_ptr(),
+            table_out.len(),
+        )
+    }
+}
+
+/// Writes the Aldebaran text of a table and a first state into `out`: value bytes written, or refusals 3, 5 to 7,
+/// 18 and 20.
+pub fn aldebaran_write(table: &[u8], first: usize, out: &mut [u8]) -> u64 {
+    // SAFETY: each pointer and length are one live slice; only `out`, lent to us alone, is written.
+    unsafe {
+        yenuslap_aldebaran_write(
+            table.as_ptr(),
+            table.len(),
+            first,
             out.as_mut_ptr(),
             out.len(),
         )

@@ -10,3 +10,7 @@ pub const MOST_RUN: usize = 602;
 pub const MOST_QUOTIENT: usize = 8192;
 /// The bytes of the longest line of a sheet, its line feed included.
 pub const MOST_LINE: usize = 16399;
+/// The bytes of the longest table, 512 rows.
+pub const MOST_TABLE: usize = 1537;
+/// No Aldebaran text that is written has more bytes.
+pub const MOST_TEXT: usize = 7696;

@@ -1,4 +1,4 @@
-//! Refusals, by document 01's numbers and in its words.
+//! Refusals, by the numbers of documents 01 (1 to 18) and 02 (from 19 on) and in their words.
 
 use crate::bare::LinesAnswer;
 use std::error::Error;
@@ -15,12 +15,12 @@ use std::fmt;
 pub struct Refusal(u32);
 
 impl Refusal {
-    /// The refusal's number in document 01.
+    /// The refusal's number in document 01 or 02.
     pub fn number(self) -> u32 {
         self.0
     }
 
-    /// What document 01 says of this number.
+    /// What the document says of this number.
     pub fn meaning(self) -> &'static str {
         match self.0 {
             1 => "the bytes end before the question record is complete",
@@ -28,7 +28,7 @@ impl Refusal {
             3 => "length not in the table of records",
             4 => "k over 15",
             5 => "n is 0 or over 64, or a row holds a state or label out of range",
-            6 => "row not above the one before",
+            6 => "row not above the one before, or given twice in a text",
             7 => "a ninth row from one state",
             8 => "a start state out of range, or a step not real",
             9 => "formula not one whole tree, operator over 8, label over 2k, or a label byte set where none belongs",
@@ -41,7 +41,10 @@ impl Refusal {
             16 => "halves don't match",
             17 => "the quotient's tree has over 4,096 nodes",
             18 => "lent output shorter than the answer",
-            _ => "a number that document 01 does not have",
+            19 => "a missing header or a line not of the Aldebaran text form",
+            20 => "a header whose row count differs from the lines, or a first state not below the states",
+            21 => "a label not spelled as one",
+            _ => "a number that the documents do not have",
         }
     }
 }
@@ -83,13 +86,13 @@ mod tests {
     use super::*;
     use std::collections::HashSet;
 
-    /// Every number of document 01 has a sentence of its own, and no other number has one.
+    /// Every number of the documents has a sentence of its own, and no other number has one.
     #[test]
     fn each_number_has_its_sentence() {
-        let sentences: HashSet<&str> = (1..=18).map(|n| Refusal(n).meaning()).collect();
-        assert_eq!(sentences.len(), 18);
+        let sentences: HashSet<&str> = (1..=21).map(|n| Refusal(n).meaning()).collect();
+        assert_eq!(sentences.len(), 21);
         assert!(!sentences.contains(Refusal(0).meaning()));
-        assert_eq!(Refusal(19).meaning(), Refusal(0).meaning());
+        assert_eq!(Refusal(22).meaning(), Refusal(0).meaning());
     }
 
     /// The sentence shows its number first.

@@ -1,5 +1,7 @@
-//! Runs the command and holds it to what document 01 and its own promises say.
+//! Runs the command and holds it to what documents 01 and 02 and its own promises say.
 
+#[path = "command/aut.rs"]
+mod aut;
 #[path = "command/books.rs"]
 mod books;
 #[path = "command/check.rs"]
@@ -28,8 +30,14 @@ mod sheet;
 mod show;
 #[path = "command/streams.rs"]
 mod streams;
+#[path = "command/table.rs"]
+mod table;
 #[path = "command/text.rs"]
 mod text;
+#[path = "command/text_places.rs"]
+mod text_places;
+#[path = "command/tidy.rs"]
+mod tidy;
 #[path = "command/verdict.rs"]
 mod verdict;
 #[path = "command/wrong_text.rs"]

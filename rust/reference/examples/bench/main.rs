@@ -3,6 +3,7 @@
 //! To add benches, write a module like `verdicts` that gives groups of them and name it in `all_groups`.
 //! Words given as arguments choose the benches whose group or text holds one of them.
 
+mod aldebaran;
 mod inputs;
 mod quotients;
 mod sheets;
@@ -20,6 +21,7 @@ fn all_groups() -> Vec<Group> {
     let mut groups = verdicts::groups();
     groups.extend(splittings::groups());
     groups.extend(quotients::groups());
+    groups.extend(aldebaran::groups());
     groups
 }
 

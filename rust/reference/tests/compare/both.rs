@@ -12,17 +12,20 @@ use yenuslap::{bare, Refusal};
 /// Bytes on each side of a lent output that the engine must not reach.
 const GUARD: usize = 24;
 
+/// The numbers up to the highest that a call gives.
+const NUMBERS: usize = 22;
+
 /// How often each number came; number 0 counts what was accepted.
 pub struct Tally {
     name: &'static str,
-    counts: [u64; 19],
+    counts: [u64; NUMBERS],
 }
 
 impl Tally {
     pub fn new(name: &'static str) -> Tally {
         Tally {
             name,
-            counts: [0; 19],
+            counts: [0; NUMBERS],
         }
     }
 
@@ -47,7 +50,7 @@ impl Tally {
     /// Demands that these numbers came and no others.
     pub fn saw_exactly(&self, numbers: &[u8]) {
         self.at_least(1, numbers);
-        let others = (0..19).filter(|number| !numbers.contains(number));
+        let others = (0..NUMBERS as u8).filter(|number| !numbers.contains(number));
         for number in others {
             assert_eq!(self.of(number), 0, "{number} in {}", self.name);
         }
@@ -56,7 +59,7 @@ impl Tally {
     /// Prints how many inputs were compared, and how often each number came.
     fn show(&self) {
         let total: u64 = self.counts.iter().sum();
-        let seen = (0..19).filter(|number| self.of(*number) > 0);
+        let seen = (0..NUMBERS as u8).filter(|number| self.of(*number) > 0);
         let each: Vec<String> = seen.map(|n| format!("{n}: {}", self.of(n))).collect();
         println!("compared {}: {total} ({})", self.name, each.join(", "));
     }

@@ -160,29 +160,31 @@ fn row_sentence(k: u8, table: &[u8], number: usize, refusal: u32) -> String {
             "{row} is not above the row before it, {before}; \
              rows rise strictly by from, label and to"
         ),
-        (7, Some(row), _) => format!(
-            "it is a ninth row from state {}; at most 8 rows leave one state",
-            row.from
-        ),
+        (7, Some(row), _) => ninth_row(row.from.into()),
         _ => "with this row the table is too long; its record has a length of at most 1,539".into(),
     }
+}
+
+/// A row too many from one state.
+pub fn ninth_row(state: usize) -> String {
+    format!("it is a ninth row from state {state}; at most 8 rows leave one state")
 }
 
 /// Which of a row's bytes is out of range: each is put into a row of its own, beside zeros that are in range.
 fn row_out_of_range(k: u8, n: u8, row: Row) -> String {
     let is_row = |from, label, to| judge::table(k, &[n, from, label, to]).is_none();
     if !is_row(row.from, 0, 0) {
-        state_out_of_range("from", row.from, n)
+        state_out_of_range("from", row.from.into(), n.into())
     } else if !is_row(0, row.label, 0) {
         label_out_of_range(k, row.label)
     } else {
-        state_out_of_range("to", row.to, n)
+        state_out_of_range("to", row.to.into(), n.into())
     }
 }
 
 /// A state that the table does not have.
-fn state_out_of_range(role: &str, state: u8, n: u8) -> String {
-    let states = counted(n.into(), "state");
+pub fn state_out_of_range(role: &str, state: usize, n: usize) -> String {
+    let states = counted(n, "state");
     format!("{role} {state} is out of range; the table has {states}, counted from 0")
 }
 

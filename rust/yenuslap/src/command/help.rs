@@ -2,7 +2,7 @@
 
 /// How the command is called.
 pub const USAGE: &str =
-    "usage: yenuslap check|show|sheet|split|join|verdict|quotient|write FILE...";
+    "usage: yenuslap check|show|sheet|split|join|verdict|quotient|write|table|aut FILE...";
 
 /// The help of the whole command.
 pub const ALL: &str = "\
@@ -16,8 +16,11 @@ usage: yenuslap check FILE...        say of each casebook whether it is sound
        yenuslap join FILE            join two halves to their log
        yenuslap verdict FILE         print verdicts
        yenuslap quotient FILE        print the quotient of the question by a half
+       yenuslap table FILE           read a machine that another tool saved as Aldebaran text
+       yenuslap aut FILE             write a machine of a casebook as Aldebaran text
 
-FILE is a casebook (for write a text); - is standard input. yenuslap SUBCOMMAND --help says more.
+FILE is a casebook (for write and table a text); - is standard input.
+yenuslap SUBCOMMAND --help says more.
 
   -h, --help       print this help; help SUBCOMMAND prints that of a subcommand
   -V, --version    print the version
@@ -25,7 +28,7 @@ FILE is a casebook (for write a text); - is standard input. yenuslap SUBCOMMAND 
 Every answer is the proved engine's. Bytes, states, points and splittings are counted from 0,
 records, rows, steps and nodes from 1.
 
-exit status: 0 fine, 1 refused (the number is document 01's), 2 misuse: options, files, syntax
+exit status: 0 fine, 1 refused (numbers of documents 01 and 02), 2 misuse: options, files, syntax
 ";
 
 /// The help of `check`.
@@ -187,4 +190,53 @@ refuses is not written; the refusal names the text's line.
 
 example:
   $ yenuslap show --text cases/a.casebook | yenuslap write - -o a.casebook
+";
+
+/// The help of `table`.
+pub const TABLE: &str = "\
+usage: yenuslap table FILE [--left | --right | --dot] [--tidy] [--labels MAP] [-o FILE]
+
+Reads a machine in the Aldebaran text form (docs/ALDEBARAN.md), as other tools save it, and prints
+its table as a section of the text form, to be pasted into a casebook's text. The comment above it
+has the first state, which the log starts in, and the least number of pairs. A refusal names the
+text's line and column.
+
+  --left               print the section of the left table; if none is named, this one
+  --right              print the section of the right table
+  --dot                print the machine as a Graphviz graph
+  --tidy               repair what other tools write differently, and tell on standard error what
+                       was repaired: blanks and tabs outside labels, des(, leading zeros, labels
+                       without quotes, tau for i, CR LF, no line feed at the end, blank lines at
+                       the end, a byte order mark
+  --labels MAP         rename labels by this file, which has lines as: SEND !1 = a1!
+  -o, --output FILE    write to this file and not to standard output; - is standard output
+  -h, --help           print this help
+
+example:
+  $ yenuslap table cases/stand.aut
+  # first state 0, pairs 2 or more
+  left 2
+    0 1 1
+    0 3 1
+    1 0 0
+";
+
+/// The help of `aut`.
+pub const AUT: &str = "\
+usage: yenuslap aut FILE --left|--right [--first N] [-o FILE]
+
+Writes a machine of a casebook in the Aldebaran text form (docs/ALDEBARAN.md), which other tools
+read. Its first state is the one that the log starts in.
+
+  --left               write the left machine
+  --right              write the right machine
+  --first N            name this first state
+  -o, --output FILE    write to this file and not to standard output; - is standard output
+  -h, --help           print this help
+
+example:
+  $ yenuslap aut cases/a.casebook --left
+  des (0,2,2)
+  (0,\"a1!\",1)
+  (0,\"a2!\",1)
 ";

@@ -15,6 +15,9 @@ const CASEBOOK_BYTES: u64 = MOST_CASEBOOK as u64 + 1;
 /// The longest text that is read. The text form of the largest casebook has some 20,000 bytes.
 const TEXT_BYTES: u64 = 1 << 20;
 
+/// The longest Aldebaran text that is read. The longest sound one has under 8,000 bytes if nothing is to be tidied.
+const ALDEBARAN_BYTES: u64 = 1 << 24;
+
 /// A file's name as it is shown.
 pub fn shown_name(file: &OsStr) -> String {
     if is_standard(file) {
@@ -36,14 +39,25 @@ pub fn read_bytes(file: &OsStr) -> Result<Vec<u8>, Failure> {
 
 /// A text, its wrong characters replaced: outside comments no such character is taken.
 pub fn read_text(file: &OsStr) -> Result<String, Failure> {
-    let bytes = read_at_most(file, TEXT_BYTES + 1)?;
-    if bytes.len() as u64 > TEXT_BYTES {
-        let name = shown_name(file);
-        return misused(format!("{name}: a text has at most {TEXT_BYTES} bytes"));
-    }
+    let bytes = read_up_to(file, TEXT_BYTES)?;
     // Some editors begin a text with this mark, which is no part of it.
     let text = bytes.strip_prefix(b"\xef\xbb\xbf").unwrap_or(&bytes);
     Ok(String::from_utf8_lossy(text).into_owned())
+}
+
+/// An Aldebaran text, or a file about its labels: any bytes.
+pub fn read_aldebaran_text(file: &OsStr) -> Result<Vec<u8>, Failure> {
+    read_up_to(file, ALDEBARAN_BYTES)
+}
+
+/// A whole text, which may have so many bytes.
+fn read_up_to(file: &OsStr, most: u64) -> Result<Vec<u8>, Failure> {
+    let bytes = read_at_most(file, most + 1)?;
+    if bytes.len() as u64 > most {
+        let name = shown_name(file);
+        return misused(format!("{name}: a text has at most {most} bytes"));
+    }
+    Ok(bytes)
 }
 
 /// The first bytes of a file.

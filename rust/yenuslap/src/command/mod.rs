@@ -1,8 +1,12 @@
 //! The subcommands, and everything that they share.
 
+mod aldebaran_faults;
+mod aldebaran_line;
+mod aldebaran_text;
 mod answer;
 mod arguments;
 mod asked;
+mod aut;
 mod book;
 mod check;
 mod contents;
@@ -18,16 +22,20 @@ mod hex;
 mod input;
 mod join;
 mod judge;
+mod label_map;
 mod lanes;
 mod operators;
 mod output;
 mod quotient;
 mod records;
+mod repairs;
 mod sheet;
 mod show;
+mod spelling;
 mod split;
 mod statement;
 mod statement_parser;
+mod table;
 mod text_form;
 mod text_parser;
 mod tokens;
@@ -59,7 +67,7 @@ struct Subcommand {
 const HELP: Flag = Flag::plain("help").short('h');
 
 /// The subcommands.
-const SUBCOMMANDS: [Subcommand; 8] = [
+const SUBCOMMANDS: [Subcommand; 10] = [
     Subcommand {
         name: "check",
         flags: &[HELP],
@@ -136,6 +144,32 @@ const SUBCOMMANDS: [Subcommand; 8] = [
         flags: &[HELP, Flag::valued("output").short('o')],
         run: write::run,
         help: help::WRITE,
+    },
+    Subcommand {
+        name: "table",
+        flags: &[
+            HELP,
+            Flag::plain("left"),
+            Flag::plain("right"),
+            Flag::plain("dot"),
+            Flag::plain("tidy"),
+            Flag::valued("labels"),
+            Flag::valued("output").short('o'),
+        ],
+        run: table::run,
+        help: help::TABLE,
+    },
+    Subcommand {
+        name: "aut",
+        flags: &[
+            HELP,
+            Flag::plain("left"),
+            Flag::plain("right"),
+            Flag::valued("first"),
+            Flag::valued("output").short('o'),
+        ],
+        run: aut::run,
+        help: help::AUT,
     },
 ];
 

@@ -1,9 +1,12 @@
-//! Standard output: buffered, and every failed write told but that of a closed pipe.
+//! Standard output, buffered, and files in its place: every failed write is told but that of a closed pipe.
 
+use std::ffi::OsStr;
 use std::fmt;
+use std::fs;
 use std::io::{self, BufWriter, ErrorKind, StdoutLock, Write};
 
 use super::failure::{misused, reason, Failure};
+use super::input::{is_standard, shown_name};
 
 /// How much is kept back before it is written.
 const BUFFER: usize = 1 << 16;
@@ -34,6 +37,17 @@ impl Output {
     pub fn bytes(&mut self, bytes: &[u8]) -> Result<(), Failure> {
         let written = self.buffer.write_all(bytes);
         self.told(written)
+    }
+
+    /// Writes bytes to the file that is named; `-` and none are standard output.
+    pub fn deliver(&mut self, target: Option<&OsStr>, bytes: &[u8]) -> Result<(), Failure> {
+        let Some(path) = target.filter(|path| !is_standard(path)) else {
+            return self.bytes(bytes);
+        };
+        match fs::write(path, bytes) {
+            Ok(()) => Ok(()),
+            Err(error) => misused(format!("{}: {}", shown_name(path), reason(&error))),
+        }
     }
 
     /// Hands on what is kept back, so that a failure to write it is told.

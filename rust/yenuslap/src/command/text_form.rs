@@ -9,15 +9,15 @@ use super::statement::notation;
 /// A sound casebook as text, which `write` turns into the same bytes.
 pub fn text_form(book: &Casebook) -> String {
     let mut text = format!("pairs {}\n", book.k);
-    text += &table("left", book.left);
-    text += &table("right", book.right);
+    text += &table_section("left", book.left);
+    text += &table_section("right", book.right);
     text += &log_section(book.run);
     text += &format!("question {}\n", notation(book.question));
     text
 }
 
 /// A table's section.
-fn table(keyword: &str, table: &[u8]) -> String {
+pub fn table_section(keyword: &str, table: &[u8]) -> String {
     let mut text = format!("{keyword} {}\n", states(table));
     for row in rows(table) {
         text += &format!("  {row}\n");

@@ -17,3 +17,16 @@ pub fn quoted(text: &str) -> String {
     let more = if shown.len() < text.len() { ".." } else { "" };
     format!("`{}{more}`", shown.escape_debug())
 }
+
+/// Rising numbers of lines, as "line 2" or "lines 1 to 3, 7".
+pub fn line_numbers(lines: &[usize]) -> String {
+    let runs = lines.chunk_by(|first, second| first + 1 == *second);
+    let shown: Vec<String> = runs
+        .map(|run| match run {
+            [line] => line.to_string(),
+            _ => format!("{} to {}", run[0], run[run.len() - 1]),
+        })
+        .collect();
+    let noun = if lines.len() == 1 { "line" } else { "lines" };
+    format!("{noun} {}", shown.join(", "))
+}

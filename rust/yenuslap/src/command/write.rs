@@ -1,16 +1,14 @@
 //! `yenuslap write`: the text form turned into a casebook's bytes.
 
-use std::ffi::OsStr;
-use std::fs;
 use std::io::{self, IsTerminal};
 
 use yenuslap::{write_casebook, Casebook, Refusal, MOST_CASEBOOK};
 
 use super::answer::answer;
 use super::arguments::{usage, Arguments};
-use super::failure::{misused, reason, Ending, Failure};
+use super::failure::{misused, Ending, Failure};
 use super::faults::{find_fault, Fault, Item, Part};
-use super::input::{is_standard, read_text, shown_name};
+use super::input::{read_text, shown_name};
 use super::output::Output;
 use super::text_parser::{parse_text, Draft, Section};
 use super::tokens::Place;
@@ -26,19 +24,8 @@ pub fn run(arguments: &Arguments, out: &mut Output) -> Result<Ending, Failure> {
         );
     }
     let bytes = casebook_of(&shown_name(file), &read_text(file)?)?;
-    match target {
-        Some(path) if !is_standard(path) => save(path, &bytes)?,
-        _ => out.bytes(&bytes)?,
-    }
+    out.deliver(target, &bytes)?;
     Ok(Ending::Fine)
-}
-
-/// Writes a file.
-fn save(path: &OsStr, bytes: &[u8]) -> Result<(), Failure> {
-    match fs::write(path, bytes) {
-        Ok(()) => Ok(()),
-        Err(error) => misused(format!("{}: {}", shown_name(path), reason(&error))),
-    }
 }
 
 /// The casebook that a text spells.

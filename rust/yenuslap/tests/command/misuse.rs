@@ -9,7 +9,8 @@ use crate::program::{complains, prints, run};
 /// The command without a subcommand that it has.
 #[test]
 fn subcommands() {
-    let usage = "usage: yenuslap check|show|sheet|split|join|verdict|quotient|write FILE...";
+    let usage =
+        "usage: yenuslap check|show|sheet|split|join|verdict|quotient|write|table|aut FILE...";
     complains(&[], b"", 2, &format!("a subcommand is missing\n{usage}"));
     complains(
         &["mark"],
@@ -126,7 +127,9 @@ fn options_of_halves() {
 /// Files that are not there, or are no files.
 #[test]
 fn files() {
-    let subcommands = ["show", "sheet", "split", "verdict", "quotient", "write"];
+    let subcommands = [
+        "show", "sheet", "split", "verdict", "quotient", "write", "table",
+    ];
     for subcommand in subcommands {
         complains(
             &[subcommand, "none"],
