@@ -2,11 +2,11 @@
 pub mod LineSplitting
 pub mod Exactly
 pub mod RowReading
-pub mod Marking
 pub mod Order
 pub mod Marks
 pub mod MarkedRows
 pub mod Accepted
+pub mod Marking
 pub mod Told
 pub mod ReadCalls
 pub mod RowCalls

@@ -1,26 +1,23 @@
--- The line at a place of a text, and the count of the lines from there on.
+-- The line at a place of a text.
 use Prim.Native.Nat.{ℕ, suc, _+_, _-_, _≤_, _<_}
 use mathlib.Core.Path.{_≡_, refl, sym, _∙_, ap}
-use mathlib.Core.Bool.{Bool, true, false, _&&_, true≢false, and-true, and-false, and-assoc}
+use mathlib.Core.Bool.{Bool, true, false, true≢false}
 use mathlib.Core.List.{List, [], _∷_, _++_}
 use mathlib.Core.Option.{Option, none, some}
 use native.Mathlib.Omega.{arith}
 use lib.ListN.{length, getD, take, drop, length-take, length-drop, take-append-drop}
-use lib.Seq.{take-all, drop-cons, drop-drop, drop-length, getD-take, getD-drop}
+use lib.Seq.{take-all, drop-cons, drop-drop, getD-take, getD-drop}
 use lib.Dec.{ltb}
 use borrow.Author.Tests.{ltb-true, ltb-false}
-use Rattle.hml.proofs.Tests.{apart}
-use Rattle.labels.specs.declared.label.Label.{Label}
 use Rattle.aldebaran_form.specs.Forms.{lineFeed, Line}
 use Rattle.aldebaran_form.specs.Lines.{next, lineIn, labelOf}
-use Rattle.aldebaran.specs.Reading.{all, there, linesOf, linesIn, isLabel}
-use Rattle.aldebaran.specs.Working.{LineEnd, RowFound, rowLines, linesFound}
+use Rattle.aldebaran.specs.Reading.{there, linesOf, linesIn}
+use Rattle.aldebaran.specs.Working.{LineEnd, RowFound, rowLines}
 use Rattle.aldebaran_form.specs.Working.{lineFound, labelFound}
 use Rattle.aldebaran_form.specs.declared.label.Spelled.{Spelled}
 use Rattle.aldebaran_form.specs.declared.label.Spelled.the-variants as label
 use Rattle.aldebaran_form.specs.declared.line.RowLine.{RowLine}
 use Rattle.aldebaran.specs.declared.rows.NextRow.{NextRow}
-use Rattle.aldebaran.specs.declared.rows.Lines.{Lines}
 use Rattle.aldebaran_form.proofs.Lacks.{Lacks, lacks-places}
 use Rattle.aldebaran.proofs.LineSplitting.{lines-nil, lines-feed, lines-none}
 
@@ -174,92 +171,3 @@ module _ (text : List ℕ) (at end : ℕ) (w : LineEnd text at end) (r : RowLine
   pub row-missing : end < length text → lineFound line r ≡ lineIn line → r .formed ≡ false → Next text at noRow
   row-missing h e f = no-row text at (line-rows text at end w h ∙ ap
       (λ o. next o (λ l. next (rowLines (drop (end + 1) text)) (λ ls. some (l ∷ ls)))) (not-formed line r e f))
-
--- all lines, when n are counted and b tells whether their labels are spelled as labels
-unfoldable pub foundFrom : ℕ → Bool → Option (List Line) → Lines
-foundFrom n b none = record { formed = false; count = 0; spelled = false }
-foundFrom n b (some lines) =
-    record { formed = true; count = n + length lines; spelled = b && all (λ l. isLabel (l .label)) lines }
-
--- none counted
-pub count-start : (o : Option (List Line)) → foundFrom 0 true o ≡ linesFound o
-unfolding foundFrom linesFound
-count-start none = refl
-count-start (some lines) =
-    let q : 0 + length lines ≡ length lines = omega arith in
-    rw q
-
--- one line more
-count-line : (n : ℕ) (b : Bool) (l : Line) (o : Option (List Line))
-    → foundFrom n b (next o (λ ls. some (l ∷ ls))) ≡ foundFrom (n + 1) (b && isLabel (l .label)) o
-unfolding foundFrom
-count-line n b l none = refl
-count-line n b l (some ls) =
-    let q : n + suc (length ls) ≡ n + 1 + length ls = omega arith in
-    let v : b && (isLabel (l .label) && all (λ k. isLabel (k .label)) ls)
-    ≡ b && isLabel (l .label) && all (λ k. isLabel (k .label)) ls = sym (and-assoc b _ _) in
-    rw (q, v)
-
--- whether a label is spelled as one
-is-label : (bytes : List ℕ) (s : Spelled) (a : Label) → labelFound (labelOf bytes) ≡ s → s ≡ label.Label a
-    → isLabel bytes ≡ true
-unfolding labelFound isLabel
-is-label bytes s a e f = go (labelOf bytes) (e ∙ f)
-  where
-    go : (o : Option ℕ) → labelFound o ≡ label.Label a → there o ≡ true
-    go none p = absurd (apart cc)
-    go (some x) p = refl
-
-no-label : (bytes : List ℕ) (s : Spelled) → labelFound (labelOf bytes) ≡ s → s ≡ label.Unknown
-    → isLabel bytes ≡ false
-unfolding labelFound isLabel
-no-label bytes s e f = go (labelOf bytes) (e ∙ f)
-  where
-    go : (o : Option ℕ) → labelFound o ≡ label.Unknown → there o ≡ false
-    go none p = refl
-    go (some x) p = absurd (apart cc)
-
--- the count goes on: what is left gives the same answer
-pub record Counting (text : List ℕ) (n : ℕ) (b : Bool) (at : ℕ) : Type 0 where
-  pub within : at ≤ length text
-  pub fewer : n ≤ at
-  pub left : foundFrom n b (rowLines (drop at text)) ≡ linesFound (rowLines text)
-
-pub counting-start : (text : List ℕ) → Counting text 0 true 0
-counting-start text = record { within = omega arith; fewer = omega arith; left = count-start (rowLines text) }
-
-module _ (text : List ℕ) (n : ℕ) (b : Bool) (at : ℕ) (w : Counting text n b at) where
-  pub counting-none : rowLines (drop at text) ≡ none
-      → record { formed = false; count = 0; spelled = false } ≡ linesFound (rowLines text)
-  unfolding foundFrom
-  counting-none e = sym (ap (foundFrom n b) e) ∙ w .left
-
-  pub counting-end : length text ≤ at
-      → record { formed = true; count = n; spelled = b } ≡ linesFound (rowLines text)
-  unfolding foundFrom
-  counting-end h =
-      let q : at ≡ length text = omega arith in
-      let d : rowLines (drop at text) ≡ some [] =
-      ap (λ m. rowLines (drop m text)) q ∙ ap rowLines (drop-length text) ∙ rows-nil in
-      let z : n ≡ n + 0 = omega arith in
-      let v : b ≡ b && true = sym (and-true b) in
-      (ap (λ m. record { formed = true; count = m; spelled = b }) z
-      ∙ ap (λ x. record { formed = true; count = n + 0; spelled = x }) v) ∙ sym (ap (foundFrom n b) d) ∙ w .left
-
-  module _ (r : NextRow) (f : RowFound text at r) where
-    counting-row : (x : Bool) → x ≡ b && isLabel (f .line .label) → Counting text (n + 1) x (r .behind)
-    counting-row x e = record {
-      within = f .within;
-      fewer = omega (arith, f .further, w .fewer);
-      left = ap (λ y. foundFrom (n + 1) y (rowLines (drop (r .behind) text))) e
-          ∙ sym (count-line n b (f .line) (rowLines (drop (r .behind) text))) ∙ sym (ap (foundFrom n b) (f .split))
-          ∙ w .left;
-    }
-
-    pub counting-label : (a : Label) (x : Bool) → r .label ≡ label.Label a → x ≡ b → Counting text (n + 1) x (r .behind)
-    counting-label a x e q = counting-row x
-        (q ∙ sym (and-true b) ∙ ap (b &&_) (sym (is-label (f .line .label) (r .label) a (f .label) e)))
-
-    pub counting-other : (x : Bool) → r .label ≡ label.Unknown → x ≡ false → Counting text (n + 1) x (r .behind)
-    counting-other x e q = counting-row x
-        (q ∙ sym (and-false b) ∙ ap (b &&_) (sym (no-label (f .line .label) (r .label) (f .label) e)))

@@ -8,7 +8,7 @@ ghost use mathlib.Core.Bool.{true, false};
 ghost use mathlib.Core.Option.{none};
 ghost use Prim.Native.Nat.{_≤_, _<_};
 ghost use lib.ListN.{length, drop};
-ghost use Rattle.aldebaran.specs.Working.{LineEnd, RowFound, rowLines, linesFound};
+ghost use Rattle.aldebaran.specs.Working.{LineEnd, RowFound, rowLines};
 
 // A line that was read, and the place behind it; nothing, if it is not of the form or no line feed ends it.
 pub(crate) struct NextRow {
@@ -17,13 +17,6 @@ pub(crate) struct NextRow {
     pub(crate) label: Spelled,
     pub(crate) to: usize,
     pub(crate) behind: usize,
-}
-
-// The lines of a text behind its header: how many, and whether each label is spelled as one.
-pub(crate) struct Lines {
-    pub(crate) formed: bool,
-    pub(crate) count: usize,
-    pub(crate) spelled: bool,
 }
 
 // The place of the next line feed from a place on, or the end.
@@ -72,36 +65,5 @@ pub(crate) fn next_row(text: &[u8], at: usize) -> NextRow
         label,
         to: row.to,
         behind: end + 1,
-    }
-}
-
-// Reads all lines: 19, and what 20 and 21 need.
-pub(crate) fn count_lines(text: &[u8]) -> Lines
-    ensures { λ r. ⌜ r ≡ linesFound (rowLines (now (text .entry))) ⌝ }
-{
-    let mut count: usize = 0;
-    let mut spelled = true;
-    let mut at: usize = 0;
-    while at < text.len() {
-        let row = next_row(text, at);
-        if !row.formed {
-            return Lines {
-                formed: false,
-                count: 0,
-                spelled: false,
-            };
-        }
-        let label = row.label;
-        match label {
-            Spelled::Label(_) => {}
-            Spelled::Unknown => spelled = false,
-        }
-        count += 1;
-        at = row.behind;
-    }
-    Lines {
-        formed: true,
-        count,
-        spelled,
     }
 }

@@ -1,5 +1,5 @@
 //! The deepest formulas are judged by the engine on a stack of 8 MiB, and the deepest questions divided; their sheets are
-//! written on a stack of 2 MiB, which is what Rust gives a thread; Aldebaran texts are read and written on one of 256
+//! written on a stack of 2 MiB, which is what Rust gives a thread; Aldebaran texts are read and written on one of 200
 //! KiB. They stand in a program of their own: a stack that does not suffice ends the whole program. What is expected is
 //! known from how the inputs are made.
 
@@ -223,6 +223,6 @@ fn aldebaran_texts() {
         let refused = yenuslap::read_aldebaran(long.as_bytes(), &mut table).unwrap_err();
         assert_eq!(refused.number(), 7);
     };
-    let thread = thread::Builder::new().stack_size(256 << 10);
+    let thread = thread::Builder::new().stack_size(200 << 10);
     thread.spawn(calls).unwrap().join().unwrap();
 }

@@ -48,6 +48,21 @@ fn write(what: &str, table: &[u8], first: usize) -> Bench {
     on_both(&format!("write, {what}"), table.to_vec(), engine, plain)
 }
 
+/// The bench of reading a text and writing its table again.
+fn read_and_write(what: &str, text: Vec<u8>) -> Bench {
+    let engine = |text: &Vec<u8>| {
+        let mut table = [0; TABLE];
+        let read = bare::aldebaran_read(text, &mut table) as usize;
+        bare::aldebaran_write(&table[..read % 65536], read / 65536, &mut [0; TEXT])
+    };
+    let plain = |text: &Vec<u8>| {
+        let read = aldebaran::read(text, TABLE);
+        let written = read.and_then(|read| aldebaran::write(&read.table, read.first.into(), TEXT));
+        as_bare(written.map(|text| text.len()))
+    };
+    on_both(&format!("read and written, {what}"), text, engine, plain)
+}
+
 /// Puts items in any order.
 fn shuffled<T>(mut items: Vec<T>) -> Vec<T> {
     let mut random = Random::new(5);
@@ -86,6 +101,7 @@ fn full_table() -> Vec<Bench> {
         read("rows in row order", text(&table.rows)),
         read("rows in any order", text(&shuffled(table.rows.clone()))),
         write("first state 0", &table.to_bytes(), 0),
+        read_and_write("rows in row order", text(&table.rows)),
         write("no such first state", &table.to_bytes(), 64),
     ]
 }
