@@ -2,7 +2,7 @@
 
 use std::fs;
 
-use crate::books::{case_a_with, seeded, shipped, CASE_A};
+use crate::books::{case_a_with, shipped_and_seeded, CASE_A};
 use crate::program::{complains, prints, run_with};
 
 /// Case A's machines; both start in state 0.
@@ -111,11 +111,8 @@ fn misuse() {
 /// and finds the state that the log starts in.
 #[test]
 fn round_trips() {
-    let shipped = shipped()
-        .into_iter()
-        .map(|(path, _)| fs::read(path).unwrap());
     let mut sound = 0;
-    for book in shipped.chain(seeded(120)) {
+    for book in shipped_and_seeded(120) {
         let text = run_with(&["show", "--text", "-"], &book);
         if text.status != Some(0) {
             continue;

@@ -55,6 +55,13 @@ pub fn seeded(count: u64) -> Vec<Vec<u8>> {
     (0..count).map(seeded_book).collect()
 }
 
+/// The shipped casebooks, and behind them `count` from seeds.
+pub fn shipped_and_seeded(count: u64) -> Vec<Vec<u8>> {
+    let paths = shipped().into_iter().map(|(path, _)| path);
+    let shipped = paths.map(|path| fs::read(path).expect("a casebook"));
+    shipped.chain(seeded(count)).collect()
+}
+
 /// The sound casebook of a seed: small ones, any, with few splittings, and those that reach all bounds.
 fn seeded_book(seed: u64) -> Vec<u8> {
     let mut random = Random::new(seed);

@@ -1,12 +1,11 @@
 //! `split` and `join`.
 
 use std::collections::HashSet;
-use std::fs;
 
 use reference::casebook::read;
 use reference::splitting::count;
 
-use crate::books::{seeded, shipped, CASE_A};
+use crate::books::{shipped_and_seeded, CASE_A};
 use crate::program::{complains, prints, run_with};
 
 /// Case A's two splittings, by document 01: handshakes on 1 and on 3.
@@ -72,11 +71,8 @@ fn no_steps() {
 /// none of them twice.
 #[test]
 fn round_trips() {
-    let shipped = shipped()
-        .into_iter()
-        .map(|(path, _)| fs::read(path).unwrap());
     let mut joined = 0;
-    for book in shipped.chain(seeded(48)) {
+    for book in shipped_and_seeded(48) {
         let Ok(parts) = read(&book).map(|read| read.parts(&book)) else {
             continue;
         };

@@ -6,7 +6,7 @@ use reference::formula::{read_formula, QUESTION_NODES};
 use reference::generate::random_formula;
 use reference::random::Random;
 
-use crate::books::{case_a_asking, seeded, shipped, CASE_A};
+use crate::books::{case_a_asking, shipped_and_seeded, CASE_A};
 use crate::program::{prints, root, run_with};
 
 /// Case A as text, by hand.
@@ -84,11 +84,8 @@ fn output_option() {
 /// Every shipped and every seeded sound casebook comes back from its text, and its text from its bytes.
 #[test]
 fn round_trips() {
-    let shipped = shipped()
-        .into_iter()
-        .map(|(path, _)| fs::read(path).unwrap());
     let mut sound = 0;
-    for book in shipped.chain(seeded(300)) {
+    for book in shipped_and_seeded(300) {
         let text = run_with(&["show", "--text", "-"], &book);
         if text.status == Some(0) {
             let bytes = written(&text.text());
