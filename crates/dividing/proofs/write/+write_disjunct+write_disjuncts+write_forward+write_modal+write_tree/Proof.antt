@@ -128,6 +128,8 @@ use Rattle.dividing.proofs.write.+write_disjunct+write_disjuncts+write_
   write-disjuncts-add-result,
   write-disjuncts-same-length-2,
   write-disjuncts-returns-2,
+}
+use Rattle.dividing.proofs.write.+write_disjunct+write_disjuncts+write_forward+write_modal+write_tree.Proof.OneDisjunct.{
   write-disjunct-shared-slice-read-put-node,
   write-disjunct-shared-slice-read-put-node-2,
   write-disjunct-put-node-requires,
@@ -156,6 +158,7 @@ mod Trees
 mod Modalities
 mod Forwards
 mod Disjuncts
+mod OneDisjunct
 
 pub +write-disjunct+write-disjuncts+write-forward+write-modal+write-tree-spec :
     {M : Type 1} → statement M
