@@ -3,22 +3,26 @@ use Prim.Native.Nat.{ℕ, suc, _+_, _-_, _≤_, _<_}
 use mathlib.Core.Path.{_≡_, refl, sym, _∙_, ap}
 use mathlib.Core.Bool.{Bool, true, false, true≢false}
 use mathlib.Core.List.{List, [], _∷_, _++_}
+use mathlib.Core.Logic.{_⊎_, inl, inr}
 use mathlib.Core.Option.{Option, none, some}
 use native.Mathlib.Omega.{arith}
-use lib.ListN.{length, getD, take, drop, length-take, length-drop, take-append-drop}
-use lib.Seq.{take-all, drop-cons, drop-drop, getD-take, getD-drop}
+use lib.ListN.{length, getD, take, drop, length-append, length-take, length-drop, take-append-drop}
+use lib.Seq.{drop-cons, drop-drop, getD-take, getD-drop}
 use lib.Dec.{ltb}
 use borrow.Author.Tests.{ltb-true, ltb-false}
 use Rattle.aldebaran_form.specs.Forms.{lineFeed, Line}
 use Rattle.aldebaran_form.specs.Lines.{next, lineIn, labelOf}
 use Rattle.aldebaran.specs.Reading.{there, linesOf, linesIn}
 use Rattle.aldebaran.specs.Working.{LineEnd, RowFound, rowLines}
-use Rattle.aldebaran_form.specs.Working.{lineFound, labelFound}
+use Rattle.aldebaran_form.specs.Working.{restAt, rowIn, lineFound, labelFound}
 use Rattle.aldebaran_form.specs.declared.label.Spelled.{Spelled}
 use Rattle.aldebaran_form.specs.declared.label.Spelled.the-variants as label
 use Rattle.aldebaran_form.specs.declared.line.RowLine.{RowLine}
 use Rattle.aldebaran.specs.declared.rows.NextRow.{NextRow}
+use Rattle.hml.proofs.Tests.{apart}
 use Rattle.aldebaran_form.proofs.Lacks.{Lacks, lacks-places}
+use Rattle.aldebaran_form.proofs.Scanning.{rest-in}
+use Rattle.aldebaran_form.proofs.LinesInTexts.{row-feed, row-open, FirstLine, first-line}
 use Rattle.aldebaran.proofs.LineSplitting.{lines-nil, lines-feed, lines-none}
 
 -- the search for a line feed: none so far
@@ -105,32 +109,41 @@ module _ (text : List ℕ) (at end : ℕ) (w : LineEnd text at end) where
       ∙ ap (λ b. b ∷ drop (suc end) text) (w .there h) ∙ ap (λ n. lineFeed ∷ drop n text) z in
       sym (take-append-drop (end - at) (drop at text)) ∙ ap (take (end - at) (drop at text) ++_) d
 
-  pub line-rows : end < length text
-      → rowLines (drop at text)
-      ≡ next (lineIn (take (end - at) (drop at text)))
-      (λ l. next (rowLines (drop (end + 1) text)) (λ ls. some (l ∷ ls)))
-  line-rows h =
-      ap rowLines (line-split h) ∙ rows-feed (take (end - at) (drop at text)) (drop (end + 1) text) line-lacks
+-- a text begins with a line of the form and goes on behind it, or is none of the form
+pub rows-next : (l : List ℕ) → 1 ≤ length l
+    → rowLines l ≡ next (rowIn l) (λ p. next (rowLines (p .1)) (λ ls. some (p .0 ∷ ls)))
+rows-next l h = go (first-line l)
+  where
+    after : Line × List ℕ → Option (List Line)
+    after p = next (rowLines (p .1)) (λ ls. some (p .0 ∷ ls))
 
-  -- no line feed ends it
-  pub line-open : at < length text → length text ≤ end → rowLines (drop at text) ≡ none
-  line-open g h =
-      let q : take (end - at) (drop at text) ≡ drop at text =
-      take-all (end - at) (drop at text) (omega (arith, length-drop at text)) in
-      rows-none (drop at text) (rw q at line-lacks) (omega (arith, length-drop at text))
+    same : (rest : List ℕ) (o : Option Line)
+        → next o (λ x. after (x, rest)) ≡ next (next {B = Line × List ℕ} o (λ x. some (x, rest))) after
+    same rest none = refl
+    same rest (some x) = refl
 
--- what the code found of a line
-module _ (line : List ℕ) (r : RowLine) (e : lineFound line r ≡ lineIn line) where
-  pub not-formed : r .formed ≡ false → lineIn line ≡ none
-  unfolding lineFound
-  not-formed f = sym e ∙ rw f
+    go : FirstLine l ⊎ Lacks lineFeed l → rowLines l ≡ next (rowIn l) after
+    go (inl f) = ap rowLines (f .split) ∙ rows-feed (f .line) (f .rest) (f .lacks)
+        ∙ same (f .rest) (lineIn (f .line))
+        ∙ ap (λ o. next o after) (sym (ap rowIn (f .split) ∙ row-feed (f .line) (f .rest) (f .lacks)))
+    go (inr v) = rows-none l v h ∙ ap (λ o. next o after) (sym (row-open l v))
 
-  abbrev pub told : Line
-  told = record { from = r .from; label = take (r .quote - r .label) (drop (r .label) line); to = r .to }
+-- what stands behind a line is shorter
+row-shorter : (l : List ℕ) (p : Line × List ℕ) → rowIn l ≡ some p → length (p .1) < length l
+row-shorter l p e = go (first-line l)
+  where
+    rest-of : (f : FirstLine l) (o : Option Line) → next o (λ x. some (x, f .rest)) ≡ some p → p .1 ≡ f .rest
+    rest-of f none q = absurd (apart cc)
+    rest-of f (some x) q =
+        let z : _≡_ {A = Line × List ℕ} (x, f .rest) p = cc in
+        sym (ap (λ y. y .1) z)
 
-  pub formed : r .formed ≡ true → lineIn line ≡ some told
-  unfolding lineFound
-  formed f = sym e ∙ rw f
+    go : FirstLine l ⊎ Lacks lineFeed l → length (p .1) < length l
+    go (inl f) =
+        let q : p .1 ≡ f .rest = rest-of f (lineIn (f .line))
+        (sym (row-feed (f .line) (f .rest) (f .lacks)) ∙ sym (ap rowIn (f .split)) ∙ e) in
+        omega (arith, ap length q, ap length (f .split), length-append (f .line) (lineFeed ∷ f .rest))
+    go (inr v) = let z : _≡_ {A = Option (Line × List ℕ)} none (some p) = sym (row-open l v) ∙ e in absurd (apart cc)
 
 -- what next_row promises of its answer
 abbrev pub Next : List ℕ → ℕ → NextRow → Type 0
@@ -141,33 +154,38 @@ Next text at r =
 abbrev pub noRow : NextRow
 noRow = record { formed = false; from = 0; label = label.Unknown; to = 0; behind = 0 }
 
-pub no-row : (text : List ℕ) (at : ℕ) → rowLines (drop at text) ≡ none → Next text at noRow
-no-row text at e = (λ g. absurd (true≢false (sym g)), λ g. e)
+-- what row_line found at a place
+module _ (text : List ℕ) (at : ℕ) (h : at < length text) (r : RowLine)
+    (e : lineFound text r ≡ next (restAt text at) rowIn) where
+  here : next (restAt text at) rowIn ≡ rowIn (drop at text)
+  here = ap (λ o. next o rowIn) (rest-in text at (omega arith))
 
--- the answer for a line of the form
-module _ (text : List ℕ) (at end : ℕ) (w : LineEnd text at end) (r : RowLine) (s : Spelled) where
-  abbrev line : List ℕ
-  line = take (end - at) (drop at text)
+  pub row-missing : r .formed ≡ false → Next text at noRow
+  unfolding lineFound
+  row-missing f =
+      let none-there : rowIn (drop at text) ≡ none = sym here ∙ sym e ∙ rw f in (
+        λ g. absurd (true≢false (sym g)),
+        λ g. rows-next (drop at text) (omega (arith, length-drop at text)) ∙ rw none-there,
+      )
 
-  abbrev pub answer : NextRow
-  answer = record { formed = true; from = r .from; label = s; to = r .to; behind = end + 1 }
+  abbrev told : Line
+  told = record { from = r .from; label = take (r .quote - r .label) (drop (r .label) text); to = r .to }
 
-  pub row : end < length text → lineFound line r ≡ lineIn line → r .formed ≡ true
-      → s ≡ labelFound (labelOf (take (r .quote - r .label) (drop (r .label) line))) → Next text at answer
-  row h e f g = (
-    λ x. record {
-      line = told line r e;
-      split = line-rows text at end w h ∙ ap
-          (λ o. next o (λ l. next (rowLines (drop (end + 1) text)) (λ ls. some (l ∷ ls)))) (formed line r e f);
-      from = refl;
-      label = sym g;
-      to = refl;
-      further = omega (arith, w .from);
-      within = omega (arith, h);
-    },
-    λ x. absurd (true≢false x),
-  )
-
-  pub row-missing : end < length text → lineFound line r ≡ lineIn line → r .formed ≡ false → Next text at noRow
-  row-missing h e f = no-row text at (line-rows text at end w h ∙ ap
-      (λ o. next o (λ l. next (rowLines (drop (end + 1) text)) (λ ls. some (l ∷ ls)))) (not-formed line r e f))
+  pub row : (s : Spelled) → r .formed ≡ true → r .behind ≤ length text
+      → s ≡ labelFound (labelOf (take (r .quote - r .label) (drop (r .label) text)))
+      → Next text at (record { formed = true; from = r .from; label = s; to = r .to; behind = r .behind })
+  unfolding lineFound
+  row s f k g =
+      let found : rowIn (drop at text) ≡ some (told, drop (r .behind) text) = sym here ∙ sym e ∙ rw f in
+      let shorter = row-shorter (drop at text) (told, drop (r .behind) text) found in (
+        λ x. record {
+          line = told;
+          split = rows-next (drop at text) (omega (arith, length-drop at text)) ∙ rw found;
+          from = refl;
+          label = sym g;
+          to = refl;
+          further = omega (arith, shorter, length-drop at text, length-drop (r .behind) text);
+          within = k;
+        },
+        λ x. absurd (true≢false x),
+      )

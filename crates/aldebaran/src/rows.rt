@@ -40,30 +40,24 @@ pub(crate) fn next_row(text: &[u8], at: usize) -> NextRow
     ensures found { λ r. ⌜ (r .formed ≡ true → RowFound (now (text .entry)) at r) ⌝ }
     ensures missing { λ r. ⌜ (r .formed ≡ false → rowLines (drop at (now (text .entry))) ≡ none) ⌝ }
 {
-    let end = line_end(text, at);
-    let none = NextRow {
-        formed: false,
-        from: 0,
-        label: Spelled::Unknown,
-        to: 0,
-        behind: 0,
-    };
-    if end == text.len() {
-        return none;
-    }
-    let line = &text[at..end];
-    let row = row_line(line);
+    let row = row_line(text, at);
     if !row.formed {
-        return none;
+        return NextRow {
+            formed: false,
+            from: 0,
+            label: Spelled::Unknown,
+            to: 0,
+            behind: 0,
+        };
     }
     let start = row.label;
     let quote = row.quote;
-    let label = label_of(&line[start..quote]);
+    let label = label_of(&text[start..quote]);
     NextRow {
         formed: true,
         from: row.from,
         label,
         to: row.to,
-        behind: end + 1,
+        behind: row.behind,
     }
 }

@@ -3,23 +3,21 @@ use Prim.Native.Nat.{ℕ, zero, suc, _+_, _-_, _*_, _/_, _%_, _≤_, _<_}
 use mathlib.Core.Path.{_≡_, refl, sym, _∙_, ap}
 use mathlib.Core.Bool.{Bool, true, false, cond}
 use mathlib.Core.List.{List, [], _∷_, _++_}
+use mathlib.Core.Logic.{_⊎_, inl, inr}
 use mathlib.Core.Option.{Option, none, some}
 use native.Mathlib.Omega.{arith}
 use native.Mathlib.Numerals.{lt-of-le-of-ne}
-use lib.ListN.{length}
-use lib.Dec.{eqb}
-use borrow.Author.Tests.{eqb-true, eqb-false, eq-eqb, ne-eqb}
+use lib.ListN.{length, getD}
+use lib.Dec.{eqb, ltb}
+use borrow.Author.Tests.{eqb-true, eqb-false, eq-eqb, ne-eqb, ltb-true, ltb-false}
 use Rattle.hml.proofs.Tests.{apart}
 use Rattle.digits.specs.Digits.{decimal}
+use Rattle.digits.proofs.DecimalLaws.{decimal-small, decimal-2}
 use Rattle.digits.proofs.Reading.{decimal-one-to-one}
 use Rattle.aldebaran_form.specs.Forms.{spelled}
-use Rattle.aldebaran_form.specs.Lines.{next, behind, isDigit, numberIn, sameBytes, labelAmong, labelOf}
-use Rattle.aldebaran_form.specs.Working.{restAt, numberAt, labelFound}
-use Rattle.aldebaran_form.specs.declared.scan.Number.{Number}
+use Rattle.aldebaran_form.specs.Lines.{sameBytes, labelAmong, labelOf}
+use Rattle.aldebaran_form.specs.Working.{labelFound}
 use Rattle.aldebaran_form.specs.declared.label.Spelled.the-variants as label
-use Rattle.aldebaran_form.proofs.WrittenNumbers.{number-written, number-read, some-pair}
-use Rattle.aldebaran_form.proofs.WrittenLines.{next-some, behind-written, behind-read}
-use Rattle.aldebaran_form.proofs.Scanning.{rest-in, rest-end, rest-nil}
 
 -- the equality test on bytes
 pub same-refl : (l : List ℕ) → sameBytes l l ≡ true
@@ -156,108 +154,209 @@ label-unknown l f = go (labelOf l) refl
     go none e = e
     go (some a) e = absurd (f a (label-spelled l a e .1) (label-spelled l a e .0))
 
--- the sign is no digit
-sign-ends : (a : ℕ) → isDigit (sign a) ≡ false
-unfolding isDigit
-sign-ends a = go (eqb (a % 2) 0)
+-- the three ways in which a label is spelled
+abbrev Mark : ℕ → Type 0
+Mark m = (m ≡ 33) ⊎ (m ≡ 63)
+
+abbrev Spelling : List ℕ → Type 0
+Spelling l =
+    (l ≡ 105 ∷ [])
+    ⊎ ((v : ℕ) × (m : ℕ) × (1 ≤ v) × (v < 10) × Mark m × (l ≡ 97 ∷ (48 + v) ∷ m ∷ []))
+    ⊎ ((v : ℕ) × (m : ℕ) × (10 ≤ v) × (v ≤ 15) × Mark m × (l ≡ 97 ∷ 49 ∷ (38 + v) ∷ m ∷ []))
+
+decimal-high : (v : ℕ) → 10 ≤ v → v ≤ 15 → decimal v ≡ 49 ∷ (38 + v) ∷ []
+decimal-high v h i =
+    let ten : 48 + v / 10 ≡ 49 = omega arith in
+    let one : 48 + v % 10 ≡ 38 + v = omega arith in
+    decimal-2 v h (omega arith) ∙ rw (ten, one)
+
+spelling : (a : ℕ) → a ≤ 30 → Spelling (spelled a)
+unfolding spelled
+spelling zero h = inl refl
+spelling (suc a) h = go (ltb (suc (a / 2)) 10) refl
   where
-    go : (t : Bool) → isDigit (cond t 33 63) ≡ false
-    go true = refl
-    go false = refl
+    mark : (x : Bool) → Mark (cond x 33 63)
+    mark true = inl refl
+    mark false = inr refl
 
--- a line is read from its first byte on
-from-start : {B : Type 0} (bytes : List ℕ) (f : List ℕ → Option B) → next (restAt bytes 0) f ≡ f bytes
-from-start bytes f = rw (rest-in bytes 0 (omega arith))
+    go : (x : Bool) → ltb (suc (a / 2)) 10 ≡ x → Spelling (97 ∷ (decimal (suc (a / 2)) ++ (sign a ∷ [])))
+    go true e =
+        let low : suc (a / 2) < 10 = ltb-true (suc (a / 2)) 10 e in
+        inr (inl (
+          suc (a / 2),
+          sign a,
+          omega arith,
+          low,
+          mark (eqb (a % 2) 0),
+          ap (λ d. 97 ∷ (d ++ (sign a ∷ []))) (decimal-small (suc (a / 2)) low),
+        ))
+    go false e =
+        let high : 10 ≤ suc (a / 2) = ltb-false (suc (a / 2)) 10 e in
+        let most : suc (a / 2) ≤ 15 = omega (arith, h) in
+        inr (inr (
+          suc (a / 2),
+          sign a,
+          high,
+          most,
+          mark (eqb (a % 2) 0),
+          ap (λ d. 97 ∷ (d ++ (sign a ∷ []))) (decimal-high (suc (a / 2)) high most),
+        ))
 
--- label_of: an i alone
-module _ (bytes : List ℕ) (p : ℕ) (a : restAt bytes p ≡ next (restAt bytes 0) (behind (105 ∷ []))) where
-  pub is-silent : p ≡ length bytes → label.Label (record { 0 = 0 }) ≡ labelFound (labelOf bytes)
-  unfolding labelFound spelled
-  is-silent e =
-      let y : behind (105 ∷ []) bytes ≡ some [] =
-      sym (from-start bytes (behind (105 ∷ []))) ∙ sym a ∙ ap (restAt bytes) e ∙ rest-end bytes in
-      let z : bytes ≡ spelled 0 = behind-read (105 ∷ []) bytes [] y in
-      rw (z, label-found 0 (omega arith))
+-- bytes that are spelled in none of them
+pub unknown : (l : List ℕ) → (Spelling l → ⊥) → label.Unknown ≡ labelFound (labelOf l)
+unfolding labelFound
+unknown l f = rw (label-unknown l (λ a h e. f (rw e (spelling a h))))
 
-  not-silent : (p ≡ length bytes → ⊥) → bytes ≡ spelled 0 → ⊥
+is-label : (l : List ℕ) (a : ℕ) → a ≤ 30 → l ≡ spelled a → label.Label (record { 0 = a }) ≡ labelFound (labelOf l)
+unfolding labelFound
+is-label l a h e = rw (e, label-found a h)
+
+-- bytes of a length, one by one
+pub one-byte : (l : List ℕ) → length l ≡ 1 → l ≡ getD l 0 0 ∷ []
+one-byte [] n = absurd (omega (arith, n))
+one-byte (b ∷ []) n = refl
+one-byte (b ∷ c ∷ l) n = absurd (omega (arith, n))
+
+pub three-bytes : (l : List ℕ) → length l ≡ 3 → l ≡ getD l 0 0 ∷ getD l 1 0 ∷ getD l 2 0 ∷ []
+three-bytes [] n = absurd (omega (arith, n))
+three-bytes (b ∷ []) n = absurd (omega (arith, n))
+three-bytes (b ∷ c ∷ []) n = absurd (omega (arith, n))
+three-bytes (b ∷ c ∷ d ∷ []) n = refl
+three-bytes (b ∷ c ∷ d ∷ e ∷ l) n = absurd (omega (arith, n))
+
+pub four-bytes : (l : List ℕ) → length l ≡ 4 → l ≡ getD l 0 0 ∷ getD l 1 0 ∷ getD l 2 0 ∷ getD l 3 0 ∷ []
+four-bytes [] n = absurd (omega (arith, n))
+four-bytes (b ∷ l) n = ap (b ∷_) (three-bytes l (omega (arith, n)))
+
+-- by their length
+module _ (l : List ℕ) where
+  pub other-length : (length l ≡ 1 → ⊥) → (length l ≡ 3 → ⊥) → (length l ≡ 4 → ⊥)
+      → label.Unknown ≡ labelFound (labelOf l)
+  other-length f g h = unknown l go
+    where
+      go : Spelling l → ⊥
+      go (inl e) = f (ap length e)
+      go (inr (inl w)) = g (ap length (w .5))
+      go (inr (inr w)) = h (ap length (w .5))
+
+  pub silent : length l ≡ 1 → getD l 0 0 ≡ 105 → label.Label (record { 0 = 0 }) ≡ labelFound (labelOf l)
   unfolding spelled
-  not-silent f e = f (rest-nil bytes p
-      (a ∙ from-start bytes (behind (105 ∷ [])) ∙ ap (behind (105 ∷ [])) e ∙ behind-written (105 ∷ []) []))
+  silent n e = is-label l 0 (omega arith) (one-byte l n ∙ rw e)
 
--- or an a, a number and a sign
-module _ (bytes : List ℕ) (p q : ℕ) (pair : Number) (a : restAt bytes p ≡ next (restAt bytes 0) (behind (105 ∷ [])))
-    (b : restAt bytes q ≡ next (restAt bytes 0) (behind (97 ∷ [])))
-    (c : numberAt bytes pair ≡ next (restAt bytes q) numberIn) where
-  -- what is read of a label other than i
-  pair-read : (n : ℕ) → n ≤ 29 → bytes ≡ spelled (suc n)
-      → (pair .value ≡ suc (n / 2)) × (restAt bytes (pair .end) ≡ some (sign n ∷ []))
-  unfolding spelled numberAt
-  pair-read n h e =
-      let rest = decimal (suc (n / 2)) ++ (sign n ∷ []) in
-      let y : restAt bytes q ≡ some rest =
-      b ∙ from-start bytes (behind (97 ∷ [])) ∙ ap (behind (97 ∷ [])) e ∙ behind-written (97 ∷ []) rest in
-      let x : numberIn rest ≡ some (suc (n / 2), sign n ∷ []) =
-      number-written (suc (n / 2)) (sign n ∷ []) (omega (arith, h)) (sign-ends n) in
-      let w = next-some (restAt bytes (pair .end)) (λ rest. some (pair .value, rest)) (suc (n / 2), sign n ∷ [])
-      (c ∙ ap (λ o. next o numberIn) y ∙ x) in
-      let v = some-pair (pair .value) (suc (n / 2)) (w .0) (sign n ∷ []) (w .2) in
-      (v .0, w .1 ∙ ap some (v .1))
-
-  unknown : (p ≡ length bytes → ⊥) → ((n : ℕ) → n ≤ 29 → bytes ≡ spelled (suc n) → ⊥)
-      → label.Unknown ≡ labelFound (labelOf bytes)
-  unfolding labelFound
-  unknown f g = rw (label-unknown bytes none-such)
+  pub not-silent : length l ≡ 1 → (getD l 0 0 ≡ 105 → ⊥) → label.Unknown ≡ labelFound (labelOf l)
+  not-silent n f = unknown l go
     where
-      none-such : (n : ℕ) → n ≤ 30 → bytes ≡ spelled n → ⊥
-      none-such zero h e = not-silent bytes p a f e
-      none-such (suc n) h e = g n (omega (arith, h)) e
+      go : Spelling l → ⊥
+      go (inl e) = f (ap (λ k. getD k 0 0) e)
+      go (inr (inl w)) = omega (arith, n, ap length (w .5))
+      go (inr (inr w)) = omega (arith, n, ap length (w .5))
 
-  pub no-pair : (p ≡ length bytes → ⊥) → pair .value ≡ 0 → label.Unknown ≡ labelFound (labelOf bytes)
-  no-pair f z = unknown f (λ n h e. omega (arith, pair-read n h e .0, z))
+-- three bytes: a, a digit from 1 to 9 and a mark
+module _ (letter digit mark : ℕ) where
+  abbrev three : List ℕ
+  three = letter ∷ digit ∷ mark ∷ []
 
-  pub over-pairs : (p ≡ length bytes → ⊥) → 15 < pair .value → label.Unknown ≡ labelFound (labelOf bytes)
-  over-pairs f z = unknown f (λ n h e. omega (arith, pair-read n h e .0, z, h))
-
-  -- neither of the signs
-  pub no-sign : (s t : ℕ) → (p ≡ length bytes → ⊥)
-      → restAt bytes s ≡ next (restAt bytes (pair .end)) (behind (33 ∷ []))
-      → restAt bytes t ≡ next (restAt bytes (pair .end)) (behind (63 ∷ []))
-      → (s ≡ length bytes → ⊥) → (t ≡ length bytes → ⊥) → label.Unknown ≡ labelFound (labelOf bytes)
-  no-sign s t f d e g h = unknown f (λ n i w. go n (pair-read n i w .1) (eqb (n % 2) 0) refl)
+  not-low : ((v m : ℕ) → 1 ≤ v → v < 10 → three ≡ 97 ∷ (48 + v) ∷ m ∷ [] → ⊥)
+      → label.Unknown ≡ labelFound (labelOf three)
+  not-low f = unknown three go
     where
-      go : (n : ℕ) → restAt bytes (pair .end) ≡ some (sign n ∷ []) → (r : Bool) → eqb (n % 2) 0 ≡ r → ⊥
-      go n w true i =
-          let y : restAt bytes (pair .end) ≡ some (33 ∷ []) = rw i at w in
-          g (rest-nil bytes s (d ∙ rw y (behind-written (33 ∷ []) [])))
-      go n w false i =
-          let y : restAt bytes (pair .end) ≡ some (63 ∷ []) = rw i at w in
-          h (rest-nil bytes t (e ∙ rw y (behind-written (63 ∷ []) [])))
+      go : Spelling three → ⊥
+      go (inl e) = omega (arith, ap length e)
+      go (inr (inl w)) = f (w .0) (w .1) (w .2) (w .3) (w .5)
+      go (inr (inr w)) = omega (arith, ap length (w .5))
 
-  -- a sign behind the number
-  signed : (s mark : ℕ) → restAt bytes s ≡ next (restAt bytes (pair .end)) (behind (mark ∷ [])) → s ≡ length bytes
-      → bytes ≡ 97 ∷ (decimal (pair .value) ++ (mark ∷ []))
-  unfolding numberAt
-  signed s mark d e =
-      let w = next-some (restAt bytes (pair .end)) (behind (mark ∷ [])) []
-      (sym d ∙ ap (restAt bytes) e ∙ rest-end bytes) in
-      let y : restAt bytes (pair .end) ≡ some (mark ∷ []) = w .1 ∙ ap some (behind-read (mark ∷ []) (w .0) [] (w .2)) in
-      let x = next-some (restAt bytes q) numberIn (pair .value, mark ∷ [])
-      (sym c ∙ ap (λ o. next o (λ rest. some (pair .value, rest))) y) in
-      let l : behind (97 ∷ []) bytes ≡ some (x .0) = sym (from-start bytes (behind (97 ∷ []))) ∙ sym b ∙ x .1 in
-      behind-read (97 ∷ []) bytes (x .0) l ∙ ap (97 ∷_) (number-read (x .0) (pair .value) (mark ∷ []) (x .2) .0)
+  pub low-letter : (letter ≡ 97 → ⊥) → label.Unknown ≡ labelFound (labelOf three)
+  low-letter f = not-low (λ v m h i e. f (ap (λ k. getD k 0 0) e))
 
-  is-label : (n : ℕ) → n ≤ 30 → bytes ≡ spelled n → label.Label (record { 0 = n }) ≡ labelFound (labelOf bytes)
-  unfolding labelFound
-  is-label n h e = rw (e, label-found n h)
+  pub low-below : digit < 49 → label.Unknown ≡ labelFound (labelOf three)
+  low-below h = not-low (λ v m i j e. omega (arith, h, i, ap (λ k. getD k 1 0) e))
 
-  pub first-sign : (s : ℕ) → (pair .value ≡ 0 → ⊥) → pair .value ≤ 15
-      → restAt bytes s ≡ next (restAt bytes (pair .end)) (behind (33 ∷ [])) → s ≡ length bytes
-      → label.Label (record { 0 = 2 * pair .value - 1 }) ≡ labelFound (labelOf bytes)
-  first-sign s f h d e = is-label (2 * pair .value - 1) (omega (arith, h))
-      (signed s 33 d e ∙ sym (spelled-first (pair .value) f))
+  pub low-above : 57 < digit → label.Unknown ≡ labelFound (labelOf three)
+  low-above h = not-low (λ v m i j e. omega (arith, h, j, ap (λ k. getD k 1 0) e))
 
-  pub second-sign : (s : ℕ) → (pair .value ≡ 0 → ⊥) → pair .value ≤ 15
-      → restAt bytes s ≡ next (restAt bytes (pair .end)) (behind (63 ∷ [])) → s ≡ length bytes
-      → label.Label (record { 0 = 2 * pair .value }) ≡ labelFound (labelOf bytes)
-  second-sign s f h d e = is-label (2 * pair .value) (omega (arith, h))
-      (signed s 63 d e ∙ sym (spelled-second (pair .value) f))
+  pub low-there : {A : Type 0} (f : List ℕ → A) → letter ≡ 97 → 49 ≤ digit → digit ≤ 57
+      → f (97 ∷ (decimal (digit - 48) ++ (mark ∷ []))) ≡ f three
+  low-there f e h i =
+      let z : 48 + (digit - 48) ≡ digit = omega arith in
+      ap f (rw (decimal-small (digit - 48) (omega arith), z, e))
+
+-- four bytes: a, 1, a digit from 0 to 5 and a mark
+module _ (letter ten digit mark : ℕ) where
+  abbrev four : List ℕ
+  four = letter ∷ ten ∷ digit ∷ mark ∷ []
+
+  not-high : ((v m : ℕ) → 10 ≤ v → v ≤ 15 → four ≡ 97 ∷ 49 ∷ (38 + v) ∷ m ∷ [] → ⊥)
+      → label.Unknown ≡ labelFound (labelOf four)
+  not-high f = unknown four go
+    where
+      go : Spelling four → ⊥
+      go (inl e) = omega (arith, ap length e)
+      go (inr (inl w)) = omega (arith, ap length (w .5))
+      go (inr (inr w)) = f (w .0) (w .1) (w .2) (w .3) (w .5)
+
+  pub high-letter : (letter ≡ 97 → ⊥) → label.Unknown ≡ labelFound (labelOf four)
+  high-letter f = not-high (λ v m h i e. f (ap (λ k. getD k 0 0) e))
+
+  pub high-ten : (ten ≡ 49 → ⊥) → label.Unknown ≡ labelFound (labelOf four)
+  high-ten f = not-high (λ v m h i e. f (ap (λ k. getD k 1 0) e))
+
+  pub high-below : digit < 48 → label.Unknown ≡ labelFound (labelOf four)
+  high-below h = not-high (λ v m i j e. omega (arith, h, i, ap (λ k. getD k 2 0) e))
+
+  pub high-above : 53 < digit → label.Unknown ≡ labelFound (labelOf four)
+  high-above h = not-high (λ v m i j e. omega (arith, h, j, ap (λ k. getD k 2 0) e))
+
+  pub high-there : {A : Type 0} (f : List ℕ → A) → letter ≡ 97 → ten ≡ 49 → 48 ≤ digit → digit ≤ 53
+      → f (97 ∷ (decimal (digit - 38) ++ (mark ∷ []))) ≡ f four
+  high-there f e g h i =
+      let z : 38 + (digit - 38) ≡ digit = omega arith in
+      ap f (rw (decimal-high (digit - 38) (omega arith) (omega arith), z, e, g))
+
+-- a pair and its mark
+module _ (pair mark : ℕ) where
+  abbrev bytes : List ℕ
+  bytes = 97 ∷ (decimal pair ++ (mark ∷ []))
+
+  -- no other byte than the marks
+  pub no-mark : (mark ≡ 33 → ⊥) → (mark ≡ 63 → ⊥) → label.Unknown ≡ labelFound (labelOf bytes)
+  unfolding labelFound spelled
+  no-mark f g = rw (label-unknown bytes none-such)
+    where
+      marked : (x : Bool) → mark ≡ cond x 33 63 → ⊥
+      marked true e = f e
+      marked false e = g e
+
+      none-such : (a : ℕ) → a ≤ 30 → bytes ≡ spelled a → ⊥
+      none-such zero h e = omega (arith, ap (λ k. getD k 0 0) e)
+      none-such (suc a) h e =
+          let q : decimal pair ++ (mark ∷ []) ≡ decimal (suc (a / 2)) ++ (sign a ∷ []) = cc in
+          marked (eqb (a % 2) 0) (last-same (decimal pair) (decimal (suc (a / 2))) mark (sign a) q .1)
+
+  module _ (h : 1 ≤ pair) (i : pair ≤ 15) where
+    some-pair : pair ≡ 0 → ⊥
+    some-pair e = omega (arith, e, h)
+
+    first-mark : mark ≡ 33 → label.Label (record { 0 = 2 * pair - 1 }) ≡ labelFound (labelOf bytes)
+    first-mark e = is-label bytes (2 * pair - 1) (omega arith)
+        (sym (spelled-first pair some-pair ∙ ap (λ m. 97 ∷ (decimal pair ++ (m ∷ []))) (sym e)))
+
+    second-mark : mark ≡ 63 → label.Label (record { 0 = 2 * pair }) ≡ labelFound (labelOf bytes)
+    second-mark e = is-label bytes (2 * pair) (omega arith)
+        (sym (spelled-second pair some-pair ∙ ap (λ m. 97 ∷ (decimal pair ++ (m ∷ []))) (sym e)))
+
+    -- as the code counts it
+    pub with-mark : mark ≡ 33 + 30 * (mark / 63)
+        → label.Label (record { 0 = 2 * pair - 1 + mark / 63 }) ≡ labelFound (labelOf bytes)
+    with-mark e = go (eqb mark 33) refl
+      where
+        go : (x : Bool) → eqb mark 33 ≡ x
+            → label.Label (record { 0 = 2 * pair - 1 + mark / 63 }) ≡ labelFound (labelOf bytes)
+        go true p =
+            let q : mark ≡ 33 = eqb-true mark 33 p in
+            let n : 2 * pair - 1 + mark / 63 ≡ 2 * pair - 1 = omega (arith, q) in
+            ap (λ a. label.Label (record { 0 = a })) n ∙ first-mark q
+        go false p =
+            let f : 33 < mark = lt-of-le-of-ne (omega (arith, e)) (λ z. eqb-false mark 33 p (sym z)) in
+            let q : mark ≡ 63 = omega (arith, e, f) in
+            let n : 2 * pair - 1 + mark / 63 ≡ 2 * pair = omega (arith, q, h) in
+            ap (λ a. label.Label (record { 0 = a })) n ∙ second-mark q

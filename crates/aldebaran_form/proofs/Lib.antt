@@ -5,3 +5,4 @@ pub mod WrittenLines
 pub mod Scanning
 pub mod LineReading
 pub mod LabelReading
+pub mod LinesInTexts

@@ -1,31 +1,30 @@
--- A header and a line, read place by place: each step of `headerIn` and `lineIn` goes on at the place behind it.
+-- A header and a line, read place by place: each step of `headerIn` and `rowIn` goes on at the place behind it.
 use Prim.Native.Nat.{ℕ, _+_, _-_, _≤_, _<_}
 use mathlib.Core.Path.{_≡_, refl, sym, _∙_, ap}
-use mathlib.Core.Bool.{Bool, true, false}
-use mathlib.Core.List.{List, [], _∷_}
+use mathlib.Core.Bool.{Bool, true, false, cond, _||_}
+use mathlib.Core.List.{List, [], _∷_, _++_}
 use mathlib.Core.Option.{Option, none, some}
 use native.Mathlib.Omega.{arith}
 use lib.ListN.{length, take, drop, length-append, length-drop}
 use lib.Seq.{take-append-seam, drop-drop}
 use lib.Dec.{eqb, leb, ltb}
-use borrow.Author.Tests.{leb-true, leb-false, ltb-true, ltb-false, eqb-true, eq-eqb, ne-eqb}
+use borrow.Author.Tests.{leb-true, leb-false, ltb-true, ltb-false, eq-eqb, ne-eqb}
 use Rattle.hml.specs.Lists.{guard}
 use Rattle.hml.proofs.Tests.{apart}
-use Rattle.aldebaran_form.specs.Forms.{quote, comma, closing, des, Header, Line}
-use Rattle.aldebaran_form.specs.Lines.{next, behind, numberIn, labelIn, ending, headerIn, lineIn}
-use Rattle.aldebaran_form.specs.Working.{restAt, numberAt}
+use Rattle.aldebaran_form.specs.Forms.{lineFeed, quote, comma, closing, des, Header, Line}
+use Rattle.aldebaran_form.specs.Lines.{next, behind, numberIn, ending, headerIn}
+use Rattle.aldebaran_form.specs.Working.{restAt, numberAt, labelTo, rowIn}
 use Rattle.aldebaran_form.specs.declared.scan.Number.{Number}
 use Rattle.aldebaran_form.proofs.Scanning.{rest-in, rest-out, rest-end, rest-byte}
-use Rattle.aldebaran_form.proofs.WrittenLines.{label-split}
 
 -- two steps, taken one after the other
-next-next : {A B C : Type 0} (o : Option A) (f : A → Option B) (g : B → Option C)
+pub next-next : {A B C : Type 0} (o : Option A) (f : A → Option B) (g : B → Option C)
     → next o (λ x. next (f x) g) ≡ next (next o f) g
 next-next none f g = refl
 next-next (some x) f g = refl
 
 -- bytes one after the other
-behind-first : (b : ℕ) (bytes line : List ℕ) → next (behind (b ∷ []) line) (behind bytes) ≡ behind (b ∷ bytes) line
+pub behind-first : (b : ℕ) (bytes line : List ℕ) → next (behind (b ∷ []) line) (behind bytes) ≡ behind (b ∷ bytes) line
 unfolding behind
 behind-first b bytes [] = refl
 behind-first b bytes (c ∷ line) = go (eqb c b) refl
@@ -130,113 +129,135 @@ module _ (line : List ℕ) (opened second third end : ℕ) (first rows states : 
       ∙ bytes-step line (states .end) end (41 ∷ []) (λ m. ending m _) g
       ∙ end-step line end _)
 
--- the steps of a line, from the last
-abbrev line-end : ℕ → List ℕ → ℕ → List ℕ → Option Line
-line-end a b c l = next (behind (closing ∷ []) l) (λ m. ending m (record { from = a; label = b; to = c }))
+-- the steps of a line in a text, from the last
+abbrev pub row-end : ℕ → List ℕ → ℕ → List ℕ → Option (Line × List ℕ)
+row-end a b c l =
+    next (behind (closing ∷ lineFeed ∷ []) l) (λ rest. some (record { from = a; label = b; to = c }, rest))
 
-abbrev line-to : ℕ → List ℕ → List ℕ → Option Line
-line-to a b l = next (numberIn l) (λ n. line-end a b (n .0) (n .1))
+abbrev pub row-to : ℕ → List ℕ → List ℕ → Option (Line × List ℕ)
+row-to a b l = next (numberIn l) (λ n. row-end a b (n .0) (n .1))
 
-abbrev line-quoted : ℕ → List ℕ → List ℕ → Option Line
-line-quoted a b l = next (behind (quote ∷ comma ∷ []) l) (line-to a b)
+abbrev pub row-quoted : ℕ → List ℕ → List ℕ → Option (Line × List ℕ)
+row-quoted a b l = next (behind (quote ∷ comma ∷ []) l) (row-to a b)
 
-abbrev line-label : ℕ → List ℕ → Option Line
-line-label a l = line-quoted a (labelIn l) (drop (length (labelIn l)) l)
+abbrev row-label : ℕ → List ℕ → Option (Line × List ℕ)
+row-label a l = row-quoted a (labelTo l) (drop (length (labelTo l)) l)
 
-abbrev line-from : List ℕ → Option Line
-line-from l = next (numberIn l) (λ n. next (behind (comma ∷ quote ∷ []) (n .1)) (line-label (n .0)))
+abbrev row-from : List ℕ → Option (Line × List ℕ)
+row-from l = next (numberIn l) (λ n. next (behind (comma ∷ quote ∷ []) (n .1)) (row-label (n .0)))
 
--- a label is the front of the line
-label-fit : (l : List ℕ) → length (labelIn l) ≤ length l
-label-fit l = omega (arith, ap length (label-split l), length-append (labelIn l) (drop (length (labelIn l)) l))
+-- a label is the front of what stands from its place on
+label-front : (l : List ℕ) → l ≡ labelTo l ++ drop (length (labelTo l)) l
+unfolding labelTo
+label-front [] = refl
+label-front (b ∷ l) = go (eqb b quote || eqb b lineFeed) (label-front l)
+  where
+    go : (x : Bool) → l ≡ labelTo l ++ drop (length (labelTo l)) l
+        → b ∷ l ≡ cond x [] (b ∷ labelTo l) ++ drop (length (cond x [] (b ∷ labelTo l))) (b ∷ l)
+    go true r = refl
+    go false r = ap (b ∷_) r
 
-label-taken : (l : List ℕ) → take (length (labelIn l)) l ≡ labelIn l
-label-taken l = ap (take (length (labelIn l))) (label-split l)
-    ∙ take-append-seam (labelIn l) (drop (length (labelIn l)) l)
+label-fit : (l : List ℕ) → length (labelTo l) ≤ length l
+label-fit l = omega (arith, ap length (label-front l), length-append (labelTo l) (drop (length (labelTo l)) l))
+
+label-taken : (l : List ℕ) → take (length (labelTo l)) l ≡ labelTo l
+label-taken l = ap (take (length (labelTo l))) (label-front l)
+    ∙ take-append-seam (labelTo l) (drop (length (labelTo l)) l)
 
 -- a label, then what follows it
-label-step : {B : Type 0} (line : List ℕ) (p q : ℕ) (k : List ℕ → List ℕ → Option B)
-    → q ≡ p + length (labelIn (drop p line))
-    → next (restAt line p) (λ l. k (labelIn l) (drop (length (labelIn l)) l))
-    ≡ next (restAt line q) (k (labelIn (drop p line)))
-label-step {B} line p q k e = go (leb p (length line)) refl
+label-step : {B : Type 0} (text : List ℕ) (p q : ℕ) (k : List ℕ → List ℕ → Option B)
+    → q ≡ p + length (labelTo (drop p text))
+    → next (restAt text p) (λ l. k (labelTo l) (drop (length (labelTo l)) l))
+    ≡ next (restAt text q) (k (labelTo (drop p text)))
+label-step {B} text p q k e = go (leb p (length text)) refl
   where
-    go : (b : Bool) → leb p (length line) ≡ b
-        → next (restAt line p) (λ l. k (labelIn l) (drop (length (labelIn l)) l))
-        ≡ next (restAt line q) (k (labelIn (drop p line)))
+    go : (b : Bool) → leb p (length text) ≡ b
+        → next (restAt text p) (λ l. k (labelTo l) (drop (length (labelTo l)) l))
+        ≡ next (restAt text q) (k (labelTo (drop p text)))
     go true h =
-        let fits : q ≤ length line =
-        omega (arith, e, leb-true p (length line) h, label-fit (drop p line), length-drop p line) in
-        let here : restAt line q ≡ some (drop (length (labelIn (drop p line))) (drop p line)) =
-        rest-in line q fits ∙ ap some (ap (λ n. drop n line) e ∙ sym (drop-drop _ p line)) in
-        rw (rest-in line p (leb-true p (length line) h), here)
+        let fits : q ≤ length text =
+        omega (arith, e, leb-true p (length text) h, label-fit (drop p text), length-drop p text) in
+        let here : restAt text q ≡ some (drop (length (labelTo (drop p text))) (drop p text)) =
+        rest-in text q fits ∙ ap some (ap (λ n. drop n text) e ∙ sym (drop-drop _ p text)) in
+        rw (rest-in text p (leb-true p (length text) h), here)
     go false h =
-        let far : length line < q = omega (arith, e, leb-false p (length line) h) in
-        rw (rest-out line p (leb-false p (length line) h), rest-out line q far)
+        let far : length text < q = omega (arith, e, leb-false p (length text) h) in
+        rw (rest-out text p (leb-false p (length text) h), rest-out text q far)
 
--- what stands behind a place in the line stands behind one in the line
-module _ (line : List ℕ) where
-  back : (p : ℕ) (o : Option (List ℕ)) → (restAt line p ≡ none → o ≡ none) → (o ≡ none → ⊥) → p ≤ length line
-  back p o f g = go (leb p (length line)) refl
+-- what stands behind a place in the text stands behind one in the text
+module _ (text : List ℕ) where
+  back : (p : ℕ) (o : Option (List ℕ)) → (restAt text p ≡ none → o ≡ none) → (o ≡ none → ⊥) → p ≤ length text
+  back p o f g = go (leb p (length text)) refl
     where
-      go : (b : Bool) → leb p (length line) ≡ b → p ≤ length line
-      go true h = leb-true p (length line) h
-      go false h = absurd (g (f (rest-out line p (leb-false p (length line) h))))
+      go : (b : Bool) → leb p (length text) ≡ b → p ≤ length text
+      go true h = leb-true p (length text) h
+      go false h = absurd (g (f (rest-out text p (leb-false p (length text) h))))
 
-  there : (q : ℕ) → q ≤ length line → restAt line q ≡ none → ⊥
+  there : (q : ℕ) → q ≤ length text → restAt text q ≡ none → ⊥
   there q h e =
-      let s : restAt line q ≡ some (drop q line) = rest-in line q h in
+      let s : restAt text q ≡ some (drop q text) = rest-in text q h in
       apart cc
 
-  bytes-back : (p q : ℕ) (bytes : List ℕ) → restAt line q ≡ next (restAt line p) (behind bytes) → q ≤ length line
-      → p ≤ length line
-  bytes-back p q bytes e h = back p (restAt line q) (λ z. e ∙ ap (λ o. next o (behind bytes)) z) (there q h)
+  bytes-back : (p q : ℕ) (bytes : List ℕ) → restAt text q ≡ next (restAt text p) (behind bytes) → q ≤ length text
+      → p ≤ length text
+  bytes-back p q bytes e h = back p (restAt text q) (λ z. e ∙ ap (λ o. next o (behind bytes)) z) (there q h)
 
-  number-back : (p : ℕ) (r : Number) → numberAt line r ≡ next (restAt line p) numberIn → r .end ≤ length line
-      → p ≤ length line
+  number-back : (p : ℕ) (r : Number) → numberAt text r ≡ next (restAt text p) numberIn → r .end ≤ length text
+      → p ≤ length text
   unfolding numberAt
-  number-back p r e h = back p (restAt line (r .end))
-      (λ z. unsaid (restAt line (r .end)) (λ l. (r .value, l)) (e ∙ ap (λ o. next o numberIn) z)) (there (r .end) h)
+  number-back p r e h = back p (restAt text (r .end))
+      (λ z. unsaid (restAt text (r .end)) (λ l. (r .value, l)) (e ∙ ap (λ o. next o numberIn) z)) (there (r .end) h)
     where
       unsaid : {A B : Type 0} (o : Option A) (f : A → B) → next o (λ x. some (f x)) ≡ none → o ≡ none
       unsaid none f e = refl
       unsaid (some l) f e = absurd (apart cc)
 
--- `(from,"label",to)`
-module _ (line : List ℕ) (opened comma1 label end1 closed second end : ℕ) (from to : Number)
-    (a : restAt line opened ≡ next (restAt line 0) (behind (40 ∷ [])))
-    (b : numberAt line from ≡ next (restAt line opened) numberIn)
-    (c : restAt line comma1 ≡ next (restAt line (from .end)) (behind (44 ∷ [])))
-    (d : restAt line label ≡ next (restAt line comma1) (behind (34 ∷ [])))
-    (e : end1 ≡ label + length (labelIn (drop label line)))
-    (f : restAt line closed ≡ next (restAt line end1) (behind (34 ∷ [])))
-    (g : restAt line second ≡ next (restAt line closed) (behind (44 ∷ [])))
-    (h : numberAt line to ≡ next (restAt line second) numberIn)
-    (i : restAt line end ≡ next (restAt line (to .end)) (behind (41 ∷ []))) where
-  pub line-read : guard (eqb end (length line))
-      (record { from = from .value; label = take (end1 - label) (drop label line); to = to .value }) ≡ lineIn line
-  unfolding lineIn
-  line-read =
-      let n : end1 - label ≡ length (labelIn (drop label line)) = omega (arith, e) in
-      let l : take (end1 - label) (drop label line) ≡ labelIn (drop label line) =
-      ap (λ k. take k (drop label line)) n ∙ label-taken (drop label line) in
-      let bytes = labelIn (drop label line) in
-      rw l (sym
-      (ap (λ o. next (next o (behind (40 ∷ []))) line-from) (sym (rest-in line 0 (omega arith)))
-      ∙ ap (λ o. next o line-from) (sym a)
-      ∙ number-step line opened from (λ x l. next (behind (comma ∷ quote ∷ []) l) (line-label x)) b
-      ∙ bytes-step line (from .end) label (44 ∷ 34 ∷ []) (line-label (from .value))
-      (d ∙ sym (first-step line (from .end) comma1 44 (34 ∷ []) c))
-      ∙ label-step line label end1 (line-quoted (from .value)) e
-      ∙ bytes-step line end1 second (34 ∷ 44 ∷ []) (line-to (from .value) bytes)
-      (g ∙ sym (first-step line end1 closed 34 (44 ∷ []) f))
-      ∙ number-step line second to (line-end (from .value) bytes) h
-      ∙ bytes-step line (to .end) end (41 ∷ []) (λ m. ending m _) i
-      ∙ end-step line end _))
+-- `(from,"label",to)` and a line feed
+module _ (text : List ℕ) (at opened comma1 label end1 closed second end2 end : ℕ) (from to : Number)
+    (a : restAt text opened ≡ next (restAt text at) (behind (40 ∷ [])))
+    (b : numberAt text from ≡ next (restAt text opened) numberIn)
+    (c : restAt text comma1 ≡ next (restAt text (from .end)) (behind (44 ∷ [])))
+    (d : restAt text label ≡ next (restAt text comma1) (behind (34 ∷ [])))
+    (e : end1 ≡ label + length (labelTo (drop label text)))
+    (f : restAt text closed ≡ next (restAt text end1) (behind (34 ∷ [])))
+    (g : restAt text second ≡ next (restAt text closed) (behind (44 ∷ [])))
+    (h : numberAt text to ≡ next (restAt text second) numberIn)
+    (i : restAt text end2 ≡ next (restAt text (to .end)) (behind (41 ∷ [])))
+    (j : restAt text end ≡ next (restAt text end2) (behind (10 ∷ []))) where
+  abbrev told : List ℕ → Line
+  told bytes = record { from = from .value; label = bytes; to = to .value }
 
-  pub line-inside : eqb end (length line) ≡ true → (label ≤ end1) × (end1 ≤ length line)
-  line-inside z =
-      let last : end ≤ length line = omega (arith, eqb-true end (length line) z) in
-      let number : to .end ≤ length line = bytes-back line (to .end) end _ i last in
-      let start : second ≤ length line = number-back line second to h number in
-      (omega (arith, e), bytes-back line end1 closed _ f (bytes-back line closed second _ g start))
+  pub row-read : guard (leb end (length text)) (told (take (end1 - label) (drop label text)), drop end text)
+      ≡ next (restAt text at) rowIn
+  unfolding rowIn restAt
+  row-read =
+      let n : end1 - label ≡ length (labelTo (drop label text)) = omega (arith, e) in
+      let l : take (end1 - label) (drop label text) ≡ labelTo (drop label text) =
+      ap (λ k. take k (drop label text)) n ∙ label-taken (drop label text) in
+      let bytes = labelTo (drop label text) in
+      rw l (sym
+      (bytes-step text at opened (40 ∷ []) row-from a
+      ∙ number-step text opened from (λ x l. next (behind (comma ∷ quote ∷ []) l) (row-label x)) b
+      ∙ bytes-step text (from .end) label (44 ∷ 34 ∷ []) (row-label (from .value))
+      (d ∙ sym (first-step text (from .end) comma1 44 (34 ∷ []) c))
+      ∙ label-step text label end1 (row-quoted (from .value)) e
+      ∙ bytes-step text end1 second (34 ∷ 44 ∷ []) (row-to (from .value) bytes)
+      (g ∙ sym (first-step text end1 closed 34 (44 ∷ []) f))
+      ∙ number-step text second to (row-end (from .value) bytes) h
+      ∙ bytes-step text (to .end) end (41 ∷ 10 ∷ []) (λ rest. some (told bytes, rest))
+      (j ∙ sym (first-step text (to .end) end2 41 (10 ∷ []) i))
+      ∙ guarded (leb end (length text))))
+    where
+      guarded : (x : Bool)
+          → next {B = Line × List ℕ} (guard x (drop end text)) (λ rest. some (told (labelTo (drop label text)), rest))
+          ≡ guard x (told (labelTo (drop label text)), drop end text)
+      guarded true = refl
+      guarded false = refl
+
+  pub row-inside : leb end (length text) ≡ true → (label ≤ end1) × (end1 ≤ length text) × (end ≤ length text)
+  row-inside z =
+      let last : end2 ≤ length text = bytes-back text end2 end _ j (leb-true end (length text) z) in
+      let number : to .end ≤ length text = bytes-back text (to .end) end2 _ i last in
+      let start : second ≤ length text = number-back text second to h number in
+      let label-end : end1 ≤ length text = bytes-back text end1 closed _ f (bytes-back text closed second _ g start) in
+      (omega (arith, e), label-end, leb-true end (length text) z)

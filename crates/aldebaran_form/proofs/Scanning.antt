@@ -1,22 +1,21 @@
--- What stands at a place of a line: the laws of past, digits_at, number_at and quote_from over plain lists.
-use Prim.Native.Nat.{ℕ, suc, _+_, _-_, _*_, _^_, _≤_, _<_, min}
+-- What stands at a place of a line or a text: the laws of past, number_at and quote_from over plain lists.
+use Prim.Native.Nat.{ℕ, _+_, _-_, _*_, _≤_, _<_}
 use mathlib.Core.Path.{_≡_, refl, sym, _∙_, ap}
 use mathlib.Core.Bool.{Bool, true, false}
 use mathlib.Core.List.{List, [], _∷_}
 use mathlib.Core.Option.{Option, none, some}
 use native.Mathlib.Omega.{arith}
-use native.Mathlib.Nat.{pow-le-pow-right}
 use native.Mathlib.Numerals.{add-one, lt-of-le-of-ne}
-use lib.ListN.{length, getD, take, drop, length-drop, drop-of-length-le}
-use lib.Seq.{drop-cons, drop-drop, getD-drop, take-nil, take-all}
+use lib.ListN.{length, getD, drop, drop-of-length-le}
+use lib.Seq.{drop-cons}
 use lib.Dec.{leb}
-use borrow.Author.Tests.{le-leb, lt-leb, leb-true, leb-false, eq-eqb, ne-eqb}
-use Rattle.hml.proofs.Tests.{apart}
+use borrow.Author.Tests.{le-leb, lt-leb, leb-true, leb-false, lt-ltb, le-ltb, eq-eqb, ne-eqb}
+use Rattle.hml.specs.Lists.{guard}
 use Rattle.digits.specs.Digits.{readFrom}
-use Rattle.aldebaran_form.specs.Lines.{next, behind, isDigit, digitsIn, isNumber, numberIn, labelIn}
-use Rattle.aldebaran_form.specs.Working.{restAt, numberAt}
-use Rattle.aldebaran_form.proofs.WrittenNumbers.{digits-fit, digits-front, number-one, number-zero, number-long}
-use Rattle.aldebaran_form.proofs.WrittenNumbers.{number-led, number-more}
+use Rattle.aldebaran_form.specs.Lines.{next, behind, isDigit, digitsIn, isNumber, numberIn}
+use Rattle.aldebaran_form.specs.Working.{restAt, numberAt, goesOn, numberFrom, labelTo}
+use Rattle.aldebaran_form.specs.declared.scan.Number.{Number}
+use Rattle.aldebaran_form.proofs.WrittenNumbers.{number-zero, read-grows, first-digit}
 
 -- a place in the line, or at its end, and one beyond it
 pub rest-in : (line : List ℕ) (at : ℕ) → at ≤ length line → restAt line at ≡ some (drop at line)
@@ -84,100 +83,6 @@ module _ (line : List ℕ) (i : ℕ) where
   unfolding digitsIn
   digit-end h = ap digitsIn (drop-of-length-le line {i = i} h)
 
--- a place further on has less of the line behind it
-pub nearer : (n i : ℕ) → i < n → n - (i + 1) < n - i
-nearer n i h = omega arith
-
--- what digits_at promises of its answer
-abbrev pub DigitsFound : List ℕ → ℕ → ℕ → ℕ → Type 0
-DigitsFound line at value end =
-    (end ≡ at + min 6 (length (digitsIn (drop at line)))) × (value ≡ readFrom 0 (take 6 (digitsIn (drop at line))))
-
--- digits_at between two digits: what it has read, and what it will read
-pub record DigitsRead (line : List ℕ) (at value end : ℕ) : Type 0 where
-  pub from : at ≤ end
-  pub within : end ≤ length line
-  pub few : end ≤ at + 6
-  pub small : value < 10 ^ (end - at)
-  pub count : at + min 6 (length (digitsIn (drop at line)))
-      ≡ end + min (at + 6 - end) (length (digitsIn (drop end line)))
-  pub said : readFrom 0 (take 6 (digitsIn (drop at line)))
-      ≡ readFrom value (take (at + 6 - end) (digitsIn (drop end line)))
-
-one-more : (x end left rest n m : ℕ) → x ≡ end + min left n → left ≡ suc rest → n ≡ suc m → x ≡ end + 1 + min rest m
-one-more x end left rest n m p q r = omega arith
-
-pub digits-begin : (line : List ℕ) (at : ℕ) → at ≤ length line → DigitsRead line at 0 at
-digits-begin line at h =
-    let z : at + 6 - at ≡ 6 = omega arith in
-    let y : at - at ≡ 0 = omega arith in
-    record {
-      from = omega arith;
-      within = h;
-      few = omega arith;
-      small = rw y (omega arith);
-      count = rw z;
-      said = rw z;
-    }
-
-trans-lt : (v p : ℕ) → v < p → p ≤ 100000 → v < 100000
-trans-lt v p h i = omega arith
-
-tenfold : (v : ℕ) → v < 100000 → 10 * v < 2 ^ 64
-tenfold v h = omega arith
-
-tenfold-more : (v b : ℕ) → v < 100000 → b ≤ 57 → 10 * v + (b - 48) < 2 ^ 64
-tenfold-more v b h i = omega arith
-
-module _ (line : List ℕ) (at value end : ℕ) (r : DigitsRead line at value end) where
-  -- with less than six digits read, one more fits
-  fewer : (end - at ≡ 6 → ⊥) → end - at < 6
-  fewer odd = lt-of-le-of-ne (omega (arith, r .few)) odd
-
-  digits-small : (end - at ≡ 6 → ⊥) → value < 100000
-  digits-small odd = trans-lt value (10 ^ (end - at)) (r .small)
-      (pow-le-pow-right {n = 10} (omega arith) {i = end - at} {j = 5} (omega (arith, fewer odd)))
-
-  pub digits-ten : (end - at ≡ 6 → ⊥) → 10 * value < 2 ^ 64
-  digits-ten odd = tenfold value (digits-small odd)
-
-  pub digits-value : (b : ℕ) → b ≤ 57 → (end - at ≡ 6 → ⊥) → 10 * value + (b - 48) < 2 ^ 64
-  digits-value b high odd = tenfold-more value b (digits-small odd) high
-
-  pub digits-over : digitsIn (drop end line) ≡ [] → DigitsFound line at value end
-  unfolding readFrom
-  digits-over e =
-      let n : length (digitsIn (drop end line)) ≡ 0 = ap length e in (
-        omega (arith, n, r .count),
-        sym (r .said ∙ ap (λ d. readFrom value (take (at + 6 - end) d)) e
-            ∙ ap (readFrom value) (take-nil (at + 6 - end))),
-      )
-
-  pub digits-six : end - at ≡ 6 → DigitsFound line at value end
-  unfolding readFrom
-  digits-six h =
-      let z : at + 6 - end ≡ 0 = omega (arith, h) in
-      (omega (arith, z, r .count), sym (r .said ∙ ap (λ n. readFrom value (take n (digitsIn (drop end line)))) z))
-
-  pub digits-again : end < length line → 48 ≤ getD line end 0 → getD line end 0 ≤ 57 → (end - at ≡ 6 → ⊥)
-      → DigitsRead line at (10 * value + (getD line end 0 - 48)) (end + 1)
-  unfolding readFrom
-  digits-again h low high odd =
-      let five : end - at < 6 = fewer odd in
-      let z : at + 6 - end ≡ suc (at + 6 - (end + 1)) = omega arith in
-      let y : end + 1 - at ≡ suc (end - at) = omega (arith, r .from) in
-      let d : digitsIn (drop end line) ≡ getD line end 0 ∷ digitsIn (drop (end + 1) line) =
-      digit-next line end h low high in
-      let n : length (digitsIn (drop end line)) ≡ suc (length (digitsIn (drop (end + 1) line))) = ap length d in
-      record {
-        from = omega (arith, r .from);
-        within = omega arith;
-        few = omega arith;
-        small = rw y (omega (arith, r .small));
-        count = one-more _ end _ _ _ _ (r .count) z n;
-        said = r .said ∙ rw (z, d);
-      }
-
 -- the number that is due
 module _ (line : List ℕ) (at : ℕ) where
   at-nowhere : numberAt line (record { value = 0; end = length line + 1 }) ≡ none
@@ -194,94 +99,112 @@ module _ (line : List ℕ) (at : ℕ) where
   unfolding numberIn
   number-none h e = at-nowhere ∙ sym (rw (rest-in line at (omega arith), e))
 
-  number-there : (value end : ℕ) → at < length line → isNumber (digitsIn (drop at line)) ≡ true
-      → end ≡ at + length (digitsIn (drop at line)) → value ≡ readFrom 0 (digitsIn (drop at line))
-      → numberAt line (record { value = value; end = end }) ≡ next (restAt line at) numberIn
-  unfolding numberAt numberIn
-  number-there value end h e p q =
-      let fits : end ≤ length line =
-      omega (arith, p, digits-fit (drop at line), length-drop at line) in
-      let here : restAt line end ≡ some (drop (length (digitsIn (drop at line))) (drop at line)) =
-      rest-in line end fits ∙ ap some (ap (λ n. drop n line) p ∙ sym (drop-drop _ at line)) in
-      rw (here, rest-in line at (omega arith), e, q)
+-- a number behind its first digit: nothing follows, or a digit
+module _ (n : ℕ) (rest : List ℕ) where
+  from-over : digitsIn rest ≡ [] → numberFrom n rest ≡ some (n, rest)
+  unfolding numberFrom goesOn readFrom
+  from-over e = rw e
 
--- what digits_at found, as number_at judges it
-module _ (line : List ℕ) (at value end : ℕ) (h : at < length line) (p : DigitsFound line at value end) where
-  short : length (digitsIn (drop at line)) ≤ 5 → value ≡ readFrom 0 (digitsIn (drop at line))
-  short i = p .1 ∙ ap (readFrom 0) (take-all 6 (digitsIn (drop at line)) (omega arith))
+  from-led : (b : ℕ) (d : List ℕ) → digitsIn rest ≡ b ∷ d → n ≡ 0 → numberFrom n rest ≡ none
+  unfolding numberFrom goesOn
+  from-led b d e z = rw (e, z)
 
-  front : 1 ≤ length (digitsIn (drop at line)) → getD (digitsIn (drop at line)) 0 0 ≡ getD line at 0
-  front i =
-      let z : at + 0 ≡ at = omega arith in
-      digits-front (drop at line) i ∙ getD-drop at line 0 0 ∙ ap (λ n. getD line n 0) z
+  from-long : (b : ℕ) (d : List ℕ) → digitsIn rest ≡ b ∷ d → 9999 < n → numberFrom n rest ≡ none
+  unfolding numberFrom goesOn readFrom
+  from-long b d e h =
+      let far : 100000 ≤ readFrom (10 * n + (b - 48)) d = omega (arith, h, read-grows d (10 * n + (b - 48))) in
+      rw (e, le-leb 1 n (omega arith), le-ltb (readFrom (10 * n + (b - 48)) d) 100000 far)
 
-  pub at-one : end - at ≡ 1 → numberAt line (record { value = value; end = end }) ≡ next (restAt line at) numberIn
-  at-one e =
-      let n : length (digitsIn (drop at line)) ≡ 1 = omega (arith, p .0, e) in
-      number-there line at value end h (number-one _ n) (omega (arith, p .0)) (short (omega arith))
+from-more : (n b : ℕ) (rest : List ℕ) → 48 ≤ b → b ≤ 57 → (n ≡ 0 → ⊥) → n ≤ 9999
+    → numberFrom n (b ∷ rest) ≡ numberFrom (10 * n + (b - 48)) rest
+unfolding numberFrom goesOn digitsIn isDigit readFrom
+from-more n b rest low high odd h =
+    rw (le-leb 48 b low, le-leb b 57 high)
+    (ap (λ x. guard x (readFrom (10 * n + (b - 48)) (digitsIn rest), drop (length (digitsIn rest)) rest))
+    (same (digitsIn rest)))
+  where
+    some-more : 1 ≤ n
+    some-more = lt-of-le-of-ne (omega arith) (λ z. odd (sym z))
 
-  pub at-none : end - at ≡ 0
+    same : (d : List ℕ) → goesOn n (b ∷ d) ≡ goesOn (10 * n + (b - 48)) d
+    same [] = rw (le-leb 1 n some-more, lt-ltb (10 * n + (b - 48)) 100000 (omega arith))
+    same (c ∷ d) = rw (le-leb 1 n some-more, le-leb 1 (10 * n + (b - 48)) (omega (arith, some-more)))
+
+-- number_from between two digits: what it has read gives what it will read
+pub record NumberRead (line : List ℕ) (at first value end : ℕ) : Type 0 where
+  pub within : end ≤ length line
+  pub same : numberFrom first (drop at line) ≡ numberFrom value (drop end line)
+
+pub read-begin : (line : List ℕ) (at first : ℕ) → at ≤ length line → NumberRead line at first first at
+read-begin line at first h = record { within = h; same = refl }
+
+module _ (line : List ℕ) (at first value end : ℕ) (r : NumberRead line at first value end) where
+  pub read-over : digitsIn (drop end line) ≡ []
+      → numberAt line (record { value = value; end = end }) ≡ numberFrom first (drop at line)
+  unfolding numberAt
+  read-over e = rw (rest-in line end (r .within)) (sym (r .same ∙ from-over value (drop end line) e))
+
+  module _ (h : end < length line) (low : 48 ≤ getD line end 0) (high : getD line end 0 ≤ 57) where
+    pub read-led : value ≡ 0
+        → numberAt line (record { value = 0; end = length line + 1 }) ≡ numberFrom first (drop at line)
+    read-led z = at-nowhere line at
+        ∙ sym (r .same ∙ from-led value (drop end line) _ _ (digit-next line end h low high) z)
+
+    pub read-long : 9999 < value
+        → numberAt line (record { value = 0; end = length line + 1 }) ≡ numberFrom first (drop at line)
+    read-long g = at-nowhere line at
+        ∙ sym (r .same ∙ from-long value (drop end line) _ _ (digit-next line end h low high) g)
+
+    pub read-again : (value ≡ 0 → ⊥) → value ≤ 9999
+        → NumberRead line at first (10 * value + (getD line end 0 - 48)) (end + 1)
+    read-again odd g = record {
+      within = omega arith;
+      same = r .same ∙ ap (numberFrom value) (byte-at line end h)
+          ∙ from-more value (getD line end 0) (drop (end + 1) line) low high odd g;
+    }
+
+-- number_at: the first digit, then the others
+module _ (line : List ℕ) (at : ℕ) (h : at < length line) where
+  pub number-low : getD line at 0 < 48
       → numberAt line (record { value = 0; end = length line + 1 }) ≡ next (restAt line at) numberIn
-  at-none e = number-none line at h (number-zero _ (omega (arith, p .0, e)))
+  number-low low = number-none line at h (number-zero _ (ap length (digit-low line at h low)))
 
-  pub at-long : end - at ≡ 6
+  pub number-high : 57 < getD line at 0
       → numberAt line (record { value = 0; end = length line + 1 }) ≡ next (restAt line at) numberIn
-  at-long e = number-none line at h (number-long _ (omega (arith, p .0, e)))
+  number-high high = number-none line at h (number-zero _ (ap length (digit-high line at h high)))
 
-  -- two to five digits
-  module _ (one : end - at ≡ 1 → ⊥) (some : end - at ≡ 0 → ⊥) (six : end - at ≡ 6 → ⊥) where
-    count : (2 ≤ length (digitsIn (drop at line))) × (length (digitsIn (drop at line)) ≤ 5)
-    count =
-        let a : 0 < end - at = lt-of-le-of-ne (omega arith) (λ e. some (sym e)) in
-        let b : 1 < end - at = lt-of-le-of-ne (omega arith) (λ e. one (sym e)) in
-        let c : end - at < 6 = lt-of-le-of-ne (omega (arith, p .0)) six in
-        (omega (arith, p .0), omega (arith, p .0))
-
-    pub at-led : getD line at 0 ≡ 48
-        → numberAt line (record { value = 0; end = length line + 1 }) ≡ next (restAt line at) numberIn
-    at-led e = number-none line at h
-        (number-led _ (count .0) (count .1) (front (omega (arith, count)) ∙ e))
-
-    pub at-more : (getD line at 0 ≡ 48 → ⊥)
-        → numberAt line (record { value = value; end = end }) ≡ next (restAt line at) numberIn
-    at-more f = number-there line at value end h
-        (number-more _ (count .0) (count .1) (λ e. f (sym (front (omega (arith, count))) ∙ e)))
-        (omega (arith, p .0, count)) (short (count .1))
+  pub number-first : (r : Number) → 48 ≤ getD line at 0 → getD line at 0 ≤ 57
+      → numberAt line r ≡ numberFrom (getD line at 0 - 48) (drop (at + 1) line)
+      → numberAt line r ≡ next (restAt line at) numberIn
+  number-first r low high e = e ∙ sym
+      (ap (λ o. next o numberIn) (rest-byte line at h)
+      ∙ first-digit (getD line at 0) (drop (at + 1) line) low high)
 
 -- the bytes of a label from a place on
-module _ (line : List ℕ) (i : ℕ) where
-  label-next : i < length line → (getD line i 0 ≡ 34 → ⊥)
-      → labelIn (drop i line) ≡ getD line i 0 ∷ labelIn (drop (i + 1) line)
-  unfolding labelIn
-  label-next h f = ap labelIn (byte-at line i h) ∙ rw (ne-eqb _ _ f)
+module _ (text : List ℕ) (i : ℕ) where
+  label-next : i < length text → (getD text i 0 ≡ 34 → ⊥) → (getD text i 0 ≡ 10 → ⊥)
+      → labelTo (drop i text) ≡ getD text i 0 ∷ labelTo (drop (i + 1) text)
+  unfolding labelTo
+  label-next h f g = ap labelTo (byte-at text i h) ∙ rw (ne-eqb _ _ f, ne-eqb _ _ g)
 
-  pub label-quote : i < length line → getD line i 0 ≡ 34 → labelIn (drop i line) ≡ []
-  unfolding labelIn
-  label-quote h e = ap labelIn (byte-at line i h) ∙ rw (eq-eqb _ _ e)
+  pub label-quote : i < length text → getD text i 0 ≡ 34 → labelTo (drop i text) ≡ []
+  unfolding labelTo
+  label-quote h e = ap labelTo (byte-at text i h) ∙ rw (eq-eqb _ _ e)
 
-  pub label-end : length line ≤ i → labelIn (drop i line) ≡ []
-  unfolding labelIn
-  label-end h = ap labelIn (drop-of-length-le line {i = i} h)
+  pub label-feed : i < length text → getD text i 0 ≡ 10 → labelTo (drop i text) ≡ []
+  unfolding labelTo
+  label-feed h e = ap labelTo (byte-at text i h) ∙ rw e
+
+  pub label-end : length text ≤ i → labelTo (drop i text) ≡ []
+  unfolding labelTo
+  label-end h = ap labelTo (drop-of-length-le text {i = i} h)
 
 -- quote_from between two bytes: its place and the label from there on come to the same end
-module _ (line : List ℕ) (at end : ℕ)
-    (r : at + length (labelIn (drop at line)) ≡ end + length (labelIn (drop end line))) where
-  pub quote-over : labelIn (drop end line) ≡ [] → end ≡ at + length (labelIn (drop at line))
+module _ (text : List ℕ) (at end : ℕ)
+    (r : at + length (labelTo (drop at text)) ≡ end + length (labelTo (drop end text))) where
+  pub quote-over : labelTo (drop end text) ≡ [] → end ≡ at + length (labelTo (drop at text))
   quote-over e = omega (arith, r, ap length e)
 
-  pub quote-again : end < length line → (getD line end 0 ≡ 34 → ⊥)
-      → at + length (labelIn (drop at line)) ≡ end + 1 + length (labelIn (drop (end + 1) line))
-  quote-again h f = omega (arith, r, ap length (label-next line end h f))
-
--- nothing stands at the end alone
-pub rest-nil : (line : List ℕ) (at : ℕ) → restAt line at ≡ some [] → at ≡ length line
-rest-nil line at e = go (leb at (length line)) refl
-  where
-    go : (b : Bool) → leb at (length line) ≡ b → at ≡ length line
-    go true h =
-        let s : restAt line at ≡ some (drop at line) = rest-in line at (leb-true at (length line) h) in
-        let z : drop at line ≡ [] = cc in
-        omega (arith, ap length z, length-drop at line, leb-true at (length line) h)
-    go false h =
-        let s : restAt line at ≡ none = rest-out line at (leb-false at (length line) h) in
-        absurd (apart cc)
+  pub quote-again : end < length text → (getD text end 0 ≡ 34 → ⊥) → (getD text end 0 ≡ 10 → ⊥)
+      → at + length (labelTo (drop at text)) ≡ end + 1 + length (labelTo (drop (end + 1) text))
+  quote-again h f g = omega (arith, r, ap length (label-next text end h f g))

@@ -1,14 +1,14 @@
 -- Numbers in a line: a number that is written is read, and what is read is the number that is written there.
-use Prim.Native.Nat.{ℕ, zero, suc, _≤_, _<_}
+use Prim.Native.Nat.{ℕ, zero, suc, _+_, _-_, _*_, _≤_, _<_}
 use mathlib.Core.Path.{_≡_, refl, sym, _∙_, ap}
 use mathlib.Core.Bool.{Bool, true, false, cond, false≢true}
 use mathlib.Core.List.{List, [], _∷_, _++_}
 use mathlib.Core.Option.{Option, some}
 use native.Mathlib.Omega.{arith}
-use lib.ListN.{length, getD, drop, length-append, List·getD-append}
+use lib.ListN.{length, getD, drop, length-append}
 use lib.Seq.{drop-append-seam}
 use lib.Dec.{leb, ltb}
-use borrow.Author.Tests.{le-leb, lt-leb, leb-true, ltb-true, ltb-false, eq-eqb, ne-eqb}
+use borrow.Author.Tests.{le-leb, lt-leb, leb-true, leb-false, ltb-true, ltb-false, eq-eqb, ne-eqb}
 use Rattle.hml.specs.Lists.{guard}
 use Rattle.hml.proofs.Tests.{apart, both-true}
 use Rattle.digits.specs.Digits.{decimal, readFrom}
@@ -16,6 +16,7 @@ use Rattle.digits.proofs.DecimalLaws.{count-small, count-some, count-within, wi
 use Rattle.digits.proofs.Reading.{AllDigits, read-decimal, decimal-digits, decimal-front}
 use Rattle.digits.proofs.Reading.{decimal-read, decimal-read-one}
 use Rattle.aldebaran_form.specs.Lines.{isDigit, digitsIn, isNumber, numberIn}
+use Rattle.aldebaran_form.specs.Working.{goesOn, numberFrom}
 use Rattle.aldebaran_form.proofs.Lacks.{Lacks, lacks-places}
 
 -- digits are no other bytes
@@ -57,14 +58,10 @@ digits-split (b ∷ l) = go (isDigit b) (digits-split l)
     go true r = ap (b ∷_) r
     go false r = refl
 
--- so they are not longer than the line, and begin with its first byte
+-- so they are not longer than the line
 pub digits-fit : (l : List ℕ) → length (digitsIn l) ≤ length l
 digits-fit l =
     omega (arith, ap length (digits-split l), length-append (digitsIn l) (drop (length (digitsIn l)) l))
-
-pub digits-front : (l : List ℕ) → 1 ≤ length (digitsIn l) → getD (digitsIn l) 0 0 ≡ getD l 0 0
-digits-front l h = sym (ap (λ k. getD k 0 0) (digits-split l)
-    ∙ List·getD-append (digitsIn l) (drop (length (digitsIn l)) l) 0 0 h)
 
 digits-all : (l : List ℕ) → AllDigits (digitsIn l)
 unfolding digitsIn AllDigits
@@ -107,6 +104,76 @@ module _ (d : List ℕ) where
     unfolding isNumber
     number-more f =
         rw (le-leb 1 (length d) (omega arith), le-leb (length d) 5 i, ne-eqb _ _ not-one, ne-eqb _ _ f)
+
+-- a number read as its first digit and the others: the value tells how many there are
+pub read-grows : (d : List ℕ) (n : ℕ) → n ≤ readFrom n d
+unfolding readFrom
+read-grows [] n = omega arith
+read-grows (b ∷ d) n = omega (arith, read-grows d (10 * n + (b - 48)))
+
+same-test : (b : ℕ) (d : List ℕ) → AllDigits (b ∷ d) → isNumber (b ∷ d) ≡ goesOn (b - 48) d
+unfolding goesOn readFrom AllDigits
+same-test b [] a = number-one (b ∷ []) refl
+same-test b (c ∷ d) a = go (ltb 48 b) refl (ltb (readFrom (b - 48) (c ∷ d)) 100000) refl
+  where
+    digits : List ℕ
+    digits = b ∷ c ∷ d
+
+    value : readFrom 0 digits ≡ readFrom (b - 48) (c ∷ d)
+    value = let z : 10 * 0 + (b - 48) ≡ b - 48 = omega arith in ap (λ n. readFrom n (c ∷ d)) z
+
+    led : b ≡ 48 → (x : Bool) → leb (length digits) 5 ≡ x → isNumber digits ≡ false
+    led z true e = number-led digits (omega arith) (leb-true (length digits) 5 e) z
+    led z false e = number-long digits (leb-false (length digits) 5 e)
+
+    written : 48 < b → decimal (readFrom (b - 48) (c ∷ d)) ≡ digits
+    written h = ap decimal (sym value) ∙ decimal-read b (c ∷ d) h a
+
+    long : 48 < b → 100000 ≤ readFrom (b - 48) (c ∷ d) → (x : Bool) → leb (length digits) 5 ≡ x
+        → isNumber digits ≡ false
+    long h far true e =
+        let short : length (decimal (readFrom (b - 48) (c ∷ d))) ≤ 5 =
+        omega (arith, ap length (written h), leb-true (length digits) 5 e) in
+        absurd (omega (arith, far, within-count 5 (readFrom (b - 48) (c ∷ d)) short))
+    long h far false e = number-long digits (leb-false (length digits) 5 e)
+
+    go : (x : Bool) → ltb 48 b ≡ x → (y : Bool) → ltb (readFrom (b - 48) (c ∷ d)) 100000 ≡ y
+        → isNumber digits ≡ goesOn (b - 48) (c ∷ d)
+    go true p true q =
+        let h : 48 < b = ltb-true 48 b p in
+        let short : length digits ≤ 5 = omega (
+          arith,
+          ap length (written h),
+          count-within 4 (readFrom (b - 48) (c ∷ d)) (ltb-true (readFrom (b - 48) (c ∷ d)) 100000 q),
+        ) in
+        number-more digits (omega arith) short (λ z. omega (arith, z, h))
+        ∙ sym (rw (le-leb 1 (b - 48) (omega (arith, h)), q))
+    go true p false q =
+        let h : 48 < b = ltb-true 48 b p in
+        long h (ltb-false (readFrom (b - 48) (c ∷ d)) 100000 q) (leb (length digits) 5) refl
+        ∙ sym (rw (le-leb 1 (b - 48) (omega (arith, h)), q))
+    go false p y q =
+        let z : b ≡ 48 = omega (arith, ltb-false 48 b p, all-low) in
+        let zero-first : b - 48 ≡ 0 = omega (arith, z) in
+        led z (leb (length digits) 5) refl ∙ sym (rw zero-first)
+      where
+        all-low : 48 ≤ b
+        all-low = a 0 (omega arith) .0
+
+pub first-digit : (b : ℕ) (rest : List ℕ) → 48 ≤ b → b ≤ 57 → numberIn (b ∷ rest) ≡ numberFrom (b - 48) rest
+unfolding numberIn numberFrom digitsIn isDigit readFrom AllDigits
+first-digit b rest low high =
+    let z : 10 * 0 + (b - 48) ≡ b - 48 = omega arith in
+    rw (le-leb 48 b low, le-leb b 57 high)
+    (ap (λ x. guard x (read-on (10 * 0 + (b - 48)))) (same-test b (digitsIn rest) all)
+    ∙ ap (λ n. guard (goesOn (b - 48) (digitsIn rest)) (read-on n)) z)
+  where
+    read-on : ℕ → ℕ × List ℕ
+    read-on n = (readFrom n (digitsIn rest), drop (length (digitsIn rest)) rest)
+
+    all : AllDigits (b ∷ digitsIn rest)
+    all zero h = (low, omega (arith, high))
+    all (suc i) h = digits-all rest i (omega (arith, h))
 
 -- the number that is written
 is-number : (n : ℕ) → n < 100000 → isNumber (decimal n) ≡ true

@@ -1,4 +1,4 @@
-// The header and the lines of a text, each without its line feed.
+// The header without its line feed, and a line of a text with it.
 use crate::scan::number_at;
 use crate::scan::past;
 use crate::scan::quote_from;
@@ -7,8 +7,8 @@ ghost use mathlib.Core.Bool.{true};
 ghost use Prim.Native.Nat.{_≤_};
 ghost use lib.ListN.{length};
 ghost use Rattle.aldebaran_form.specs.Forms.{des};
-ghost use Rattle.aldebaran_form.specs.Lines.{behind, headerIn, lineIn};
-ghost use Rattle.aldebaran_form.specs.Working.{restAt, headerFound, lineFound};
+ghost use Rattle.aldebaran_form.specs.Lines.{next, behind, headerIn};
+ghost use Rattle.aldebaran_form.specs.Working.{restAt, headerFound, rowIn, lineFound};
 
 // What a header says; nothing, if it is not of the form.
 pub struct HeaderLine {
@@ -18,13 +18,15 @@ pub struct HeaderLine {
     pub states: usize,
 }
 
-// What a line says, its label as the part of the line from a place up to another; nothing, if it is not of the form.
+// What a line says, its label as the part of the text from a place up to another, and the place behind its line feed;
+// nothing, if it is not of the form.
 pub struct RowLine {
     pub formed: bool,
     pub from: usize,
     pub label: usize,
     pub quote: usize,
     pub to: usize,
+    pub behind: usize,
 }
 
 // `des (first,rows,states)`
@@ -57,26 +59,28 @@ fn past_des(line: &[u8]) -> usize
     past(line, blank, 40)
 }
 
-// `(from,"label",to)`
-pub fn row_line(line: &[u8]) -> RowLine
-    ensures found { λ r. ⌜ lineFound (now (line .entry)) r ≡ lineIn (now (line .entry)) ⌝ }
-    ensures inside { λ r.
-        ⌜ (r .formed ≡ true → (r .label ≤ r .quote) × (r .quote ≤ length (now (line .entry)))) ⌝ }
+// `(from,"label",to)` and a line feed, from a place of a text on
+pub fn row_line(text: &[u8], at: usize) -> RowLine
+    ensures found { λ r. ⌜ lineFound (now (text .entry)) r ≡ next (restAt (now (text .entry)) at) rowIn ⌝ }
+    ensures inside { λ r. ⌜ (r .formed ≡ true → (r .label ≤ r .quote)
+        × (r .quote ≤ length (now (text .entry))) × (r .behind ≤ length (now (text .entry)))) ⌝ }
 {
-    let opened = past(line, 0, 40);
-    let from = number_at(line, opened);
-    let behind = past(line, from.end, 44);
-    let label = past(line, behind, 34);
-    let quote = quote_from(line, label);
-    let closed = past(line, quote, 34);
-    let second = past(line, closed, 44);
-    let to = number_at(line, second);
-    let end = past(line, to.end, 41);
+    let opened = past(text, at, 40);
+    let from = number_at(text, opened);
+    let comma = past(text, from.end, 44);
+    let label = past(text, comma, 34);
+    let quote = quote_from(text, label);
+    let closed = past(text, quote, 34);
+    let second = past(text, closed, 44);
+    let to = number_at(text, second);
+    let end = past(text, to.end, 41);
+    let behind = past(text, end, 10);
     RowLine {
-        formed: end == line.len(),
+        formed: behind <= text.len(),
         from: from.value,
         label,
         quote,
         to: to.value,
+        behind,
     }
 }

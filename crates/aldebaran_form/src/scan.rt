@@ -1,12 +1,11 @@
-// Reading a line from left to right: what stands at a place, and the place behind it. Where what is due does not stand
-// there, the place behind it is nowhere: beyond the line's end.
+// Reading from left to right, in a line or in a text: what stands at a place, and the place behind it. Where what is
+// due does not stand there, the place behind it is nowhere: beyond the end.
 ghost use mathlib.Core.Path.{_≡_};
 ghost use mathlib.Core.List.{[], _∷_};
-ghost use Prim.Native.Nat.{_+_, _≤_, min};
-ghost use lib.ListN.{length, take, drop};
-ghost use Rattle.digits.specs.Digits.{readFrom};
-ghost use Rattle.aldebaran_form.specs.Lines.{next, behind, digitsIn, numberIn, labelIn};
-ghost use Rattle.aldebaran_form.specs.Working.{restAt, numberAt};
+ghost use Prim.Native.Nat.{_+_, _≤_};
+ghost use lib.ListN.{length, drop};
+ghost use Rattle.aldebaran_form.specs.Lines.{next, behind, numberIn};
+ghost use Rattle.aldebaran_form.specs.Working.{restAt, numberAt, numberFrom, labelTo};
 
 // A number, and the place behind it.
 pub(crate) struct Number {
@@ -37,30 +36,22 @@ pub(crate) fn number_at(line: &[u8], at: usize) -> Number
     if line.len() <= at {
         return nowhere;
     }
-    let number = digits_at(line, at);
-    let digits = number.end - at;
-    if digits == 1 {
-        return number;
-    }
-    if digits == 0 {
+    let byte = line[at];
+    if byte < 48 {
         return nowhere;
     }
-    if digits == 6 {
+    if 57 < byte {
         return nowhere;
     }
-    if line[at] == 48 {
-        return nowhere;
-    }
-    number
+    number_from(line, at + 1, (byte - 48) as usize)
 }
 
-// The digits that stand at a place, six at most, as a number.
-fn digits_at(line: &[u8], at: usize) -> Number
+// The number whose first digit, in front of a place, gave a value: no digit follows a 0, and five are the most.
+fn number_from(line: &[u8], at: usize, first: usize) -> Number
     requires { ⌜ at ≤ length (now line) ⌝ }
-    ensures { λ r. ⌜ (r .end ≡ at + min 6 (length (digitsIn (drop at (now (line .entry))))))
-        × (r .value ≡ readFrom 0 (take 6 (digitsIn (drop at (now (line .entry)))))) ⌝ }
+    ensures { λ r. ⌜ numberAt (now (line .entry)) r ≡ numberFrom first (drop at (now (line .entry))) ⌝ }
 {
-    let mut value: usize = 0;
+    let mut value = first;
     let mut end = at;
     while end < line.len() {
         let byte = line[end];
@@ -70,8 +61,17 @@ fn digits_at(line: &[u8], at: usize) -> Number
         if 57 < byte {
             return Number { value, end };
         }
-        if end - at == 6 {
-            return Number { value, end };
+        if value == 0 {
+            return Number {
+                value: 0,
+                end: line.len() + 1,
+            };
+        }
+        if 9999 < value {
+            return Number {
+                value: 0,
+                end: line.len() + 1,
+            };
         }
         value = 10 * value + (byte - 48) as usize;
         end += 1;
@@ -79,13 +79,17 @@ fn digits_at(line: &[u8], at: usize) -> Number
     Number { value, end }
 }
 
-// The place of the next double quote from a place on, or the line's end; a place beyond the line is kept.
-pub(crate) fn quote_from(line: &[u8], at: usize) -> usize
-    ensures { λ r. ⌜ r ≡ at + length (labelIn (drop at (now (line .entry)))) ⌝ }
+// The place of the next double quote or line feed from a place on, or the text's end; a place beyond it is kept.
+pub(crate) fn quote_from(text: &[u8], at: usize) -> usize
+    ensures { λ r. ⌜ r ≡ at + length (labelTo (drop at (now (text .entry)))) ⌝ }
 {
     let mut end = at;
-    while end < line.len() {
-        if line[end] == 34 {
+    while end < text.len() {
+        let byte = text[end];
+        if byte == 34 {
+            return end;
+        }
+        if byte == 10 {
             return end;
         }
         end += 1;

@@ -1,85 +1,75 @@
--- An i alone, or an a, a number from 1 to 15 and a sign; anything else is no label.
+-- By the length: an i alone, three bytes, or four.
 use borrow.Author.Needs.{needs}
 use Rattle.aldebaran_form.proofs.label.label_of.Statement.{statement}
 use Rattle.aldebaran_form.proofs.label.label_of.Tie as tie
-use Rattle.aldebaran_form.proofs.LabelReading.{is-silent, no-pair, over-pairs, first-sign, second-sign, no-sign}
+use mathlib.Core.Path.{_∙_, sym, ap}
+use Rattle.aldebaran_form.specs.Lines.{labelOf}
+use Rattle.aldebaran_form.specs.Working.{labelFound}
+use Rattle.aldebaran_form.proofs.LabelReading.{three-bytes, four-bytes, silent, not-silent, other-length}
 
-past-requires : tie.Need-past-requires
-past-requires c κs = search needs
+shared-slice-read-low-label : tie.Need-shared-slice-read-low-label
+shared-slice-read-low-label c = search needs
+
+shared-slice-read-low-label-2 : tie.Need-shared-slice-read-low-label-2
+shared-slice-read-low-label-2 c = search needs
+
+shared-slice-read-low-label-3 : tie.Need-shared-slice-read-low-label-3
+shared-slice-read-low-label-3 c = search needs
+
+low-label-requires : tie.Need-low-label-requires
+low-label-requires c κs = search needs
 
 returns : tie.Need-returns
-returns c = is-silent _ _ (c .before .past .ensures) (c .if1 .taken)
+returns c = c .low-label .ensures ∙ ap (λ l. labelFound (labelOf l))
+    (sym (three-bytes _ (c .before .before .before .before .if1 .taken)))
 
-past-requires-2 : tie.Need-past-requires-2
-past-requires-2 c κs = search needs
+shared-slice-read-high-label : tie.Need-shared-slice-read-high-label
+shared-slice-read-high-label c = search needs
 
-number-at-requires : tie.Need-number-at-requires
-number-at-requires c κs = search needs
+shared-slice-read-high-label-2 : tie.Need-shared-slice-read-high-label-2
+shared-slice-read-high-label-2 c = search needs
+
+shared-slice-read-high-label-3 : tie.Need-shared-slice-read-high-label-3
+shared-slice-read-high-label-3 c = search needs
+
+shared-slice-read-high-label-4 : tie.Need-shared-slice-read-high-label-4
+shared-slice-read-high-label-4 c = search needs
+
+high-label-requires : tie.Need-high-label-requires
+high-label-requires c κs = search needs
 
 returns-2 : tie.Need-returns-2
-returns-2 c = no-pair _ _ _ _ (c .before .before .before .before .past .ensures) (c .before .before .past2 .ensures)
-    (c .before .number-at .ensures) (c .before .before .before .if1 .left) (c .if2 .taken)
+returns-2 c = c .high-label .ensures ∙ ap (λ l. labelFound (labelOf l))
+    (sym (four-bytes _ (c .before .before .before .before .before .if2 .taken)))
+
+shared-slice-read-if4 : tie.Need-shared-slice-read-if4
+shared-slice-read-if4 c = search needs
 
 returns-3 : tie.Need-returns-3
-returns-3 c =
-    over-pairs _ _ _ _ (c .before .before .before .before .before .past .ensures)
-    (c .before .before .before .past2 .ensures) (c .before .before .number-at .ensures)
-    (c .before .before .before .before .if1 .left) (c .if3 .taken)
-
-cast-second : tie.Need-cast-second
-cast-second c = search needs
-
-mul-second : tie.Need-mul-second
-mul-second c = search needs
-
-past-requires-3 : tie.Need-past-requires-3
-past-requires-3 c κs = search needs
-
-sub-t10 : tie.Need-sub-t10
-sub-t10 c = search needs
+returns-3 c = silent _ (c .before .before .if3 .taken) (c .if4 .taken)
 
 returns-4 : tie.Need-returns-4
-returns-4 c =
-    first-sign _ _ _ _ (c .before .before .before .before .before .before .before .past .ensures)
-    (c .before .before .before .before .before .past2 .ensures)
-    (c .before .before .before .before .number-at .ensures) _ (c .before .before .before .if2 .left)
-    (c .before .before .if3 .left) (c .before .past3 .ensures) (c .if4 .taken)
-
-past-requires-4 : tie.Need-past-requires-4
-past-requires-4 c κs = search needs
+returns-4 c = not-silent _ (c .before .before .if3 .taken) (c .if4 .left)
 
 returns-5 : tie.Need-returns-5
-returns-5 c =
-    second-sign _ _ _ _ (c .before .before .before .before .before .before .before .before .before .past .ensures)
-    (c .before .before .before .before .before .before .before .past2 .ensures)
-    (c .before .before .before .before .before .before .number-at .ensures) _
-    (c .before .before .before .before .before .if2 .left) (c .before .before .before .before .if3 .left)
-    (c .before .past4 .ensures) (c .if5 .taken)
-
-returns-6 : tie.Need-returns-6
-returns-6 c =
-    no-sign _ _ _ _ (c .before .before .before .before .before .before .before .before .before .past .ensures)
-    (c .before .before .before .before .before .before .before .past2 .ensures)
-    (c .before .before .before .before .before .before .number-at .ensures) _ _
-    (c .before .before .before .before .before .before .before .before .if1 .left)
-    (c .before .before .before .past3 .ensures) (c .before .past4 .ensures) (c .before .before .if4 .left)
-    (c .if5 .left)
+returns-5 c = other-length _ (c .if3 .left) (c .before .before .if1 .left) (c .before .if2 .left)
 
 pub label-of-spec : {M : Type 1} → statement M
 label-of-spec =
     tie.close
     (tie.spec
-    past-requires
+    shared-slice-read-low-label
+    shared-slice-read-low-label-2
+    shared-slice-read-low-label-3
+    low-label-requires
     returns
-    past-requires-2
-    number-at-requires
+    shared-slice-read-high-label
+    shared-slice-read-high-label-2
+    shared-slice-read-high-label-3
+    shared-slice-read-high-label-4
+    high-label-requires
     returns-2
+    shared-slice-read-if4
     returns-3
-    cast-second
-    mul-second
-    past-requires-3
-    sub-t10
     returns-4
-    past-requires-4
-    returns-5
-    returns-6)
+    returns-5)

@@ -1,9 +1,9 @@
--- `lineIn` step by step, each from the place behind the one before; so the label is in the line.
+-- `rowIn` step by step, each from the place behind the one before; so the label is in the text.
 use borrow.Author.Needs.{needs}
 use Rattle.aldebaran_form.proofs.line.row_line.Statement.{statement}
 use Rattle.aldebaran_form.proofs.line.row_line.Tie as tie
 use Rattle.aldebaran_form.specs.Working.{lineFound}
-use Rattle.aldebaran_form.proofs.LineReading.{line-read, line-inside}
+use Rattle.aldebaran_form.proofs.LineReading.{row-read, row-inside}
 
 past-requires : tie.Need-past-requires
 past-requires c κs = search needs
@@ -32,22 +32,30 @@ number-at-requires-2 c κs = search needs
 past-requires-6 : tie.Need-past-requires-6
 past-requires-6 c κs = search needs
 
+past-requires-7 : tie.Need-past-requires-7
+past-requires-7 c κs = search needs
+
 returns : tie.Need-returns
 unfolding lineFound
 returns c = (
-  line-read _ _ _ _ _ _ _ _ _ _ (c .before .before .before .before .before .before .before .before .past .ensures)
-      (c .before .before .before .before .before .before .before .number-at .ensures)
-      (c .before .before .before .before .before .before .past2 .ensures)
-      (c .before .before .before .before .before .past3 .ensures)
-      (c .before .before .before .before .quote-from .ensures) (c .before .before .before .past4 .ensures)
-      (c .before .before .past5 .ensures) (c .before .number-at2 .ensures) (c .past6 .ensures),
-  line-inside _ _ _ _ _ _ _ _ _ _
-      (c .before .before .before .before .before .before .before .before .past .ensures)
-      (c .before .before .before .before .before .before .before .number-at .ensures)
-      (c .before .before .before .before .before .before .past2 .ensures)
-      (c .before .before .before .before .before .past3 .ensures)
-      (c .before .before .before .before .quote-from .ensures) (c .before .before .before .past4 .ensures)
-      (c .before .before .past5 .ensures) (c .before .number-at2 .ensures) (c .past6 .ensures),
+  row-read _ _ _ _ _ _ _ _ _ _ _ _
+      (c .before .before .before .before .before .before .before .before .before .past .ensures)
+      (c .before .before .before .before .before .before .before .before .number-at .ensures)
+      (c .before .before .before .before .before .before .before .past2 .ensures)
+      (c .before .before .before .before .before .before .past3 .ensures)
+      (c .before .before .before .before .before .quote-from .ensures)
+      (c .before .before .before .before .past4 .ensures)
+      (c .before .before .before .past5 .ensures) (c .before .before .number-at2 .ensures) (c .before .past6 .ensures)
+      (c .past7 .ensures),
+  row-inside _ _ _ _ _ _ _ _ _ _ _ _
+      (c .before .before .before .before .before .before .before .before .before .past .ensures)
+      (c .before .before .before .before .before .before .before .before .number-at .ensures)
+      (c .before .before .before .before .before .before .before .past2 .ensures)
+      (c .before .before .before .before .before .before .past3 .ensures)
+      (c .before .before .before .before .before .quote-from .ensures)
+      (c .before .before .before .before .past4 .ensures)
+      (c .before .before .before .past5 .ensures) (c .before .before .number-at2 .ensures) (c .before .past6 .ensures)
+      (c .past7 .ensures),
 )
 
 pub row-line-spec : {M : Type 1} → statement M
@@ -63,4 +71,5 @@ row-line-spec =
     past-requires-5
     number-at-requires-2
     past-requires-6
+    past-requires-7
     returns)
