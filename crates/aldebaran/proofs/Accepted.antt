@@ -1,5 +1,4 @@
--- A text of which nothing is refused gives a table that is accepted, with the text's rows; and texts with the same
--- header and the same rows give the same table.
+-- A text of which nothing is refused gives a table that is accepted, with the text's rows.
 use Prim.Native.Nat.{ℕ, zero, suc, _+_, _*_, _≤_, _<_}
 use native.Mathlib.Omega.{arith}
 use mathlib.Core.Path.{_≡_, refl, ap}
@@ -28,7 +27,7 @@ use Rattle.aldebaran_form.specs.Forms.{Form}
 use Rattle.aldebaran_form.specs.Forms.{fifteen}
 use Rattle.aldebaran.specs.Reading.{isLabel, rowsIn, all, fitHeader, fitRows, twice, ninth, checkForm}
 use Rattle.aldebaran.specs.Reading.{inOrder, tableBytes}
-use Rattle.aldebaran.proofs.Order.{order-same, order-length, order-rising, order-leaving, ninth-few, any-order}
+use Rattle.aldebaran.proofs.Order.{order-same, order-length, order-rising, order-leaving, ninth-few}
 use Rattle.aldebaran.proofs.Marks.{all-ranged}
 use Rattle.aldebaran.proofs.MarkedRows.{bytes-length}
 
@@ -128,11 +127,3 @@ sound-bytes g e = go (sound-form g e)
 -- the table is accepted
 pub accepted : (g : Form) → checkForm g ≡ Sound → checkTable fifteen (tableBytes g) ≡ Sound
 accepted g e = judges (judged-table fifteen (tableBytes g)) .1 (sound-bytes g e)
-
--- texts with the same header and the same rows give the same table
-pub same-table : (g h : Form) → checkForm g ≡ Sound → checkForm h ≡ Sound → g .header ≡ h .header
-    → ((r : Row) → (r ∈ rowsIn (g .lines)) ↔ (r ∈ rowsIn (h .lines))) → tableBytes g ≡ tableBytes h
-unfolding tableBytes
-same-table g h d e p same =
-    let a = any-order (rowsIn (g .lines)) (rowsIn (h .lines)) (sound-form g d .once) (sound-form h e .once) same in
-    rw (p, a)

@@ -12,7 +12,7 @@ use Rattle.tables.specs.Tables.{threes, bytesOf, rowsOf, fitTable, fitStates, i
 use Rattle.tables.specs.Tables.{checkRow, checkRows, checkTable}
 use Rattle.aldebaran_form.specs.Forms.{headerLine, rowLine, ended, written, spelled}
 use Rattle.aldebaran.specs.Reading.{longer, linesOf}
-use Rattle.aldebaran_form.specs.Lines.{behind, isDigit, digitsIn, isNumber, numberIn, labelIn}
+use Rattle.aldebaran_form.specs.Lines.{behind, isDigit, front, digitsIn, isNumber, numberIn, labelIn}
 use Rattle.aldebaran_form.specs.Lines.{ending, headerIn, lineIn, sameBytes, labelAmong}
 use Rattle.aldebaran.specs.Reading.{linesIn, formIn, formOf}
 use Rattle.aldebaran_form.specs.Lines.{labelOf}
@@ -47,7 +47,7 @@ pub case-read : (readOf textA 8 ≡ read.Table 7 0)
     × (tableOutput textA (9 ∷ 9 ∷ 9 ∷ 9 ∷ 9 ∷ 9 ∷ 9 ∷ 9 ∷ []) ≡ leftA ++ (9 ∷ []))
     × (tableOutput (header ++ (secondLine ++ firstLine)) (9 ∷ 9 ∷ 9 ∷ 9 ∷ 9 ∷ 9 ∷ 9 ∷ []) ≡ leftA)
     × (readOf textA 6 ≡ read.Refused refusal.OutputTooShort)
-unfolding readOf readOfForm formOf linesOf longer formIn headerIn linesIn lineIn behind numberIn digitsIn isDigit
+unfolding readOf readOfForm formOf linesOf longer formIn headerIn linesIn lineIn behind numberIn front digitsIn isDigit
     isNumber readFrom labelIn ending checkRead checkForm firstOf fitHeader isLabel labelOf labelAmong sameBytes
     spelled decimal digitsWithin fitRows fitStates inRange count highest rowsIn rowsWith sameRow twice ninth leaving
     tableBytes inOrder placed rowBelow bytesOf tableOutput outputOfForm inFront
@@ -98,7 +98,7 @@ pub case-answers : (readOf bare 1 ≡ read.Table 1 0) × (readOf unended 1 ≡ r
     × (readOf (three ++ (firstLine ++ (secondLine ++ firstLine))) 10 ≡ read.Refused refusal.RowNotAbove)
     × (readOf (nine ++ each silent (48 ∷ 49 ∷ 50 ∷ 51 ∷ 52 ∷ 53 ∷ 54 ∷ 55 ∷ 56 ∷ [])) 28
     ≡ read.Refused refusal.NinthRow)
-unfolding readOf readOfForm formOf linesOf longer formIn headerIn linesIn lineIn behind numberIn digitsIn isDigit
+unfolding readOf readOfForm formOf linesOf longer formIn headerIn linesIn lineIn behind numberIn front digitsIn isDigit
     isNumber readFrom labelIn ending checkRead checkForm firstOf fitHeader isLabel labelOf labelAmong sameBytes
     spelled decimal digitsWithin fitRows fitStates inRange count highest rowsIn rowsWith sameRow twice ninth leaving
     tableBytes inOrder placed rowBelow bytesOf

@@ -10,7 +10,7 @@ use mathlib.Core.List.{List, [], _∷_, _++_, map}
 use mathlib.Core.List.{List·Memᴰ·head as here, List·Memᴰ·tail as next, List·Memᴰ·not-nil as nowhere}
 use mathlib.Core.List.{List·Memᴰ·cases-cons as ∈-cons}
 use mathlib.Core.Option.{Option, none, some}
-use lib.ListN.{length, take, drop}
+use lib.ListN.{length, take, drop, length-map}
 use lib.Dec.{eqb, leb}
 use lib.Seq.{take-append-seam}
 use borrow.Author.Tests.{eq-eqb, eqb-true, lt-ltb, le-ltb, ltb-true, lt-leb, le-leb, leb-false}
@@ -29,9 +29,8 @@ use Rattle.tables.specs.Tables.{statesOf, bytesOf, rowsOf, fitStates, inRange, 
 use Rattle.tables.proofs.Chunks.{threes-chunks, chunks-whole}
 use Rattle.tables.proofs.Rows.{length-rows}
 use Rattle.tables.proofs.SoundTables.{sound-table}
-use Rattle.aldebaran_form.specs.Forms.{lineFeed, quote, Header, Line, Form, Short, PlainLine, Says, spelled}
+use Rattle.aldebaran_form.specs.Forms.{lineFeed, quote, Header, Line, Form, Short, PlainLine, Says, spelled, fifteen}
 use Rattle.aldebaran.specs.Reading.{formOf, isLabel, rowsWith, rowsIn, all, fitHeader}
-use Rattle.aldebaran_form.specs.Forms.{fifteen}
 use Rattle.aldebaran.specs.Reading.{fitRows, checkForm, tableBytes, checkRead, answered}
 use Rattle.aldebaran.specs.Reading.{readOfForm, readOf, outputOfForm, tableOutput}
 use Rattle.aldebaran_writing.specs.Writing.{lineOf, formFor, textOf, checkText, writeOf, textOutput}
@@ -110,11 +109,6 @@ rows-ranged n (r ∷ rows) h =
     let (a, b, c) = h r (here refl) in
     rw (lt-ltb (r .0) n a, le-leb (r .1) 30 b, lt-ltb (r .2) n c) (rows-ranged n rows (λ s i. h s (next i)))
 
--- as many lines as rows
-map-length : (rows : List Row) → length (map lineOf rows) ≡ length rows
-map-length [] = refl
-map-length (r ∷ rows) = ap suc (map-length rows)
-
 -- a form that has what the checks ask for is not refused
 form-sound : (g : Form) → SoundForm g → checkForm g ≡ check.Sound
 unfolding checkForm firstOf fitRows
@@ -159,7 +153,7 @@ module _ (t : List ℕ) (s : SoundTable fifteen t) where
     pub text-sound : checkForm (formFor t first) ≡ check.Sound
     unfolding formFor fitHeader fitStates
     text-sound = form-sound (formFor t first) (record {
-      header = rw (eq-eqb (length (rowsOf t)) (length (map lineOf (rowsOf t))) (sym (map-length (rowsOf t))))
+      header = rw (eq-eqb (length (rowsOf t)) (length (map lineOf (rowsOf t))) (sym (length-map (rowsOf t) lineOf)))
           (lt-ltb first (statesOf t) h);
       labels = rows-spelled (statesOf t) (rowsOf t) table-ranged;
       states = rw (le-leb 1 (statesOf t) (s .some)) (le-leb (statesOf t) 64 (s .few-states));

@@ -1,63 +1,26 @@
 -- The line at a place of a text.
-use Prim.Native.Nat.{ℕ, suc, _+_, _-_, _≤_, _<_}
+use Prim.Native.Nat.{ℕ, _-_, _≤_, _<_}
 use mathlib.Core.Path.{_≡_, refl, sym, _∙_, ap}
-use mathlib.Core.Bool.{Bool, true, false, true≢false}
+use mathlib.Core.Bool.{true, false, true≢false}
 use mathlib.Core.List.{List, [], _∷_, _++_}
 use mathlib.Core.Logic.{_⊎_, inl, inr}
 use mathlib.Core.Option.{Option, none, some}
 use native.Mathlib.Omega.{arith}
-use lib.ListN.{length, getD, take, drop, length-append, length-take, length-drop, take-append-drop}
-use lib.Seq.{drop-cons, drop-drop, getD-take, getD-drop}
-use lib.Dec.{ltb}
-use borrow.Author.Tests.{ltb-true, ltb-false}
+use lib.ListN.{length, take, drop, length-append, length-drop}
 use Rattle.aldebaran_form.specs.Forms.{lineFeed, Line}
 use Rattle.aldebaran_form.specs.Lines.{next, lineIn, labelOf}
-use Rattle.aldebaran.specs.Reading.{there, linesOf, linesIn}
-use Rattle.aldebaran.specs.Working.{LineEnd, RowFound, rowLines}
+use Rattle.aldebaran.specs.Reading.{linesOf, linesIn}
+use Rattle.aldebaran.specs.Working.{RowFound, rowLines}
 use Rattle.aldebaran_form.specs.Working.{restAt, rowIn, lineFound, labelFound}
 use Rattle.aldebaran_form.specs.declared.label.Spelled.{Spelled}
 use Rattle.aldebaran_form.specs.declared.label.Spelled.the-variants as label
 use Rattle.aldebaran_form.specs.declared.line.RowLine.{RowLine}
 use Rattle.aldebaran.specs.declared.rows.NextRow.{NextRow}
 use Rattle.hml.proofs.Tests.{apart}
-use Rattle.aldebaran_form.proofs.Lacks.{Lacks, lacks-places}
+use Rattle.aldebaran_form.proofs.Lacks.{Lacks}
 use Rattle.aldebaran_form.proofs.Scanning.{rest-in}
 use Rattle.aldebaran_form.proofs.LinesInTexts.{row-feed, row-open, FirstLine, first-line}
 use Rattle.aldebaran.proofs.LineSplitting.{lines-nil, lines-feed, lines-none}
-
--- the search for a line feed: none so far
-pub record NoneYet (text : List ℕ) (at end : ℕ) : Type 0 where
-  pub from : at ≤ end
-  pub within : end ≤ length text
-  pub without : (i : ℕ) → at ≤ i → i < end → getD text i 0 ≡ lineFeed → ⊥
-
-pub none-start : (text : List ℕ) (at : ℕ) → at ≤ length text → NoneYet text at at
-none-start text at h = record { from = omega arith; within = h; without = λ i g k e. absurd (omega (arith, g, k)) }
-
-module _ (text : List ℕ) (at end : ℕ) (w : NoneYet text at end) where
-  pub none-on : end < length text → (getD text end 0 ≡ lineFeed → ⊥) → NoneYet text at (end + 1)
-  none-on h n = record {
-    from = omega arith;
-    within = omega arith;
-    without = λ i g k e. go i (ltb i end) refl g k e;
-  }
-    where
-      go : (i : ℕ) (x : Bool) → ltb i end ≡ x → at ≤ i → i < end + 1 → getD text i 0 ≡ lineFeed → ⊥
-      go i true p g k e = w .without i g (ltb-true i end p) e
-      go i false p g k e =
-          let q : end ≡ i = omega (arith, ltb-false i end p) in
-          n (ap (λ j. getD text j 0) q ∙ e)
-
-  pub none-found : getD text end 0 ≡ lineFeed → LineEnd text at end
-  none-found e = record { from = w .from; within = w .within; without = w .without; there = λ g. e }
-
-  pub none-end : length text ≤ end → LineEnd text at end
-  none-end h = record {
-    from = w .from;
-    within = w .within;
-    without = w .without;
-    there = λ g. absurd (omega (arith, h, g));
-  }
 
 -- a line in front of the others
 module _ (line : List ℕ) where
@@ -86,28 +49,6 @@ rows-nil = rw lines-nil
 pub rows-none : (l : List ℕ) → Lacks lineFeed l → 1 ≤ length l → rowLines l ≡ none
 unfolding rowLines
 rows-none l w h = rw (lines-none l w h)
-
--- the line from a place up to its end
-module _ (text : List ℕ) (at end : ℕ) (w : LineEnd text at end) where
-  pub line-lacks : Lacks lineFeed (take (end - at) (drop at text))
-  line-lacks = lacks-places lineFeed (take (end - at) (drop at text)) (λ i h e. w .without
-      (at + i)
-      (omega arith)
-      (omega (arith, h, length-take (end - at) (drop at text)))
-      (sym (at-place i (omega (arith, h, length-take (end - at) (drop at text)))) ∙ e))
-    where
-      at-place : (i : ℕ) → i < end - at → getD (take (end - at) (drop at text)) i 0 ≡ getD text (at + i) 0
-      at-place i h = getD-take (end - at) (drop at text) i 0 h ∙ getD-drop at text i 0
-
-  pub line-split : end < length text
-      → drop at text ≡ take (end - at) (drop at text) ++ (lineFeed ∷ drop (end + 1) text)
-  line-split h =
-      let q : at + (end - at) ≡ end = omega (arith, w .from) in
-      let z : suc end ≡ end + 1 = omega arith in
-      let d : drop (end - at) (drop at text) ≡ lineFeed ∷ drop (end + 1) text =
-      drop-drop (end - at) at text ∙ ap (λ n. drop n text) q ∙ drop-cons text end 0 h
-      ∙ ap (λ b. b ∷ drop (suc end) text) (w .there h) ∙ ap (λ n. lineFeed ∷ drop n text) z in
-      sym (take-append-drop (end - at) (drop at text)) ∙ ap (take (end - at) (drop at text) ++_) d
 
 -- a text begins with a line of the form and goes on behind it, or is none of the form
 pub rows-next : (l : List ℕ) → 1 ≤ length l

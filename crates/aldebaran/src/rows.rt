@@ -1,14 +1,13 @@
 // The lines behind the header, one after the other.
 use aldebaran_form::label::Spelled;
 use aldebaran_form::label::label_of;
-use aldebaran_form::line::RowLine;
 use aldebaran_form::line::row_line;
 ghost use mathlib.Core.Path.{_≡_};
 ghost use mathlib.Core.Bool.{true, false};
 ghost use mathlib.Core.Option.{none};
-ghost use Prim.Native.Nat.{_≤_, _<_};
+ghost use Prim.Native.Nat.{_<_};
 ghost use lib.ListN.{length, drop};
-ghost use Rattle.aldebaran.specs.Working.{LineEnd, RowFound, rowLines};
+ghost use Rattle.aldebaran.specs.Working.{RowFound, rowLines};
 
 // A line that was read, and the place behind it; nothing, if it is not of the form or no line feed ends it.
 pub(crate) struct NextRow {
@@ -17,21 +16,6 @@ pub(crate) struct NextRow {
     pub(crate) label: Spelled,
     pub(crate) to: usize,
     pub(crate) behind: usize,
-}
-
-// The place of the next line feed from a place on, or the end.
-pub(crate) fn line_end(text: &[u8], at: usize) -> usize
-    requires { ⌜ at ≤ length (now text) ⌝ }
-    ensures { λ r. ⌜ LineEnd (now (text .entry)) at r ⌝ }
-{
-    let mut end = at;
-    while end < text.len() {
-        if text[end] == 10 {
-            return end;
-        }
-        end += 1;
-    }
-    end
 }
 
 // The line at a place.

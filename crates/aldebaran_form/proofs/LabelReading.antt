@@ -333,30 +333,30 @@ module _ (pair mark : ℕ) where
           marked (eqb (a % 2) 0) (last-same (decimal pair) (decimal (suc (a / 2))) mark (sign a) q .1)
 
   module _ (h : 1 ≤ pair) (i : pair ≤ 15) where
-    some-pair : pair ≡ 0 → ⊥
-    some-pair e = omega (arith, e, h)
+    has-pair : pair ≡ 0 → ⊥
+    has-pair e = omega (arith, e, h)
 
     first-mark : mark ≡ 33 → label.Label (record { 0 = 2 * pair - 1 }) ≡ labelFound (labelOf bytes)
     first-mark e = is-label bytes (2 * pair - 1) (omega arith)
-        (sym (spelled-first pair some-pair ∙ ap (λ m. 97 ∷ (decimal pair ++ (m ∷ []))) (sym e)))
+        (sym (spelled-first pair has-pair ∙ ap (λ m. 97 ∷ (decimal pair ++ (m ∷ []))) (sym e)))
 
     second-mark : mark ≡ 63 → label.Label (record { 0 = 2 * pair }) ≡ labelFound (labelOf bytes)
     second-mark e = is-label bytes (2 * pair) (omega arith)
-        (sym (spelled-second pair some-pair ∙ ap (λ m. 97 ∷ (decimal pair ++ (m ∷ []))) (sym e)))
+        (sym (spelled-second pair has-pair ∙ ap (λ m. 97 ∷ (decimal pair ++ (m ∷ []))) (sym e)))
 
     -- as the code counts it
     pub with-mark : mark ≡ 33 + 30 * (mark / 63)
-        → label.Label (record { 0 = 2 * pair - 1 + mark / 63 }) ≡ labelFound (labelOf bytes)
+        → label.Label (record { 0 = 2 * pair + mark / 63 - 1 }) ≡ labelFound (labelOf bytes)
     with-mark e = go (eqb mark 33) refl
       where
         go : (x : Bool) → eqb mark 33 ≡ x
-            → label.Label (record { 0 = 2 * pair - 1 + mark / 63 }) ≡ labelFound (labelOf bytes)
+            → label.Label (record { 0 = 2 * pair + mark / 63 - 1 }) ≡ labelFound (labelOf bytes)
         go true p =
             let q : mark ≡ 33 = eqb-true mark 33 p in
-            let n : 2 * pair - 1 + mark / 63 ≡ 2 * pair - 1 = omega (arith, q) in
+            let n : 2 * pair + mark / 63 - 1 ≡ 2 * pair - 1 = omega (arith, q) in
             ap (λ a. label.Label (record { 0 = a })) n ∙ first-mark q
         go false p =
             let f : 33 < mark = lt-of-le-of-ne (omega (arith, e)) (λ z. eqb-false mark 33 p (sym z)) in
             let q : mark ≡ 63 = omega (arith, e, f) in
-            let n : 2 * pair - 1 + mark / 63 ≡ 2 * pair = omega (arith, q, h) in
+            let n : 2 * pair + mark / 63 - 1 ≡ 2 * pair = omega (arith, q, h) in
             ap (λ a. label.Label (record { 0 = a })) n ∙ second-mark q

@@ -1,5 +1,6 @@
 -- In reading order: each file cites those before it.
 pub mod Lacks
+pub mod Fronts
 pub mod WrittenNumbers
 pub mod WrittenLines
 pub mod Scanning

@@ -1,24 +1,25 @@
--- A line in a text: `rowIn` reads what `lineIn` reads of the bytes up to the line feed, and needs the line feed.
+-- A header and a line in a text: `headIn` and `rowIn` read what `headerIn` and `lineIn` read of the bytes up to the
+-- line feed, and need the line feed.
 use Prim.Native.Nat.{ℕ, _≤_}
 use mathlib.Core.Path.{_≡_, refl, sym, _∙_, ap}
-use mathlib.Core.Bool.{Bool, true, false}
+use mathlib.Core.Bool.{Bool, true, false, cond, not, _&&_}
 use mathlib.Core.List.{List, [], _∷_, _++_, append-nil}
 use mathlib.Core.Logic.{_⊎_, inl, inr}
 use mathlib.Core.Option.{Option, none, some}
 use native.Mathlib.Omega.{arith}
-use lib.ListN.{length, take, drop, length-append, take-append-drop}
+use lib.ListN.{length, take, drop, take-append-drop}
 use lib.Seq.{drop-append-le}
 use lib.Dec.{eqb}
 use borrow.Author.Tests.{ne-eqb, eqb-true, eqb-false}
 use Rattle.hml.specs.Lists.{guard}
 use Rattle.digits.specs.Digits.{readFrom}
-use Rattle.aldebaran_form.specs.Forms.{lineFeed, quote, comma, opening, closing, Line}
-use Rattle.aldebaran_form.specs.Lines.{next, behind, isDigit, digitsIn, isNumber, numberIn, labelIn, ending}
-use Rattle.aldebaran_form.specs.Lines.{lineIn}
-use Rattle.aldebaran_form.specs.Working.{labelTo, rowIn}
+use Rattle.aldebaran_form.specs.Forms.{lineFeed, quote, comma, opening, closing, des, Line}
+use Rattle.aldebaran_form.specs.Lines.{next, behind, front, isDigit, digitsIn, isNumber, numberIn, labelIn}
+use Rattle.aldebaran_form.specs.Lines.{ending, headerIn, lineIn}
+use Rattle.aldebaran_form.specs.Working.{labelTo, headIn, rowIn}
 use Rattle.aldebaran_form.proofs.Lacks.{Lacks, lacks-nil, lacks-cons, lacks-front, lacks-rest, lacks-right}
-use Rattle.aldebaran_form.proofs.WrittenNumbers.{digits-fit}
-use Rattle.aldebaran_form.proofs.WrittenLines.{behind-read, label-split}
+use Rattle.aldebaran_form.proofs.Fronts.{front-fit, front-before}
+use Rattle.aldebaran_form.proofs.WrittenLines.{behind-read, byte-lacks}
 use Rattle.aldebaran_form.proofs.LineReading.{next-next, behind-first, row-end, row-to, row-quoted}
 
 -- the steps of a line by itself, from the last
@@ -36,14 +37,14 @@ lacks-drop : (n : ℕ) (l : List ℕ) → Lacks lineFeed l → Lacks lineFeed (d
 lacks-drop n l v = lacks-right lineFeed (take n l) (drop n l) (rw (sym (take-append-drop n l)) at v)
 
 one-lacks : (b : ℕ) → 11 ≤ b → Lacks lineFeed (b ∷ [])
-one-lacks b h = lacks-cons lineFeed b [] (λ e. omega (arith, h, e)) (lacks-nil lineFeed)
+one-lacks b h = byte-lacks b [] h (lacks-nil lineFeed)
 
 two-lacks : (b c : ℕ) → 11 ≤ b → 11 ≤ c → Lacks lineFeed (b ∷ c ∷ [])
-two-lacks b c h i = lacks-cons lineFeed b (c ∷ []) (λ e. omega (arith, h, e)) (one-lacks c i)
+two-lacks b c h i = byte-lacks b (c ∷ []) h (one-lacks c i)
 
--- the bytes of a label are the front of a line
-label-fit : (l : List ℕ) → length (labelIn l) ≤ length l
-label-fit l = omega (arith, ap length (label-split l), length-append (labelIn l) (drop (length (labelIn l)) l))
+des-lacks : Lacks lineFeed des
+des-lacks = byte-lacks 100 _ (omega arith)
+    (byte-lacks 101 _ (omega arith) (byte-lacks 115 _ (omega arith) (two-lacks 32 opening (omega arith) (omega arith))))
 
 -- what stands behind a line: a line feed and more, or nothing
 pub record Tail (tail : List ℕ) : Type 0 where
@@ -52,7 +53,7 @@ pub record Tail (tail : List ℕ) : Type 0 where
   pub no-label : labelTo tail ≡ []
 
 feed-tail : (rest : List ℕ) → Tail (lineFeed ∷ rest)
-unfolding behind digitsIn isDigit labelTo
+unfolding behind digitsIn front isDigit labelTo
 feed-tail rest = record {
   no-bytes = λ b bytes f. rw (ne-eqb lineFeed b (λ e. f (sym e)));
   no-digits = refl;
@@ -60,34 +61,33 @@ feed-tail rest = record {
 }
 
 no-tail : Tail []
-unfolding behind digitsIn labelTo
+unfolding behind digitsIn front labelTo
 no-tail = record { no-bytes = λ b bytes f. refl; no-digits = refl; no-label = refl }
 
 -- what is read of a line without its line feed is read in the text too
 module _ (tail : List ℕ) (w : Tail tail) where
-  behind-in : (bytes l : List ℕ) → Lacks lineFeed bytes
+  behind-before : (bytes l : List ℕ) → Lacks lineFeed bytes
       → behind bytes (l ++ tail) ≡ next (behind bytes l) (λ m. some (m ++ tail))
   unfolding behind
-  behind-in [] l v = refl
-  behind-in (b ∷ bytes) [] v = w .no-bytes b bytes (lacks-front lineFeed b bytes v)
-  behind-in (b ∷ bytes) (c ∷ l) v = go (eqb c b) refl (behind-in bytes l (lacks-rest lineFeed b bytes v))
+  behind-before [] l v = refl
+  behind-before (b ∷ bytes) [] v = w .no-bytes b bytes (lacks-front lineFeed b bytes v)
+  behind-before (b ∷ bytes) (c ∷ l) v = go (eqb c b) refl (behind-before bytes l (lacks-rest lineFeed b bytes v))
     where
       go : (x : Bool) → eqb c b ≡ x → behind bytes (l ++ tail) ≡ next (behind bytes l) (λ m. some (m ++ tail))
           → behind (b ∷ bytes) (c ∷ (l ++ tail)) ≡ next (behind (b ∷ bytes) (c ∷ l)) (λ m. some (m ++ tail))
       go true e r = rw e r
       go false e r = rw e
 
-  digits-in : (l : List ℕ) → digitsIn (l ++ tail) ≡ digitsIn l
+  digits-before : (l : List ℕ) → digitsIn (l ++ tail) ≡ digitsIn l
   unfolding digitsIn
-  digits-in [] = w .no-digits
-  digits-in (b ∷ l) = rw (digits-in l)
+  digits-before l = front-before isDigit l tail (w .no-digits)
 
   abbrev on : ℕ × List ℕ → Option (ℕ × List ℕ)
   on p = some (p .0, p .1 ++ tail)
 
-  number-in : (l : List ℕ) → numberIn (l ++ tail) ≡ next (numberIn l) on
-  unfolding numberIn
-  number-in l = rw (digits-in l, drop-append-le (length (digitsIn l)) l tail (digits-fit l))
+  number-before : (l : List ℕ) → numberIn (l ++ tail) ≡ next (numberIn l) on
+  unfolding numberIn digitsIn
+  number-before l = rw (digits-before l, drop-append-le (length (digitsIn l)) l tail (front-fit isDigit l))
       (go (isNumber (digitsIn l)) (readFrom 0 (digitsIn l)) (drop (length (digitsIn l)) l))
     where
       go : (x : Bool) (n : ℕ) (m : List ℕ)
@@ -95,23 +95,24 @@ module _ (tail : List ℕ) (w : Tail tail) where
       go true n m = refl
       go false n m = refl
 
-  label-in : (l : List ℕ) → Lacks lineFeed l → labelTo (l ++ tail) ≡ labelIn l
-  unfolding labelTo labelIn
-  label-in [] v = w .no-label
-  label-in (b ∷ l) v = go (eqb b quote) refl (label-in l (lacks-rest lineFeed b l v))
+  label-before : (l : List ℕ) → Lacks lineFeed l → labelTo (l ++ tail) ≡ labelIn l
+  unfolding labelTo labelIn front
+  label-before [] v = w .no-label
+  label-before (b ∷ l) v =
+      rw (ne-eqb b lineFeed (lacks-front lineFeed b l v), label-before l (lacks-rest lineFeed b l v))
+      (go (eqb b quote))
     where
-      go : (x : Bool) → eqb b quote ≡ x → labelTo (l ++ tail) ≡ labelIn l
-          → labelTo (b ∷ (l ++ tail)) ≡ labelIn (b ∷ l)
-      go true e r = rw e
-      go false e r = rw (e, ne-eqb b lineFeed (lacks-front lineFeed b l v)) (ap (b ∷_) r)
+      go : (x : Bool) → cond (not x && true) (b ∷ labelIn l) [] ≡ cond (not x) (b ∷ labelIn l) []
+      go true = refl
+      go false = refl
 
-  -- so the steps of `rowIn` go as those of `lineIn`, if what comes after them does
+  -- so the steps of `headIn` and `rowIn` go as those of `headerIn` and `lineIn`, if what comes after them does
   module _ {A B : Type 0} (fin : A → Option B) where
     bytes-then : (bytes : List ℕ) (f : List ℕ → Option B) (g : List ℕ → Option A) → Lacks lineFeed bytes
         → ((l : List ℕ) → Lacks lineFeed l → f (l ++ tail) ≡ next (g l) fin)
         → (l : List ℕ) → Lacks lineFeed l
         → next (behind bytes (l ++ tail)) f ≡ next (next (behind bytes l) g) fin
-    bytes-then bytes f g v r l u = ap (λ o. next o f) (behind-in bytes l v) ∙ go (behind bytes l) refl
+    bytes-then bytes f g v r l u = ap (λ o. next o f) (behind-before bytes l v) ∙ go (behind bytes l) refl
       where
         go : (o : Option (List ℕ)) → behind bytes l ≡ o
             → next (next o (λ m. some (m ++ tail))) f ≡ next (next o g) fin
@@ -123,7 +124,7 @@ module _ (tail : List ℕ) (w : Tail tail) where
         → (l : List ℕ) → Lacks lineFeed l
         → next (numberIn (l ++ tail)) (λ p. f (p .0) (p .1)) ≡ next (next (numberIn l) (λ p. g (p .0) (p .1))) fin
     unfolding numberIn
-    number-then f g r l u = ap (λ o. next o (λ p. f (p .0) (p .1))) (number-in l) ∙ go (isNumber (digitsIn l))
+    number-then f g r l u = ap (λ o. next o (λ p. f (p .0) (p .1))) (number-before l) ∙ go (isNumber (digitsIn l))
       where
         number : ℕ × List ℕ
         number = (readFrom 0 (digitsIn l), drop (length (digitsIn l)) l)
@@ -139,28 +140,39 @@ module _ (tail : List ℕ) (w : Tail tail) where
         → (l : List ℕ) → Lacks lineFeed l
         → f (labelTo (l ++ tail)) (drop (length (labelTo (l ++ tail))) (l ++ tail))
         ≡ next (g (labelIn l) (drop (length (labelIn l)) l)) fin
+    unfolding labelIn
     label-then f g r l u =
-        rw (label-in l u, drop-append-le (length (labelIn l)) l tail (label-fit l))
+        rw (label-before l u, drop-append-le (length (labelIn l)) l tail (front-fit (λ b. not (eqb b quote)) l))
         (r (labelIn l) (drop (length (labelIn l)) l) (lacks-drop (length (labelIn l)) l u))
 
   -- the line feed stands where the line ends
-  abbrev fed : Line → Option (Line × List ℕ)
-  fed x = next (behind (lineFeed ∷ []) tail) (λ rest. some (x, rest))
+  module _ {A : Type 0} where
+    abbrev fed : A → Option (A × List ℕ)
+    fed x = next (behind (lineFeed ∷ []) tail) (λ rest. some (x, rest))
 
-  feed-then : (x : Line) (l : List ℕ) → Lacks lineFeed l
-      → next {B = Line × List ℕ} (behind (lineFeed ∷ []) (l ++ tail)) (λ rest. some (x, rest))
-      ≡ next (ending l x) fed
-  unfolding behind ending
-  feed-then x [] u = refl
-  feed-then x (c ∷ l) u = rw (ne-eqb c lineFeed (lacks-front lineFeed c l u))
+    feed-then : (x : A) (l : List ℕ) → Lacks lineFeed l
+        → next {B = A × List ℕ} (behind (lineFeed ∷ []) (l ++ tail)) (λ rest. some (x, rest))
+        ≡ next (ending l x) fed
+    unfolding behind ending
+    feed-then x [] u = refl
+    feed-then x (c ∷ l) u = rw (ne-eqb c lineFeed (lacks-front lineFeed c l u))
 
-  end-then : (x : Line) (l : List ℕ) → Lacks lineFeed l
-      → next {B = Line × List ℕ} (behind (closing ∷ lineFeed ∷ []) (l ++ tail)) (λ rest. some (x, rest))
-      ≡ next (next (behind (closing ∷ []) l) (λ m. ending m x)) fed
-  end-then x l u = ap (λ o. next o (λ rest. some (x, rest))) (sym (behind-first closing (lineFeed ∷ []) (l ++ tail)))
-      ∙ sym (next-next (behind (closing ∷ []) (l ++ tail)) (behind (lineFeed ∷ [])) (λ rest. some (x, rest)))
-      ∙ bytes-then fed (closing ∷ []) (λ m. next (behind (lineFeed ∷ []) m) (λ rest. some (x, rest)))
-      (λ m. ending m x) (one-lacks closing (omega arith)) (feed-then x) l u
+    end-then : (x : A) (l : List ℕ) → Lacks lineFeed l
+        → next {B = A × List ℕ} (behind (closing ∷ lineFeed ∷ []) (l ++ tail)) (λ rest. some (x, rest))
+        ≡ next (next (behind (closing ∷ []) l) (λ m. ending m x)) fed
+    end-then x l u =
+        ap (λ o. next o (λ rest. some (x, rest))) (sym (behind-first closing (lineFeed ∷ []) (l ++ tail)))
+        ∙ sym (next-next (behind (closing ∷ []) (l ++ tail)) (behind (lineFeed ∷ [])) (λ rest. some (x, rest)))
+        ∙ bytes-then fed (closing ∷ []) (λ m. next (behind (lineFeed ∷ []) m) (λ rest. some (x, rest)))
+        (λ m. ending m x) (one-lacks closing (omega arith)) (feed-then x) l u
+
+  -- a header, and what stands behind it
+  head-in : (line : List ℕ) → Lacks lineFeed line → headIn (line ++ tail) ≡ next (headerIn line) fed
+  unfolding headIn headerIn
+  head-in = bytes-then fed des _ _ des-lacks
+      (number-then fed _ _ (λ first. bytes-then fed (comma ∷ []) _ _ (one-lacks comma (omega arith))
+      (number-then fed _ _ (λ rows. bytes-then fed (comma ∷ []) _ _ (one-lacks comma (omega arith))
+      (number-then fed _ _ (λ states. end-then (record { first = first; rows = rows; states = states })))))))
 
   -- a line, and what stands behind it
   row-in : (line : List ℕ) → Lacks lineFeed line → rowIn (line ++ tail) ≡ next (lineIn line) fed
@@ -175,19 +187,28 @@ module _ (tail : List ℕ) (w : Tail tail) where
       end-then (record { from = from; label = label; to = to })))))))
 
 -- a line that a line feed ends
+pub head-feed : (line rest : List ℕ) → Lacks lineFeed line
+    → headIn (line ++ (lineFeed ∷ rest)) ≡ next (headerIn line) (λ h. some (h, rest))
+unfolding behind
+head-feed line rest v = head-in (lineFeed ∷ rest) (feed-tail rest) line v
+
 pub row-feed : (line rest : List ℕ) → Lacks lineFeed line
     → rowIn (line ++ (lineFeed ∷ rest)) ≡ next (lineIn line) (λ l. some (l, rest))
 unfolding behind
 row-feed line rest v = row-in (lineFeed ∷ rest) (feed-tail rest) line v
 
 -- one that none ends
+nothing : {A : Type 0} (o : Option A) → _≡_ {A = Option (A × List ℕ)} (next o (λ l. none)) none
+nothing none = refl
+nothing (some l) = refl
+
+pub head-open : (line : List ℕ) → Lacks lineFeed line → headIn line ≡ none
+unfolding behind
+head-open line v = ap headIn (sym (append-nil line)) ∙ head-in [] no-tail line v ∙ nothing (headerIn line)
+
 pub row-open : (line : List ℕ) → Lacks lineFeed line → rowIn line ≡ none
 unfolding behind
 row-open line v = ap rowIn (sym (append-nil line)) ∙ row-in [] no-tail line v ∙ nothing (lineIn line)
-  where
-    nothing : (o : Option Line) → _≡_ {A = Option (Line × List ℕ)} (next o (λ l. none)) none
-    nothing none = refl
-    nothing (some l) = refl
 
 -- bytes up to the first line feed, or without any
 pub record FirstLine (text : List ℕ) : Type 0 where

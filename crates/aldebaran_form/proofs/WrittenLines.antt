@@ -1,7 +1,7 @@
 -- The header and a line: what is written is read, and what is read is what is written there.
 use Prim.Native.Nat.{ℕ, _≤_}
 use mathlib.Core.Path.{_≡_, refl, _∙_, ap}
-use mathlib.Core.Bool.{Bool, true, false, cond}
+use mathlib.Core.Bool.{Bool, true, false, cond, not}
 use mathlib.Core.List.{List, [], _∷_, _++_}
 use mathlib.Core.Option.{Option, none, some}
 use native.Mathlib.Omega.{arith}
@@ -13,9 +13,11 @@ use Rattle.hml.proofs.Tests.{apart}
 use Rattle.digits.specs.Digits.{decimal}
 use Rattle.aldebaran_form.specs.Forms.{lineFeed, quote, comma, opening, closing, des, Header, Line, Short}
 use Rattle.aldebaran_form.specs.Forms.{headerLine, rowLine, ShortHeader, PlainLine}
-use Rattle.aldebaran_form.specs.Lines.{next, behind, isDigit, numberIn, labelIn, ending, headerIn, lineIn}
+use Rattle.aldebaran_form.specs.Lines.{next, behind, front, isDigit, numberIn, labelIn, ending, headerIn}
+use Rattle.aldebaran_form.specs.Lines.{lineIn}
 use Rattle.aldebaran_form.proofs.Lacks.{Lacks, lacks-nil, lacks-cons, lacks-front, lacks-rest, lacks-append}
 use Rattle.aldebaran_form.proofs.Lacks.{lacks-left, lacks-right}
+use Rattle.aldebaran_form.proofs.Fronts.{front-split}
 use Rattle.aldebaran_form.proofs.WrittenNumbers.{decimal-lacks, number-written, number-read}
 
 -- what was read first, and what is read next
@@ -53,30 +55,25 @@ ending-read (b ∷ l) x y e = absurd (apart cc)
 
 -- the label up to a double quote
 pub label-in : (label rest : List ℕ) → Lacks quote label → labelIn (label ++ (quote ∷ rest)) ≡ label
-unfolding labelIn
+unfolding labelIn front
 label-in [] rest w = refl
 label-in (b ∷ label) rest w =
     rw (ne-eqb b quote (lacks-front quote b label w))
     (ap (b ∷_) (label-in label rest (lacks-rest quote b label w)))
 
 pub label-lacks : (l : List ℕ) → Lacks quote (labelIn l)
-unfolding labelIn
+unfolding labelIn front
 label-lacks [] = lacks-nil quote
 label-lacks (b ∷ l) = go (eqb b quote) refl (label-lacks l)
   where
-    go : (x : Bool) → eqb b quote ≡ x → Lacks quote (labelIn l) → Lacks quote (cond x [] (b ∷ labelIn l))
+    go : (x : Bool) → eqb b quote ≡ x → Lacks quote (labelIn l)
+        → Lacks quote (cond (not x) (b ∷ labelIn l) [])
     go true e r = lacks-nil quote
     go false e r = lacks-cons quote b (labelIn l) (eqb-false b quote e) r
 
-pub label-split : (l : List ℕ) → l ≡ labelIn l ++ drop (length (labelIn l)) l
+label-split : (l : List ℕ) → l ≡ labelIn l ++ drop (length (labelIn l)) l
 unfolding labelIn
-label-split [] = refl
-label-split (b ∷ l) = go (eqb b quote) (label-split l)
-  where
-    go : (x : Bool) → l ≡ labelIn l ++ drop (length (labelIn l)) l
-        → b ∷ l ≡ cond x [] (b ∷ labelIn l) ++ drop (length (cond x [] (b ∷ labelIn l))) (b ∷ l)
-    go true r = refl
-    go false r = ap (b ∷_) r
+label-split l = front-split (λ b. not (eqb b quote)) l
 
 -- a line that is written is read
 plain-quote : (l : Line) → PlainLine l → Lacks quote (l .label)
@@ -111,7 +108,7 @@ header-written h w =
     )
 
 -- they hold no line feed
-byte-lacks : (b : ℕ) (l : List ℕ) → 11 ≤ b → Lacks lineFeed l → Lacks lineFeed (b ∷ l)
+pub byte-lacks : (b : ℕ) (l : List ℕ) → 11 ≤ b → Lacks lineFeed l → Lacks lineFeed (b ∷ l)
 byte-lacks b l h v = lacks-cons lineFeed b l (λ e. omega (arith, h, e)) v
 
 number-lacks : (n : ℕ) (l : List ℕ) → Lacks lineFeed l → Lacks lineFeed (decimal n ++ l)

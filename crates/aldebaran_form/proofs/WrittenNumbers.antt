@@ -5,7 +5,7 @@ use mathlib.Core.Bool.{Bool, true, false, cond, false≢true}
 use mathlib.Core.List.{List, [], _∷_, _++_}
 use mathlib.Core.Option.{Option, some}
 use native.Mathlib.Omega.{arith}
-use lib.ListN.{length, getD, drop, length-append}
+use lib.ListN.{length, getD, drop}
 use lib.Seq.{drop-append-seam}
 use lib.Dec.{leb, ltb}
 use borrow.Author.Tests.{le-leb, lt-leb, leb-true, leb-false, ltb-true, ltb-false, eq-eqb, ne-eqb}
@@ -15,9 +15,10 @@ use Rattle.digits.specs.Digits.{decimal, readFrom}
 use Rattle.digits.proofs.DecimalLaws.{count-small, count-some, count-within, within-count}
 use Rattle.digits.proofs.Reading.{AllDigits, read-decimal, decimal-digits, decimal-front}
 use Rattle.digits.proofs.Reading.{decimal-read, decimal-read-one}
-use Rattle.aldebaran_form.specs.Lines.{isDigit, digitsIn, isNumber, numberIn}
+use Rattle.aldebaran_form.specs.Lines.{front, isDigit, digitsIn, isNumber, numberIn}
 use Rattle.aldebaran_form.specs.Working.{goesOn, numberFrom}
 use Rattle.aldebaran_form.proofs.Lacks.{Lacks, lacks-places}
+use Rattle.aldebaran_form.proofs.Fronts.{front-split}
 
 -- digits are no other bytes
 pub decimal-lacks : (b n : ℕ) → b < 48 → Lacks b (decimal n)
@@ -37,7 +38,7 @@ digit-is b e =
 
 -- digits in front of another byte, or of the end
 digits-in : (d rest : List ℕ) → AllDigits d → isDigit (getD rest 0 0) ≡ false → digitsIn (d ++ rest) ≡ d
-unfolding digitsIn AllDigits
+unfolding digitsIn front AllDigits
 digits-in [] rest a f = go rest f
   where
     go : (l : List ℕ) → isDigit (getD l 0 0) ≡ false → digitsIn l ≡ []
@@ -47,24 +48,9 @@ digits-in (b ∷ d) rest a f =
     let first : isDigit b ≡ true = is-digit b (a 0 (omega arith) .0) (a 0 (omega arith) .1) in
     rw first (ap (b ∷_) (digits-in d rest (λ k g. a (suc k) (omega (arith, g))) f))
 
--- a line is its digits, then the rest
-digits-split : (l : List ℕ) → l ≡ digitsIn l ++ drop (length (digitsIn l)) l
-unfolding digitsIn
-digits-split [] = refl
-digits-split (b ∷ l) = go (isDigit b) (digits-split l)
-  where
-    go : (x : Bool) → l ≡ digitsIn l ++ drop (length (digitsIn l)) l
-        → b ∷ l ≡ cond x (b ∷ digitsIn l) [] ++ drop (length (cond x (b ∷ digitsIn l) [])) (b ∷ l)
-    go true r = ap (b ∷_) r
-    go false r = refl
-
--- so they are not longer than the line
-pub digits-fit : (l : List ℕ) → length (digitsIn l) ≤ length l
-digits-fit l =
-    omega (arith, ap length (digits-split l), length-append (digitsIn l) (drop (length (digitsIn l)) l))
-
+-- what a line begins with is digits
 digits-all : (l : List ℕ) → AllDigits (digitsIn l)
-unfolding digitsIn AllDigits
+unfolding digitsIn front AllDigits
 digits-all [] = λ i h. absurd (omega (arith, h))
 digits-all (b ∷ l) = go (isDigit b) refl (digits-all l)
   where
@@ -161,7 +147,7 @@ same-test b (c ∷ d) a = go (ltb 48 b) refl (ltb (readFrom (b - 48) (c ∷ d)) 
         all-low = a 0 (omega arith) .0
 
 pub first-digit : (b : ℕ) (rest : List ℕ) → 48 ≤ b → b ≤ 57 → numberIn (b ∷ rest) ≡ numberFrom (b - 48) rest
-unfolding numberIn numberFrom digitsIn isDigit readFrom AllDigits
+unfolding numberIn numberFrom digitsIn front isDigit readFrom AllDigits
 first-digit b rest low high =
     let z : 10 * 0 + (b - 48) ≡ b - 48 = omega arith in
     rw (le-leb 48 b low, le-leb b 57 high)
@@ -221,7 +207,7 @@ some-pair m n l k e =
 
 pub number-read : (l : List ℕ) (n : ℕ) (rest : List ℕ) → numberIn l ≡ some (n, rest)
     → (l ≡ decimal n ++ rest) × (n < 100000)
-unfolding numberIn
+unfolding numberIn digitsIn
 number-read l n rest e = go (isNumber (digitsIn l)) refl e
   where
     go : (x : Bool) → isNumber (digitsIn l) ≡ x
@@ -231,5 +217,5 @@ number-read l n rest e = go (isNumber (digitsIn l)) refl e
         let q = some-pair (readFrom 0 (digitsIn l)) n (drop (length (digitsIn l)) l) rest f in
         let d : decimal n ≡ digitsIn l = ap decimal (sym (q .0)) ∙ number-decimal (digitsIn l) (digits-all l) p in
         let short : length (decimal n) ≤ 5 = omega (arith, ap length d, number-short (digitsIn l) p) in
-        (digits-split l ∙ ap (digitsIn l ++_) (q .1) ∙ ap (_++ rest) (sym d), within-count 5 n short)
+        (front-split isDigit l ∙ ap (digitsIn l ++_) (q .1) ∙ ap (_++ rest) (sym d), within-count 5 n short)
     go false p f = absurd (apart cc)

@@ -1,5 +1,6 @@
 -- Reading a line of the form from left to right: document 02, 1/12. What lines are of the form, and what they say, is
--- `headerLine` and `rowLine` (Forms); this agrees with them (`header-read`, `line-read`, proofs/WrittenLines).
+-- `headerLine` and `rowLine` (Forms); this agrees with them (`header-written` and `header-read`, `line-written` and
+-- `line-read`, proofs/WrittenLines).
 use Prim.Native.Nat.{ℕ, zero, suc}
 use mathlib.Core.Bool.{Bool, true, false, cond, _&&_, _||_, not}
 use mathlib.Core.List.{List, [], _∷_}
@@ -22,13 +23,17 @@ behind [] line = some line
 behind (b ∷ bytes) [] = none
 behind (b ∷ bytes) (c ∷ line) = cond (eqb c b) (behind bytes line) none
 
+-- the bytes that a line begins with, as long as they pass a test
+unfoldable pub front : (ℕ → Bool) → List ℕ → List ℕ
+front passes [] = []
+front passes (b ∷ line) = cond (passes b) (b ∷ front passes line) []
+
 -- the digits that a line begins with
 unfoldable pub isDigit : ℕ → Bool
 isDigit b = leb 48 b && leb b 57
 
 unfoldable pub digitsIn : List ℕ → List ℕ
-digitsIn [] = []
-digitsIn (b ∷ line) = cond (isDigit b) (b ∷ digitsIn line) []
+digitsIn line = front isDigit line
 
 -- "numbers of at most five digits without leading zeros"
 unfoldable pub isNumber : List ℕ → Bool
@@ -40,8 +45,7 @@ numberIn line = guard (isNumber (digitsIn line)) (readFrom 0 (digitsIn line), dr
 
 -- the bytes of a label: up to the next double quote
 unfoldable pub labelIn : List ℕ → List ℕ
-labelIn [] = []
-labelIn (b ∷ line) = cond (eqb b quote) [] (b ∷ labelIn line)
+labelIn line = front (λ b. not (eqb b quote)) line
 
 -- nothing else stands on the line
 unfoldable pub ending : {A : Type 0} → List ℕ → A → Option A

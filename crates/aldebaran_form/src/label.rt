@@ -48,7 +48,7 @@ fn low_label(letter: u8, digit: u8, mark: u8) -> Spelled
     marked(digit - 48, mark)
 }
 
-// a10! to a15?
+// a10! to a15?: the digit's value and ten is its byte and 10 - 48.
 fn high_label(letter: u8, ten: u8, digit: u8, mark: u8) -> Spelled
     ensures { λ r. ⌜ r ≡ labelFound (labelOf (letter ∷ ten ∷ digit ∷ mark ∷ [])) ⌝ }
 {
@@ -77,5 +77,5 @@ fn marked(pair: u8, mark: u8) -> Spelled
     if mark != 33 + 30 * second {
         return Spelled::Unknown;
     }
-    Spelled::Label(Label(2 * pair - 1 + second))
+    Spelled::Label(Label(2 * pair + second - 1))
 }

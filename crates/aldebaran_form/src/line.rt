@@ -1,4 +1,4 @@
-// The header without its line feed, and a line of a text with it.
+// The header and the lines of a text, each with its line feed.
 use crate::scan::number_at;
 use crate::scan::past;
 use crate::scan::quote_from;
@@ -7,15 +7,16 @@ ghost use mathlib.Core.Bool.{true};
 ghost use Prim.Native.Nat.{_≤_};
 ghost use lib.ListN.{length};
 ghost use Rattle.aldebaran_form.specs.Forms.{des};
-ghost use Rattle.aldebaran_form.specs.Lines.{next, behind, headerIn};
-ghost use Rattle.aldebaran_form.specs.Working.{restAt, headerFound, rowIn, lineFound};
+ghost use Rattle.aldebaran_form.specs.Lines.{next, behind};
+ghost use Rattle.aldebaran_form.specs.Working.{restAt, headIn, headFound, rowIn, lineFound};
 
-// What a header says; nothing, if it is not of the form.
+// What a header says, and the place behind its line feed; nothing, if it is not of the form.
 pub struct HeaderLine {
     pub formed: bool,
     pub first: usize,
     pub rows: usize,
     pub states: usize,
+    pub behind: usize,
 }
 
 // What a line says, its label as the part of the text from a place up to another, and the place behind its line feed;
@@ -29,34 +30,37 @@ pub struct RowLine {
     pub behind: usize,
 }
 
-// `des (first,rows,states)`
-pub fn header_line(line: &[u8]) -> HeaderLine
-    ensures { λ r. ⌜ headerFound r ≡ headerIn (now (line .entry)) ⌝ }
+// `des (first,rows,states)` and a line feed, at the front of a text
+pub fn header_line(text: &[u8]) -> HeaderLine
+    ensures found { λ r. ⌜ headFound (now (text .entry)) r ≡ headIn (now (text .entry)) ⌝ }
+    ensures inside { λ r. ⌜ (r .formed ≡ true → r .behind ≤ length (now (text .entry))) ⌝ }
 {
-    let opened = past_des(line);
-    let first = number_at(line, opened);
-    let second = past(line, first.end, 44);
-    let rows = number_at(line, second);
-    let third = past(line, rows.end, 44);
-    let states = number_at(line, third);
-    let end = past(line, states.end, 41);
+    let opened = past_des(text);
+    let first = number_at(text, opened);
+    let second = past(text, first.end, 44);
+    let rows = number_at(text, second);
+    let third = past(text, rows.end, 44);
+    let states = number_at(text, third);
+    let end = past(text, states.end, 41);
+    let start = past(text, end, 10);
     HeaderLine {
-        formed: end == line.len(),
+        formed: start <= text.len(),
         first: first.value,
         rows: rows.value,
         states: states.value,
+        behind: start,
     }
 }
 
 // The place behind `des (`.
-fn past_des(line: &[u8]) -> usize
-    ensures { λ r. ⌜ restAt (now (line .entry)) r ≡ behind des (now (line .entry)) ⌝ }
+fn past_des(text: &[u8]) -> usize
+    ensures { λ r. ⌜ restAt (now (text .entry)) r ≡ behind des (now (text .entry)) ⌝ }
 {
-    let d = past(line, 0, 100);
-    let e = past(line, d, 101);
-    let s = past(line, e, 115);
-    let blank = past(line, s, 32);
-    past(line, blank, 40)
+    let d = past(text, 0, 100);
+    let e = past(text, d, 101);
+    let s = past(text, e, 115);
+    let blank = past(text, s, 32);
+    past(text, blank, 40)
 }
 
 // `(from,"label",to)` and a line feed, from a place of a text on

@@ -1,5 +1,5 @@
-// Reading from left to right, in a line or in a text: what stands at a place, and the place behind it. Where what is
-// due does not stand there, the place behind it is nowhere: beyond the end.
+// Reading a text from left to right: what stands at a place, and the place behind it. Where what is due does not stand
+// there, the place behind it is nowhere: beyond the text's end.
 ghost use mathlib.Core.Path.{_≡_};
 ghost use mathlib.Core.List.{[], _∷_};
 ghost use Prim.Native.Nat.{_+_, _≤_};
@@ -14,47 +14,48 @@ pub(crate) struct Number {
 }
 
 // The place behind a byte that is due at a place.
-pub(crate) fn past(line: &[u8], at: usize, byte: u8) -> usize
-    ensures { λ r. ⌜ restAt (now (line .entry)) r ≡ next (restAt (now (line .entry)) at) (behind (byte ∷ [])) ⌝ }
+pub(crate) fn past(text: &[u8], at: usize, byte: u8) -> usize
+    ensures { λ r. ⌜ restAt (now (text .entry)) r ≡ next (restAt (now (text .entry)) at) (behind (byte ∷ [])) ⌝ }
 {
-    if at < line.len() {
-        if line[at] == byte {
+    if at < text.len() {
+        if text[at] == byte {
             return at + 1;
         }
     }
-    line.len() + 1
+    text.len() + 1
 }
 
 // The number that is due at a place: one to five digits without a zero in front.
-pub(crate) fn number_at(line: &[u8], at: usize) -> Number
-    ensures { λ r. ⌜ numberAt (now (line .entry)) r ≡ next (restAt (now (line .entry)) at) numberIn ⌝ }
+pub(crate) fn number_at(text: &[u8], at: usize) -> Number
+    ensures { λ r. ⌜ numberAt (now (text .entry)) r ≡ next (restAt (now (text .entry)) at) numberIn ⌝ }
 {
     let nowhere = Number {
         value: 0,
-        end: line.len() + 1,
+        end: text.len() + 1,
     };
-    if line.len() <= at {
+    if text.len() <= at {
         return nowhere;
     }
-    let byte = line[at];
+    let byte = text[at];
     if byte < 48 {
         return nowhere;
     }
     if 57 < byte {
         return nowhere;
     }
-    number_from(line, at + 1, (byte - 48) as usize)
+    number_from(text, at + 1, (byte - 48) as usize)
 }
 
-// The number whose first digit, in front of a place, gave a value: no digit follows a 0, and five are the most.
-fn number_from(line: &[u8], at: usize, first: usize) -> Number
-    requires { ⌜ at ≤ length (now line) ⌝ }
-    ensures { λ r. ⌜ numberAt (now (line .entry)) r ≡ numberFrom first (drop at (now (line .entry))) ⌝ }
+// The number whose first digit, in front of a place, has a value: no digit follows a 0, and five are the most. It does
+// not begin with 0, so a value over 9999 has five.
+fn number_from(text: &[u8], at: usize, first: usize) -> Number
+    requires { ⌜ at ≤ length (now text) ⌝ }
+    ensures { λ r. ⌜ numberAt (now (text .entry)) r ≡ numberFrom first (drop at (now (text .entry))) ⌝ }
 {
     let mut value = first;
     let mut end = at;
-    while end < line.len() {
-        let byte = line[end];
+    while end < text.len() {
+        let byte = text[end];
         if byte < 48 {
             return Number { value, end };
         }
@@ -64,13 +65,13 @@ fn number_from(line: &[u8], at: usize, first: usize) -> Number
         if value == 0 {
             return Number {
                 value: 0,
-                end: line.len() + 1,
+                end: text.len() + 1,
             };
         }
         if 9999 < value {
             return Number {
                 value: 0,
-                end: line.len() + 1,
+                end: text.len() + 1,
             };
         }
         value = 10 * value + (byte - 48) as usize;

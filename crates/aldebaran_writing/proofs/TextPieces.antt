@@ -12,17 +12,15 @@ use Rattle.digits.specs.Digits.{decimal}
 use Rattle.digits.specs.Outputs.{putAt, putIfRoom, behindIfRoom}
 use Rattle.digits.proofs.Puts.{put-one, put-kept, behind-piece, placed, placed-behind}
 use Rattle.tables.specs.Tables.{statesOf, rowsOf, rowStruct, rowRead}
+use Rattle.tables.specs.Working.{tripleOf}
 use Rattle.tables.specs.declared.row.Row as declared-row
 use Rattle.tables.specs.declared.row.RowRead.{RowRead}
 use Rattle.tables.specs.declared.row.RowRead.the-variants as read
-use Rattle.aldebaran_form.specs.Forms.{des, headerLine, rowLine, ended, spelled}
+use Rattle.aldebaran_form.specs.Forms.{des, headerWith, headerLine, rowLine, ended, spelled}
 use Rattle.aldebaran_writing.specs.Writing.{lineOf, textOf}
-use Rattle.aldebaran_form.specs.Forms.{headerWith}
-use Rattle.tables.specs.Working.{tripleOf}
 use Rattle.aldebaran_form.proofs.LabelReading.{spelled-odd, spelled-even}
 use Rattle.aldebaran_writing.proofs.TextLengths.{length-spelled, length-row, length-header, rowsText}
-use Rattle.aldebaran_writing.proofs.TextLengths.{rows-behind}
-use Rattle.aldebaran_writing.proofs.TextLengths.{text-split}
+use Rattle.aldebaran_writing.proofs.TextLengths.{rows-behind, text-split}
 
 -- ys is xs with these bytes written from a place on, and n is the place behind them
 pub record Stands (xs ys : List ℕ) (at n : ℕ) (b : List ℕ) : Type 0 where

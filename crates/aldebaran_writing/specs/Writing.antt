@@ -9,8 +9,7 @@ use Rattle.labels.specs.declared.refusal.Check.{Check}
 use Rattle.labels.specs.declared.refusal.Check.the-variants as check
 use Rattle.labels.specs.declared.refusal.Refusal.the-variants as refusal
 use Rattle.tables.specs.Tables.{statesOf, rowsOf, checkTable}
-use Rattle.aldebaran_form.specs.Forms.{Line, Form, spelled, written}
-use Rattle.aldebaran_form.specs.Forms.{fifteen}
+use Rattle.aldebaran_form.specs.Forms.{Line, Form, spelled, written, fifteen}
 use Rattle.aldebaran_writing.specs.declared.write.TextWriting.{TextWriting}
 use Rattle.aldebaran_writing.specs.declared.write.TextWriting.the-variants as writing
 

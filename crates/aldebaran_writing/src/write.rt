@@ -13,11 +13,9 @@ ghost use Prim.Native.Nat.{_+_, _≤_, _<_};
 ghost use lib.ListN.{length, getD};
 ghost use Rattle.digits.specs.Outputs.{putAt};
 ghost use Rattle.tables.specs.Tables.{statesOf, rowsOf, SoundTable};
-ghost use Rattle.aldebaran_form.specs.Forms.{headerLine, rowLine, ended, spelled};
-ghost use Rattle.aldebaran_form.specs.Forms.{fifteen};
-ghost use Rattle.aldebaran_writing.specs.Writing.{lineOf, textOf, writeOf, textOutput};
-ghost use Rattle.aldebaran_form.specs.Forms.{headerWith};
 ghost use Rattle.tables.specs.Working.{tripleOf};
+ghost use Rattle.aldebaran_form.specs.Forms.{headerWith, headerLine, rowLine, ended, spelled, fifteen};
+ghost use Rattle.aldebaran_writing.specs.Writing.{lineOf, textOf, writeOf, textOutput};
 
 // How many bytes were written, or why none were.
 pub enum TextWriting {

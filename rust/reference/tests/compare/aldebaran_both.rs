@@ -2,7 +2,7 @@
 
 use std::hint::black_box;
 
-use crate::both::{bare_answer, number_of};
+use crate::both::{bare_answer, number_of, wrapped_number};
 use crate::splitting_both::Output;
 use reference::aldebaran::{self, Machine};
 use reference::Refusal;
@@ -23,6 +23,33 @@ fn read_answer(expected: &Result<Machine, Refusal>) -> u64 {
     bare_answer(&expected.as_ref().map(value).map_err(|number| *number))
 }
 
+/// Demands that the wrapper reads a text as expected.
+fn wrapped_read(text: &[u8], room: usize, expected: &Result<Machine, Refusal>) {
+    let mut output = vec![0; room];
+    let wrapped = yenuslap::read_aldebaran(text, &mut output);
+    let number = number_of(expected);
+    assert_eq!(wrapped_number(&wrapped), number, "{}", shown(text));
+    let machine = wrapped.ok().map(|read| Machine {
+        table: output[..read.length].to_vec(),
+        first: read.first,
+    });
+    assert_eq!(machine.as_ref(), expected.as_ref().ok(), "{}", shown(text));
+}
+
+/// Demands that the wrapper writes a table as expected.
+fn wrapped_write(table: &[u8], first: usize, room: usize, expected: &Result<Vec<u8>, Refusal>) {
+    let mut output = vec![0; room];
+    let wrapped = yenuslap::write_aldebaran(table, first, &mut output);
+    let number = number_of(expected);
+    assert_eq!(wrapped_number(&wrapped), number, "{table:?} with {first}");
+    let text = wrapped.ok().map(|length| output[..length].to_vec());
+    assert_eq!(
+        text.as_ref(),
+        expected.as_ref().ok(),
+        "{table:?} with {first}"
+    );
+}
+
 /// Reads a text into `room` bytes with both and gives what they agree on. The engine is asked twice: a byte that is
 /// left alone keeps its value under a pattern and under its complement.
 pub fn read_both(text: &[u8], room: usize) -> Result<Machine, Refusal> {
@@ -37,6 +64,7 @@ pub fn read_both(text: &[u8], room: usize) -> Result<Machine, Refusal> {
         let table = expected.as_ref().ok().map(|machine| &machine.table[..]);
         output.holds(table, &about);
     }
+    wrapped_read(text, room, &expected);
     assert!(black_box(text) == before, "lent text changed, {}", about());
     expected
 }
@@ -58,6 +86,7 @@ pub fn write_both(table: &[u8], first: usize, room: usize) -> Result<Vec<u8>, Re
         assert_eq!(answer, bare_answer(&length), "{}", about());
         output.holds(expected.as_deref().ok(), &about);
     }
+    wrapped_write(table, first, room, &expected);
     assert!(
         black_box(table) == before,
         "lent table changed, {}",

@@ -74,7 +74,7 @@ fn words_of_label_characters() {
     tally.saw_exactly(&[0, 21]);
 }
 
-/// a, every number up to 99,999 and some far beyond, and every mark.
+/// a, every number up to 1,100 and some far beyond, and marks of all sorts.
 #[test]
 fn labels_of_every_pair() {
     let mut tally = Tally::new("Aldebaran labels of every pair");

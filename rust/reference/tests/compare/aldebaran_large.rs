@@ -21,7 +21,7 @@ fn places(lines: usize) -> [usize; 3] {
     [0, lines / 2, lines - 1]
 }
 
-/// A full table of 512 rows with one line put over another: a double, at every distance.
+/// A full table of 512 rows with one line put over another: a double, near and far.
 #[test]
 fn doubles_in_a_full_table() {
     let mut tally = Tally::new("doubles among 512 rows");
@@ -42,8 +42,8 @@ fn doubles_in_a_full_table() {
     tally.saw_exactly(&[0, 6]);
 }
 
-/// A full table and a ninth row, at every distance from the others of its state; or one line over another's place, so
-/// that 512 rows stay.
+/// A full table and a ninth row, at any place among the others; or one line over another's place, so that 512 rows
+/// stay.
 #[test]
 fn ninths_in_a_full_table() {
     let mut tally = Tally::new("ninth rows among 512");

@@ -352,7 +352,7 @@ fn other_files() {
     );
 }
 
-/// A text of 99,999 lines is looked through whole: the row that is given twice stands last.
+/// A text of 99,999 lines is looked through whole.
 #[test]
 fn many_lines() {
     let rows = (0..99_999).map(|row| format!("({},\"j{row}\",0)\n", row % 64));
@@ -368,15 +368,24 @@ fn many_lines() {
         "line 1, column 8: the header says 99998 rows, but has 99999 lines below it; \
          a table has at most 512 rows",
     );
-    let rows = (0..512).map(|row| format!("({},\"a{}?\",{})\n", row / 8, row % 8 + 1, row % 64));
-    let text = format!(
-        "des (0,513,64)\n{}(0,\"a1?\",0)\n",
-        rows.collect::<String>()
-    );
+}
+
+/// Of 99,999 lines the last one gives the row of the first again.
+#[test]
+fn double_in_the_last_line() {
+    let row = |n: usize| {
+        let (from, label, to) = (n / 1920, n / 64 % 30, n % 64);
+        format!(
+            "({from},\"a{}{}\",{to})\n",
+            label / 2 + 1,
+            ["!", "?"][label % 2]
+        )
+    };
+    let rows: String = (0..99_998).map(row).collect();
     refused(
-        text.as_bytes(),
+        format!("des (0,99999,64)\n{rows}{}", row(0)).as_bytes(),
         6,
-        "line 514, column 1: (0,\"a1?\",0) stands in line 2 too; a row is given once",
+        "line 100000, column 1: (0,\"a1!\",0) stands in line 2 too; a row is given once",
     );
 }
 

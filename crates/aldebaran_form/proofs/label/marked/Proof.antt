@@ -17,14 +17,14 @@ returns c = no-mark _ _ (λ e. c .if1 .taken (omega (arith, e))) (λ e. c .if1 .
 mul-t4 : tie.Need-mul-t4
 mul-t4 c = search needs
 
-sub-t5 : tie.Need-sub-t5
-sub-t5 c = search needs
+add-t5 : tie.Need-add-t5
+add-t5 c = search needs
 
-add-t7 : tie.Need-add-t7
-add-t7 c = search needs
+sub-t7 : tie.Need-sub-t7
+sub-t7 c = search needs
 
 returns-2 : tie.Need-returns-2
 returns-2 c = with-mark _ _ (c .before .pre .0) (c .before .pre .1) (c .if1 .left)
 
 pub marked-spec : {M : Type 1} → statement M
-marked-spec = tie.close (tie.spec mul-if1 add-if1 returns mul-t4 sub-t5 add-t7 returns-2)
+marked-spec = tie.close (tie.spec mul-if1 add-if1 returns mul-t4 add-t5 sub-t7 returns-2)

@@ -2,7 +2,7 @@
 use borrow.Author.Needs.{needs}
 use Rattle.aldebaran_form.proofs.line.past_des.Statement.{statement}
 use Rattle.aldebaran_form.proofs.line.past_des.Tie as tie
-use Rattle.aldebaran_form.proofs.LineReading.{des-read}
+use Rattle.aldebaran_form.proofs.LineReading.{des-places}
 
 past-requires : tie.Need-past-requires
 past-requires c κs = search needs
@@ -21,7 +21,7 @@ past-requires-5 c κs = search needs
 
 returns : tie.Need-returns
 returns c =
-    des-read _ _ _ _ _ _ (c .before .before .before .before .past .ensures)
+    des-places _ _ _ _ _ _ (c .before .before .before .before .past .ensures)
     (c .before .before .before .past2 .ensures) (c .before .before .past3 .ensures) (c .before .past4 .ensures)
     (c .past5 .ensures)
 

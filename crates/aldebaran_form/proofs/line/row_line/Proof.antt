@@ -3,7 +3,7 @@ use borrow.Author.Needs.{needs}
 use Rattle.aldebaran_form.proofs.line.row_line.Statement.{statement}
 use Rattle.aldebaran_form.proofs.line.row_line.Tie as tie
 use Rattle.aldebaran_form.specs.Working.{lineFound}
-use Rattle.aldebaran_form.proofs.LineReading.{row-read, row-inside}
+use Rattle.aldebaran_form.proofs.LineReading.{row-places, row-inside}
 
 past-requires : tie.Need-past-requires
 past-requires c κs = search needs
@@ -38,7 +38,7 @@ past-requires-7 c κs = search needs
 returns : tie.Need-returns
 unfolding lineFound
 returns c = (
-  row-read _ _ _ _ _ _ _ _ _ _ _ _
+  row-places _ _ _ _ _ _ _ _ _ _ _ _
       (c .before .before .before .before .before .before .before .before .before .past .ensures)
       (c .before .before .before .before .before .before .before .before .number-at .ensures)
       (c .before .before .before .before .before .before .before .past2 .ensures)
