@@ -11,15 +11,13 @@ use Rattle.labels.specs.declared.refusal.Refusal.the-variants as refusal
 use Rattle.tables.specs.Tables.{threes, bytesOf, rowsOf, fitTable, fitStates, inRange, rowBelow, aboveLast, leaving}
 use Rattle.tables.specs.Tables.{checkRow, checkRows, checkTable}
 use Rattle.aldebaran_form.specs.Forms.{headerLine, rowLine, ended, written, spelled}
-use Rattle.aldebaran.specs.Reading.{longer, linesOf}
-use Rattle.aldebaran_form.specs.Lines.{behind, isDigit, front, digitsIn, isNumber, numberIn, labelIn}
-use Rattle.aldebaran_form.specs.Lines.{ending, headerIn, lineIn, sameBytes, labelAmong}
-use Rattle.aldebaran.specs.Reading.{linesIn, formIn, formOf}
-use Rattle.aldebaran_form.specs.Lines.{labelOf}
+use Rattle.aldebaran_form.specs.Lines.{behind, front, isDigit, digitsIn, isNumber, numberIn, labelIn, ending}
+use Rattle.aldebaran_form.specs.Lines.{headerIn, lineIn, sameBytes, labelAmong, labelOf}
+use Rattle.aldebaran_writing.specs.Writing.{lineOf, formFor, textOf, checkText, writeOf}
+use Rattle.aldebaran.specs.Reading.{longer, linesOf, linesIn, formIn, formOf}
 use Rattle.aldebaran.specs.Reading.{isLabel, rowsWith, rowsIn, fitHeader, fitRows, sameRow, twice, ninth}
 use Rattle.aldebaran.specs.Reading.{checkForm, placed, inOrder, tableBytes, checkRead, readOfForm, readOf}
 use Rattle.aldebaran.specs.Reading.{outputOfForm, tableOutput}
-use Rattle.aldebaran_writing.specs.Writing.{lineOf, formFor, textOf, checkText, writeOf}
 use Rattle.aldebaran.specs.declared.read.TableRead.the-variants as read
 use Rattle.aldebaran_writing.specs.declared.write.TextWriting.the-variants as writing
 

@@ -43,148 +43,75 @@ fn nothing_to_repair() {
     prints(&["table", "-", "--tidy"], TEXT.as_bytes(), SECTION);
 }
 
-/// Each repair alone, with the line it was made in and the place that is named without it.
-#[test]
-fn each_repair() {
-    let blanks = "blanks outside labels taken out";
-    for (from, to, repair, place) in [
-        (
-            "des (0",
-            "des(0",
-            "line 1: one blank put behind des",
-            "19: line 1, column 4",
-        ),
-        (
-            "des (0",
-            "des  (0",
-            "line 1: one blank put behind des",
-            "19: line 1, column 5",
-        ),
-        (
-            "des (0",
-            "des\t(0",
-            "line 1: one blank put behind des",
-            "19: line 1, column 4",
-        ),
-        (
-            "des",
-            " des",
-            &format!("line 1: {blanks}"),
-            "19: line 1, column 1",
-        ),
-        (
-            "0,2,2",
-            "0, 2,2",
-            &format!("line 1: {blanks}"),
-            "19: line 1, column 8",
-        ),
-        (
-            "2,2)",
-            "2,2\t)",
-            &format!("line 1: {blanks}"),
-            "19: line 1, column 11",
-        ),
-        (
-            "\n(0",
-            "\n (0",
-            &format!("line 2: {blanks}"),
-            "19: line 2, column 1",
-        ),
-        (
-            "(0,\"",
-            "( 0,\"",
-            &format!("line 2: {blanks}"),
-            "19: line 2, column 2",
-        ),
-        (
-            "(0,\"",
-            "(0 ,\"",
-            &format!("line 2: {blanks}"),
-            "19: line 2, column 3",
-        ),
-        (
-            "(0,\"",
-            "(0, \"",
-            &format!("line 2: {blanks}"),
-            "19: line 2, column 4",
-        ),
-        (
-            "!\",1",
-            "!\" ,1",
-            &format!("line 2: {blanks}"),
-            "19: line 2, column 9",
-        ),
-        (
-            "!\",1",
-            "!\", 1",
-            &format!("line 2: {blanks}"),
-            "19: line 2, column 10",
-        ),
-        (
-            "1)\n",
-            "1)  \n",
-            &format!("line 2: {blanks}"),
-            "19: line 2, column 12",
-        ),
-        (
-            "(0,2,2)",
-            "(00,2,2)",
-            "line 1: leading zeros taken out",
-            "19: line 1, column 6",
-        ),
-        (
-            "(1,",
-            "(0000001,",
-            "line 3: leading zeros taken out",
-            "19: line 3, column 2",
-        ),
-        (
-            "\"i\"",
-            "i",
-            "line 3: labels put in double quotes",
-            "19: line 3, column 4",
-        ),
-        (
-            "\"i\"",
-            "\"tau\"",
-            "line 3: label tau written as i",
-            "21: line 3, column 5",
-        ),
-        (
-            "2)\n",
-            "2)\r\n",
-            "line 1: carriage returns before line feeds taken out",
-            "19: line 1, column 12",
-        ),
-        (
-            "0)\n",
-            "0)",
-            "line 3: a line feed put at the end",
-            "19: line 3, column 10",
-        ),
-        (
-            "0)\n",
-            "0)\n\n",
-            "line 4: blank lines at the end taken out",
-            "19: line 4, column 1",
-        ),
-        (
-            "0)\n",
-            "0)\n\r\n \t",
-            "lines 4 to 5: blank lines at the end taken out",
-            "19: line 4, column 1",
-        ),
-        (
-            "des",
-            "\u{feff}des",
-            "line 1: the byte order mark taken out",
-            "19: line 1, column 1",
-        ),
-    ] {
-        let text = TEXT.replacen(from, to, 1);
-        assert_ne!(text, TEXT);
-        tidied(text.as_bytes(), &[repair], place);
+/// Demands that each change of the text alone (from, to, line, column) is told with its line and this repair, and that
+/// its place is named without `--tidy`.
+fn each_repaired(repair: &str, changes: &[(&str, &str, usize, usize)]) {
+    for (from, to, line, column) in changes {
+        let told = format!("line {line}: {repair}");
+        let place = format!("19: line {line}, column {column}");
+        repaired(from, to, &told, &place);
     }
+}
+
+/// Demands the same of one change.
+fn repaired(from: &str, to: &str, told: &str, place: &str) {
+    let text = TEXT.replacen(from, to, 1);
+    assert_ne!(text, TEXT);
+    tidied(text.as_bytes(), &[told], place);
+}
+
+/// No blank behind des, or several, or a tab.
+#[test]
+fn blank_behind_des() {
+    let changes = [
+        ("des (0", "des(0", 1, 4),
+        ("des (0", "des  (0", 1, 5),
+        ("des (0", "des\t(0", 1, 4),
+    ];
+    each_repaired("one blank put behind des", &changes);
+}
+
+/// Blanks and tabs in every place outside labels.
+#[test]
+fn blanks() {
+    let changes = [
+        ("des", " des", 1, 1),
+        ("0,2,2", "0, 2,2", 1, 8),
+        ("2,2)", "2,2\t)", 1, 11),
+        ("\n(0", "\n (0", 2, 1),
+        ("(0,\"", "( 0,\"", 2, 2),
+        ("(0,\"", "(0 ,\"", 2, 3),
+        ("(0,\"", "(0, \"", 2, 4),
+        ("!\",1", "!\" ,1", 2, 9),
+        ("!\",1", "!\", 1", 2, 10),
+        ("1)\n", "1)  \n", 2, 12),
+    ];
+    each_repaired("blanks outside labels taken out", &changes);
+}
+
+/// Zeros in front, quotes that are missing, and what stands before the header.
+#[test]
+fn numbers_quotes_and_mark() {
+    let zeros = [("(0,2,2)", "(00,2,2)", 1, 6), ("(1,", "(0000001,", 3, 2)];
+    each_repaired("leading zeros taken out", &zeros);
+    let quotes = [("\"i\"", "i", 3, 4)];
+    each_repaired("labels put in double quotes", &quotes);
+    let mark = [("des", "\u{feff}des", 1, 1)];
+    each_repaired("the byte order mark taken out", &mark);
+    let tau = "line 3: label tau written as i";
+    repaired("\"i\"", "\"tau\"", tau, "21: line 3, column 5");
+}
+
+/// Line ends, and what stands behind the last one.
+#[test]
+fn line_ends() {
+    let returns = [("2)\n", "2)\r\n", 1, 12)];
+    each_repaired("carriage returns before line feeds taken out", &returns);
+    each_repaired("a line feed put at the end", &[("0)\n", "0)", 3, 10)]);
+    let blank = [("0)\n", "0)\n\n", 4, 1)];
+    each_repaired("blank lines at the end taken out", &blank);
+    let several = "lines 4 to 5: blank lines at the end taken out";
+    repaired("0)\n", "0)\n\r\n \t", several, "19: line 4, column 1");
 }
 
 /// All at once: each kind is told once, with its lines.
