@@ -19,6 +19,7 @@ use Rattle.aldebaran.specs.declared.rows.NextRow.{NextRow}
 use Rattle.hml.proofs.Tests.{apart}
 use Rattle.aldebaran_form.proofs.Lacks.{Lacks}
 use Rattle.aldebaran_form.proofs.Scanning.{rest-in}
+use Rattle.aldebaran_form.proofs.LineReading.{next-next}
 use Rattle.aldebaran_form.proofs.LinesInTexts.{row-feed, row-open, FirstLine, first-line}
 use Rattle.aldebaran.proofs.LineSplitting.{lines-nil, lines-feed, lines-none}
 
@@ -58,14 +59,9 @@ rows-next l h = go (first-line l)
     after : Line × List ℕ → Option (List Line)
     after p = next (rowLines (p .1)) (λ ls. some (p .0 ∷ ls))
 
-    same : (rest : List ℕ) (o : Option Line)
-        → next o (λ x. after (x, rest)) ≡ next (next {B = Line × List ℕ} o (λ x. some (x, rest))) after
-    same rest none = refl
-    same rest (some x) = refl
-
     go : FirstLine l ⊎ Lacks lineFeed l → rowLines l ≡ next (rowIn l) after
     go (inl f) = ap rowLines (f .split) ∙ rows-feed (f .line) (f .rest) (f .lacks)
-        ∙ same (f .rest) (lineIn (f .line))
+        ∙ next-next (lineIn (f .line)) (λ x. some (x, f .rest)) after
         ∙ ap (λ o. next o after) (sym (ap rowIn (f .split) ∙ row-feed (f .line) (f .rest) (f .lacks)))
     go (inr v) = rows-none l v h ∙ ap (λ o. next o after) (sym (row-open l v))
 
