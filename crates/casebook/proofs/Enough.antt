@@ -19,16 +19,16 @@ use Rattle.labels.specs.declared.refusal.Check.the-variants as check
 use Rattle.tables.specs.Tables.{checkTable}
 use Rattle.machines.specs.Joints.{checkJoint}
 use Rattle.formulas.specs.Formulas.{questionLimit, checkFormula}
-use Rattle.casebook.specs.Records.{wordAt, fitLength, longestRecord, mayStand, nextAt, bodyOf, labelsOf}
+use Rattle.records.specs.Records.{wordAt, fitLength, longestRecord, mayStand, nextAt, bodyOf, labelsOf}
+use Rattle.records.specs.declared.record.Cursor.{Cursor}
+use Rattle.records.specs.declared.record.Record.{Record}
+use Rattle.records.specs.declared.record.Next.{Next}
+use Rattle.records.specs.declared.record.Next.the-variants as next
+use Rattle.records.proofs.Records.{fit-some, fit-longest}
 use Rattle.casebook.specs.Reading.{labelsKinds, leftKinds, rightKinds, runKinds, questionKinds, longestCasebook}
 use Rattle.casebook.specs.Reading.{after, ifSound, readQuestion, readRun, readRight, readLeft, readOf}
-use Rattle.casebook.specs.declared.record.Cursor.{Cursor}
-use Rattle.casebook.specs.declared.record.Record.{Record}
-use Rattle.casebook.specs.declared.record.Next.{Next}
-use Rattle.casebook.specs.declared.record.Next.the-variants as next
 use Rattle.casebook.specs.declared.read.Reading.{Reading}
 use Rattle.casebook.specs.declared.read.Reading.the-variants as reading
-use Rattle.casebook.proofs.Records.{fit-some, fit-longest}
 
 -- a part that lies in the first n bytes is a part of them
 part-early : (k m n : ℕ) (s : List ℕ) → k + m ≤ n → take m (drop k (take n s)) ≡ take m (drop k s)

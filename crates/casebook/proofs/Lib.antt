@@ -1,5 +1,4 @@
-pub mod Records
-pub mod RecordLaws
+pub mod PartLengths
 pub mod Reading
 pub mod RoundTrip
 pub mod Registrar

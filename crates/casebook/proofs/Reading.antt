@@ -15,12 +15,12 @@ use Rattle.labels.proofs.Refusals.{then-sound}
 use Rattle.tables.specs.Tables.{checkTable}
 use Rattle.machines.specs.Joints.{checkJoint, checkTablesAndJoint}
 use Rattle.formulas.specs.Formulas.{questionLimit, checkFormula}
-use Rattle.casebook.specs.Records.{nextAt, bodyOf, labelsOf}
+use Rattle.records.specs.Records.{nextAt, bodyOf, labelsOf}
+use Rattle.records.specs.declared.record.Cursor.{Cursor}
+use Rattle.records.specs.declared.record.Record.{Record}
+use Rattle.records.specs.declared.record.Next.the-variants as next
 use Rattle.casebook.specs.Reading.{labelsKinds, leftKinds, rightKinds, runKinds, questionKinds}
 use Rattle.casebook.specs.Reading.{readQuestion, readRun, readRight, readLeft, readOf}
-use Rattle.casebook.specs.declared.record.Cursor.{Cursor}
-use Rattle.casebook.specs.declared.record.Record.{Record}
-use Rattle.casebook.specs.declared.record.Next.the-variants as next
 use Rattle.casebook.specs.declared.read.Reading.{Reading}
 use Rattle.casebook.specs.declared.read.Reading.the-variants as reading
 

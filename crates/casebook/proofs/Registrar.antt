@@ -12,12 +12,12 @@ use Rattle.labels.specs.declared.refusal.Check.the-variants as check
 use Rattle.labels.specs.declared.refusal.Refusal.the-variants.{OutputTooShort}
 use Rattle.labels.proofs.Refusals.{both-sound}
 use Rattle.machines.specs.Cases.{Case}
+use Rattle.records.proofs.RecordLaws.{Bytes}
 use Rattle.casebook.specs.Reading.{readOf, caseOf}
 use Rattle.casebook.specs.Writing.{casebookBytes, checkParts, checkWrite, answered, writeOf, writtenOf}
 use Rattle.casebook.specs.declared.read.Parts.{Parts}
 use Rattle.casebook.specs.declared.read.Reading.the-variants as reading
 use Rattle.casebook.specs.declared.write.Writing.the-variants as writing
-use Rattle.casebook.proofs.RecordLaws.{Bytes}
 use Rattle.casebook.proofs.RoundTrip.{ReadsTo, read-sound, read-written, written-read}
 
 -- A casebook that was read, written again from its parts. Into an output of its length or more go its own bytes, and

@@ -21,21 +21,22 @@ use Rattle.tables.specs.Tables.{checkTable}
 use Rattle.machines.specs.Joints.{checkJoint}
 use Rattle.machines.specs.Cases.{Case}
 use Rattle.formulas.specs.Formulas.{questionLimit, checkFormula}
-use Rattle.casebook.specs.Records.{lengthsOf, fitLength, mayStand, nextAt, bodyOf, labelsOf, labelsBytes}
-use Rattle.casebook.specs.Records.{recordBytes}
+use Rattle.records.specs.Records.{lengthsOf, fitLength, mayStand, nextAt, bodyOf, labelsOf, labelsBytes}
+use Rattle.records.specs.Records.{recordBytes}
+use Rattle.records.specs.declared.record.Cursor.{Cursor}
+use Rattle.records.specs.declared.record.Record.{Record}
+use Rattle.records.specs.declared.record.Next.{Next}
+use Rattle.records.specs.declared.record.Next.the-variants as next
+use Rattle.records.proofs.Records.{only-kind, fit-longest}
+use Rattle.records.proofs.RecordLaws.{Bytes, Lies, placed, behind, next-record, record-next, record-length}
+use Rattle.records.proofs.RecordLaws.{header-fits, first-byte, single}
 use Rattle.casebook.specs.Reading.{labelsKinds, leftKinds, rightKinds, runKinds, questionKinds, longestCasebook}
 use Rattle.casebook.specs.Reading.{after, ifSound, readQuestion, readRun, readRight, readLeft, readOf, caseOf}
 use Rattle.casebook.specs.Writing.{casebookBytes, checkParts}
-use Rattle.casebook.specs.declared.record.Cursor.{Cursor}
-use Rattle.casebook.specs.declared.record.Record.{Record}
-use Rattle.casebook.specs.declared.record.Next.{Next}
-use Rattle.casebook.specs.declared.record.Next.the-variants as next
 use Rattle.casebook.specs.declared.read.Parts.{Parts}
 use Rattle.casebook.specs.declared.read.Reading.{Reading}
 use Rattle.casebook.specs.declared.read.Reading.the-variants as reading
-use Rattle.casebook.proofs.Records.{only-kind, fit-longest}
-use Rattle.casebook.proofs.RecordLaws.{Bytes, Lies, placed, behind, next-record, record-next, record-length}
-use Rattle.casebook.proofs.RecordLaws.{header-fits, first-byte, single, table-fits, joint-fits, question-fits}
+use Rattle.casebook.proofs.PartLengths.{table-fits, joint-fits, question-fits}
 
 -- a case of which each part is sound by itself
 pub record SoundParts (c : Case) : Type 0 where

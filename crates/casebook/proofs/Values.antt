@@ -10,13 +10,13 @@ use Rattle.labels.specs.declared.refusal.Check.the-variants.{Sound, Refused}
 use Rattle.labels.proofs.Refusals.{both-sound}
 use Rattle.labels.proofs.Answers.{Within, none, next}
 use Rattle.machines.specs.Cases.{Case}
-use Rattle.casebook.specs.Records.{lengthsOf, longestBody}
+use Rattle.records.specs.Records.{lengthsOf, longestBody}
+use Rattle.records.specs.declared.record.Record.{Record}
+use Rattle.records.proofs.RecordLaws.{Bytes}
 use Rattle.casebook.specs.Reading.{longestCasebook, readOf, readAnswer}
 use Rattle.casebook.specs.Writing.{casebookBytes, checkParts, checkWrite, answered, writeOf, writeAnswer}
-use Rattle.casebook.specs.declared.record.Record.{Record}
 use Rattle.casebook.specs.declared.read.Reading.{Reading}
 use Rattle.casebook.specs.declared.read.Reading.the-variants as reading
-use Rattle.casebook.proofs.RecordLaws.{Bytes}
 use Rattle.casebook.proofs.RoundTrip.{casebook-short, placing}
 
 -- the longest casebook, in figures

@@ -22,10 +22,11 @@ use Rattle.machines.specs.Joints.{checkJoint, checkTablesAndJoint}
 use Rattle.machines.specs.Cases.{Case}
 use Rattle.formulas.specs.Formulas.{questionLimit, checkFormula}
 use Rattle.machines.specs.Cases.{caseWith}
-use Rattle.casebook.specs.Records.{labelsBytes, recordBytes}
+use Rattle.records.specs.Records.{labelsBytes, recordBytes}
+use Rattle.records.proofs.RecordLaws.{record-length}
 use Rattle.casebook.specs.Writing.{casebookBytes, checkParts, checkWrite, writeOf, writtenOf}
 use Rattle.casebook.specs.declared.write.Writing.the-variants as writing
-use Rattle.casebook.proofs.RecordLaws.{record-length, table-fits, joint-fits, question-fits}
+use Rattle.casebook.proofs.PartLengths.{table-fits, joint-fits, question-fits}
 use Rattle.casebook.proofs.RoundTrip.{casebook-length, sound-parts}
 
 record-split : (kind : ℕ) (body : List ℕ) (a b c : ℕ) → a ≡ (2 + length body) % 256 → b ≡ (2 + length body) / 256

@@ -1,5 +1,4 @@
 -- In reading order; Working is how the code works.
-pub mod Records
 pub mod Reading
 pub mod Writing
 pub mod Working

@@ -13,11 +13,11 @@ use Rattle.tables.specs.Tables.{checkTable}
 use Rattle.machines.specs.Joints.{checkJoint}
 use Rattle.machines.specs.Cases.{Case}
 use Rattle.formulas.specs.Formulas.{questionLimit, checkFormula}
-use Rattle.casebook.specs.Records.{longestRecord, nextAt, bodyOf, labelsOf}
-use Rattle.casebook.specs.declared.record.Cursor.{Cursor}
-use Rattle.casebook.specs.declared.record.Record.{Record}
-use Rattle.casebook.specs.declared.record.Next.{Next}
-use Rattle.casebook.specs.declared.record.Next.the-variants as next
+use Rattle.records.specs.Records.{longestRecord, nextAt, bodyOf, labelsOf}
+use Rattle.records.specs.declared.record.Cursor.{Cursor}
+use Rattle.records.specs.declared.record.Record.{Record}
+use Rattle.records.specs.declared.record.Next.{Next}
+use Rattle.records.specs.declared.record.Next.the-variants as next
 use Rattle.casebook.specs.declared.read.Parts.{Parts}
 use Rattle.casebook.specs.declared.read.Reading.{Reading}
 use Rattle.casebook.specs.declared.read.Reading.the-variants as reading

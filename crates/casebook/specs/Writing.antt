@@ -12,7 +12,7 @@ use Rattle.tables.specs.Tables.{checkTable}
 use Rattle.machines.specs.Joints.{checkJoint}
 use Rattle.machines.specs.Cases.{Case}
 use Rattle.formulas.specs.Formulas.{questionLimit, checkFormula}
-use Rattle.casebook.specs.Records.{labelsBytes, recordBytes}
+use Rattle.records.specs.Records.{labelsBytes, recordBytes}
 use Rattle.casebook.specs.declared.write.Writing.{Writing}
 use Rattle.casebook.specs.declared.write.Writing.the-variants as writing
 

@@ -1,4 +1,3 @@
-// Casebooks: records, reading one whole or refusing it under one number, and writing one from its parts.
+// Casebooks: reading one whole or refusing it under one number, and writing one from its parts.
 pub mod read;
-pub mod record;
 pub mod write;

@@ -1,17 +1,17 @@
 // Reading a casebook: where each part lies, or the one number of document 01's order.
-use crate::record::Cursor;
-use crate::record::Next;
-use crate::record::Record;
 use formulas::check::check_formula;
 use labels::label::Labels;
 use labels::refusal::Check;
 use labels::refusal::Refusal;
 use machines::joint::check_joint;
+use records::record::Cursor;
+use records::record::Next;
+use records::record::Record;
 use tables::check::check_table;
 ghost use mathlib.Core.Path.{_≡_};
 ghost use Rattle.labels.specs.declared.refusal.Check.the-variants.{Sound};
 ghost use Rattle.tables.specs.Tables.{checkTable};
-ghost use Rattle.casebook.specs.Records.{bodyOf, labelsOf};
+ghost use Rattle.records.specs.Records.{bodyOf, labelsOf};
 ghost use Rattle.casebook.specs.Reading.{longestCasebook, readQuestion, readRun, readRight, readLeft, readOf};
 ghost use Rattle.casebook.specs.Reading.{caseOf};
 

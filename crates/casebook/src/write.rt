@@ -9,7 +9,7 @@ ghost use Prim.Native.Nat.{_+_, _≤_, _<_};
 ghost use lib.ListN.{length};
 ghost use Rattle.labels.specs.Refusals.{inFront};
 ghost use Rattle.machines.specs.Cases.{caseWith};
-ghost use Rattle.casebook.specs.Records.{recordBytes};
+ghost use Rattle.records.specs.Records.{recordBytes};
 ghost use Rattle.casebook.specs.Writing.{casebookBytes, checkParts, writeOf, writtenOf};
 ghost use Rattle.casebook.specs.Working.{Fitting};
 

@@ -15,10 +15,10 @@ use crate::splittings::show_log_halves;
 use casebook::read::Parts;
 use casebook::read::Reading;
 use casebook::read::read;
-use casebook::record::Record;
 use casebook::write::Writing;
 use casebook::write::write;
 use halves::side::Side;
+use records::record::Record;
 
 // Prints where the parts of case A lie, and what they are written back to.
 pub(crate) fn show_records() {

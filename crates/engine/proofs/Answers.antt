@@ -9,11 +9,11 @@ use borrow.Author.Tests.{ne-eqb}
 use Rattle.labels.specs.Refusals.{Answer, numberOf, refusedAs, giving}
 use Rattle.labels.specs.declared.refusal.Refusal.{Refusal}
 use Rattle.halves.specs.declared.side.Side.the-variants as side
+use Rattle.records.proofs.RecordLaws.{Bytes}
 use Rattle.casebook.specs.Reading.{readOf, readAnswer}
 use Rattle.casebook.specs.declared.read.Parts.{Parts}
 use Rattle.casebook.specs.declared.read.Reading.{Reading}
 use Rattle.casebook.specs.declared.read.Reading.the-variants as reading
-use Rattle.casebook.proofs.RecordLaws.{Bytes}
 use Rattle.casebook.proofs.RoundTrip.{placing}
 use Rattle.labels.proofs.Answers.{Within, within-at}
 use Rattle.aldebaran.specs.Reading as text-reading

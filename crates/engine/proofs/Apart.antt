@@ -16,9 +16,9 @@ use Rattle.halves.specs.Cuts.{beyond, cutOf, knownOf, knownPart}
 use Rattle.halves.specs.declared.side.Side.{Side}
 use Rattle.halves.proofs.Cuts.{refused-empty}
 use Rattle.machines.specs.Cases.{Case}
+use Rattle.records.proofs.RecordLaws.{Bytes}
 use Rattle.casebook.specs.Reading.{longestCasebook, readOf, readAnswer}
 use Rattle.casebook.specs.Writing.{writeOf, writeAnswer}
-use Rattle.casebook.proofs.RecordLaws.{Bytes}
 use Rattle.casebook.proofs.Values.{longest-is, write-within, read-within}
 use Rattle.verdict.specs.Verdicts.{jointVerdict, halfVerdict, verdictAnswer}
 use Rattle.verdict.proofs.Values.{verdict-within}

@@ -8,9 +8,9 @@ use lib.Seq.{take-all, take-take, drop-drop}
 use Rattle.labels.specs.declared.label.Labels.{Labels}
 use Rattle.labels.specs.declared.refusal.Check.the-variants.{Sound}
 use Rattle.machines.specs.Cases.{Case, withRun}
-use Rattle.casebook.specs.Records.{bodyOf}
+use Rattle.records.specs.Records.{bodyOf}
+use Rattle.records.specs.declared.record.Record.{Record}
 use Rattle.casebook.specs.Reading.{caseOf}
-use Rattle.casebook.specs.declared.record.Record.{Record}
 use Rattle.casebook.specs.declared.read.Parts.{Parts}
 use Rattle.splitting.proofs.LogRuns.{sound-log}
 use Rattle.sheet_lines.specs.Working.{logCheck, between}

@@ -24,7 +24,7 @@ use Rattle.halves.specs.Cuts.{beyond}
 use Rattle.machines.specs.Joints.{jointSteps, jointOf, isLeftAlone, isRightAlone, shakesTo, isJointIdle, isHandshake}
 use Rattle.machines.specs.Joints.{isReal, fitJoint, isJointRun, checkJoint}
 use Rattle.formulas.specs.Formulas.{wholeOf, formulaOf, isFormula, nestsFit, checkFormula}
-use Rattle.casebook.specs.Records.{lengthsOf, fitLength, mayStand, nextAt, bodyOf, labelsOf}
+use Rattle.records.specs.Records.{lengthsOf, fitLength, mayStand, nextAt, bodyOf, labelsOf}
 use Rattle.casebook.specs.Reading.{readQuestion, readRun, readRight, readLeft, readOf, caseOf}
 use Rattle.casebook.specs.declared.read.Reading.{Reading}
 use Rattle.casebook.specs.declared.read.Reading.the-variants as reading

@@ -1,6 +1,6 @@
 // A case as the bytes of a casebook show it: the count of its splittings, and parts of its run.
 use casebook::read::Parts;
-use casebook::record::Record;
+use records::record::Record;
 use splitting::count::Counted;
 use splitting::count::count;
 ghost use mathlib.Core.Path.{_≡_};

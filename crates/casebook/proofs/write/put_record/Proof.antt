@@ -3,8 +3,8 @@ use native.Mathlib.Omega.{arith}
 use mathlib.Core.Path.{refl}
 use lib.ListN.{length-set, length-take, length-drop}
 use Rattle.labels.proofs.Outputs.{front-length}
-use Rattle.casebook.specs.Records.{recordBytes}
-use Rattle.casebook.proofs.RecordLaws.{record-length}
+use Rattle.records.specs.Records.{recordBytes}
+use Rattle.records.proofs.RecordLaws.{record-length}
 use Rattle.casebook.proofs.Writing.{record-put}
 use borrow.Author.Needs.{needs}
 use Rattle.casebook.proofs.write.put_record.Statement.{statement}

@@ -3,11 +3,11 @@ use Prim.Native.Nat.{_-_}
 use mathlib.Core.Path.{_≡_, refl, sym, _∙_}
 use native.Mathlib.Omega.{arith}
 use lib.ListN.{length, drop}
-use Rattle.casebook.specs.Records.{mayStand}
-use Rattle.casebook.proofs.Records.{kind-here, kind-later, kind-nowhere}
+use Rattle.records.specs.Records.{mayStand}
+use Rattle.records.proofs.Records.{kind-here, kind-later, kind-nowhere}
 use borrow.Author.Needs.{needs}
-use Rattle.casebook.proofs.record.may_stand.Statement.{statement}
-use Rattle.casebook.proofs.record.may_stand.Tie as tie
+use Rattle.records.proofs.record.may_stand.Statement.{statement}
+use Rattle.records.proofs.record.may_stand.Tie as tie
 
 abbrev Inv-loop : tie.InvT-loop
 Inv-loop kinds kind i₀ i = mayStand (drop i kinds) kind ≡ mayStand kinds kind

@@ -2,11 +2,11 @@
 use mathlib.Core.Path.{sym, _∙_, ap}
 use native.Mathlib.Omega.{arith}
 use borrow.Author.Tests.{not-true, not-false}
-use Rattle.casebook.specs.Records.{fitLength}
-use Rattle.casebook.proofs.Records.{fit-some, short-header, other-kind, misfit, short-body, found}
+use Rattle.records.specs.Records.{fitLength}
+use Rattle.records.proofs.Records.{fit-some, short-header, other-kind, misfit, short-body, found}
 use borrow.Author.Needs.{needs}
-use Rattle.casebook.proofs.record.Cursor.next.Statement.{statement}
-use Rattle.casebook.proofs.record.Cursor.next.Tie as tie
+use Rattle.records.proofs.record.Cursor.next.Statement.{statement}
+use Rattle.records.proofs.record.Cursor.next.Tie as tie
 
 returns : tie.Need-returns
 returns c = short-header _ _ _ (omega arith)

@@ -1,9 +1,9 @@
 -- The kinds are tried one after the other.
 use mathlib.Core.Path.{refl}
-use Rattle.casebook.specs.Records.{lengthsOf}
-use Rattle.casebook.proofs.Records.{kind-is, no-kind}
-use Rattle.casebook.proofs.record.lengths_of.Statement.{statement}
-use Rattle.casebook.proofs.record.lengths_of.Tie as tie
+use Rattle.records.specs.Records.{lengthsOf}
+use Rattle.records.proofs.Records.{kind-is, no-kind}
+use Rattle.records.proofs.record.lengths_of.Statement.{statement}
+use Rattle.records.proofs.record.lengths_of.Tie as tie
 
 returns : tie.Need-returns
 unfolding lengthsOf

@@ -12,10 +12,10 @@ use Rattle.hml.specs.Lists.{any}
 use Rattle.hml.proofs.Tests.{apart, Decides, decides, decided-iff, decided-and, decided-same, decided-le}
 use Rattle.labels.specs.Labels.{ofPairs}
 use Rattle.labels.specs.declared.refusal.Refusal.the-variants.{Truncated, WrongKind, WrongLength}
-use Rattle.casebook.specs.Records.{wordAt, lengthsOf, fitLength, longestBody, mayStand, nextAt, bodyOf, labelsOf}
-use Rattle.casebook.specs.declared.record.Lengths.{Lengths}
-use Rattle.casebook.specs.declared.record.Record.{Record}
-use Rattle.casebook.specs.declared.record.Next.the-variants as next
+use Rattle.records.specs.Records.{wordAt, lengthsOf, fitLength, longestBody, mayStand, nextAt, bodyOf, labelsOf}
+use Rattle.records.specs.declared.record.Lengths.{Lengths}
+use Rattle.records.specs.declared.record.Record.{Record}
+use Rattle.records.specs.declared.record.Next.the-variants as next
 
 -- the table of records by its kinds
 module _ (kind : ℕ) where

@@ -1,10 +1,10 @@
 -- The byte is there, or the record begins past the end.
 use mathlib.Core.Path.{_∙_}
-use Rattle.casebook.specs.Records.{labelsOf}
-use Rattle.casebook.proofs.Records.{labels-outside}
+use Rattle.records.specs.Records.{labelsOf}
+use Rattle.records.proofs.Records.{labels-outside}
 use borrow.Author.Needs.{needs}
-use Rattle.casebook.proofs.record.Record.labels.Statement.{statement}
-use Rattle.casebook.proofs.record.Record.labels.Tie as tie
+use Rattle.records.proofs.record.Record.labels.Statement.{statement}
+use Rattle.records.proofs.record.Record.labels.Tie as tie
 
 of-pairs-requires : tie.Need-of-pairs-requires
 of-pairs-requires c κs = search needs

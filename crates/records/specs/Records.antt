@@ -11,10 +11,10 @@ use Rattle.labels.specs.Refusals.{Answer, refusedAs, giving}
 use Rattle.labels.specs.Labels.{ofPairs}
 use Rattle.labels.specs.declared.label.Labels.{Labels}
 use Rattle.labels.specs.declared.refusal.Refusal.the-variants.{Truncated, WrongKind, WrongLength}
-use Rattle.casebook.specs.declared.record.Lengths.{Lengths}
-use Rattle.casebook.specs.declared.record.Record.{Record}
-use Rattle.casebook.specs.declared.record.Next.{Next}
-use Rattle.casebook.specs.declared.record.Next.the-variants as next
+use Rattle.records.specs.declared.record.Lengths.{Lengths}
+use Rattle.records.specs.declared.record.Record.{Record}
+use Rattle.records.specs.declared.record.Next.{Next}
+use Rattle.records.specs.declared.record.Next.the-variants as next
 
 -- two bytes, the low one first
 abbrev pub wordAt : List ℕ → ℕ → ℕ

@@ -1,9 +1,9 @@
 -- The lengths of the kind decide: too short, too long, or by their step.
 use native.Mathlib.Omega.{arith}
-use Rattle.casebook.proofs.Records.{too-short, too-long, step-decides, step-some}
+use Rattle.records.proofs.Records.{too-short, too-long, step-decides, step-some}
 use borrow.Author.Needs.{needs}
-use Rattle.casebook.proofs.record.fits.Statement.{statement}
-use Rattle.casebook.proofs.record.fits.Tie as tie
+use Rattle.records.proofs.record.fits.Statement.{statement}
+use Rattle.records.proofs.record.fits.Tie as tie
 
 lengths-of-requires : tie.Need-lengths-of-requires
 lengths-of-requires c κs = search needs

@@ -4,8 +4,8 @@ use labels::refusal::Refusal;
 ghost use mathlib.Core.Path.{_≡_};
 ghost use Prim.Native.Nat.{_+_, _<_};
 ghost use lib.ListN.{length};
-ghost use Rattle.casebook.specs.Records.{wordAt, lengthsOf, fitLength};
-ghost use Rattle.casebook.specs.Records.{mayStand, nextAt, bodyOf, labelsOf};
+ghost use Rattle.records.specs.Records.{wordAt, lengthsOf, fitLength};
+ghost use Rattle.records.specs.Records.{mayStand, nextAt, bodyOf, labelsOf};
 
 // A reading position.
 pub struct Cursor {

@@ -2,10 +2,10 @@
 use native.Mathlib.Omega.{arith}
 use mathlib.Core.Path.{_≡_}
 use Prim.Native.Nat.{_+_, _-_}
-use Rattle.casebook.proofs.Records.{body-outside, body-short, body-whole}
+use Rattle.records.proofs.Records.{body-outside, body-short, body-whole}
 use borrow.Author.Needs.{needs}
-use Rattle.casebook.proofs.record.Record.body.Statement.{statement}
-use Rattle.casebook.proofs.record.Record.body.Tie as tie
+use Rattle.records.proofs.record.Record.body.Statement.{statement}
+use Rattle.records.proofs.record.Record.body.Tie as tie
 
 slice-aggregate-result : tie.Need-slice-aggregate-result
 slice-aggregate-result c = search needs

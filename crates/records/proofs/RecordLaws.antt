@@ -1,5 +1,4 @@
--- Laws of records: the next record of some bytes, when it was written and when it was read, and the lengths of sound
--- parts.
+-- Laws of records: the next record of some bytes, when it was written and when it was read.
 use Prim.Native.Nat.{ℕ, suc, _+_, _-_, _*_, _/_, _%_, _≤_, _<_}
 use mathlib.Core.Path.{_≡_, refl, _∙_, ap}
 use mathlib.Core.Bool.{Bool, true, false, cond, not}
@@ -9,25 +8,13 @@ use lib.ListN.{length, getD, take, drop, length-append, length-take, length-drop
 use lib.Seq.{length-take-le, drop-cons, drop-drop, getD-drop, getD-take, take-append-seam, drop-append-seam}
 use lib.Dec.{ltb}
 use borrow.Author.Tests.{le-ltb, ltb-false}
-use Rattle.hml.proofs.Tests.{apart, decides, decided-and, decided-same, decided-le}
-use Rattle.hml.specs.Formula.{size}
-use Rattle.hml.proofs.Spelling.{length-spell}
-use Rattle.labels.specs.Refusals.{firstOf}
-use Rattle.labels.specs.declared.refusal.Check.the-variants.{Sound}
+use Rattle.hml.proofs.Tests.{apart, decides}
 use Rattle.labels.specs.declared.refusal.Refusal.the-variants.{Truncated, WrongKind, WrongLength}
-use Rattle.labels.proofs.Refusals.{judges, judged-unless, both-sound}
-use Rattle.labels.specs.declared.label.Labels.{Labels}
-use Rattle.tables.specs.Tables.{checkTable}
-use Rattle.tables.proofs.SoundTables.{sound-table}
-use Rattle.machines.specs.Joints.{fitJoint, checkJoint}
-use Rattle.formulas.specs.Formulas.{checkFormula, Legal}
-use Rattle.formulas.proofs.Checking.{judged-formula}
-use Rattle.formulas.proofs.Measures.{size-some}
-use Rattle.casebook.specs.Records.{wordAt, lengthsOf, fitLength, mayStand, nextAt, bodyOf, recordBytes}
-use Rattle.casebook.proofs.Records.{decided-fit, fit-some}
-use Rattle.casebook.specs.declared.record.Cursor.{Cursor}
-use Rattle.casebook.specs.declared.record.Record.{Record}
-use Rattle.casebook.specs.declared.record.Next.the-variants as next
+use Rattle.records.specs.Records.{wordAt, lengthsOf, fitLength, mayStand, nextAt, bodyOf, recordBytes}
+use Rattle.records.proofs.Records.{decided-fit, fit-some}
+use Rattle.records.specs.declared.record.Cursor.{Cursor}
+use Rattle.records.specs.declared.record.Record.{Record}
+use Rattle.records.specs.declared.record.Next.the-variants as next
 
 -- all elements are bytes
 abbrev pub Bytes : List ℕ → Type 0
@@ -243,35 +230,3 @@ pub single : (l : List ℕ) → length l ≡ 1 → l ≡ getD l 0 0 ∷ []
 single [] e = absurd (omega (arith, e))
 single (x ∷ []) e = refl
 single (x ∷ y ∷ l) e = absurd (omega (arith, e))
-
--- the record of a sound table has a length that fits, on either side
-pub table-fits : (k : Labels) (t : List ℕ) → checkTable k t ≡ Sound
-    → (fitLength 2 (2 + length t) ≡ true) × (fitLength 3 (2 + length t) ≡ true) × (length t ≤ 1537)
-unfolding lengthsOf
-table-fits k t e =
-    let f = sound-table k t e .fits in (
-      decides (decided-fit 2 (2 + length t)) .1 (omega (arith, f), omega (arith, f), omega (arith, f)),
-      decides (decided-fit 3 (2 + length t)) .1 (omega (arith, f), omega (arith, f), omega (arith, f)),
-      f .1,
-    )
-
--- so has the record of a sound joint run
-pub joint-fits : (k : Labels) (l r j : List ℕ) → checkJoint k l r j ≡ Sound
-    → (fitLength 4 (2 + length j) ≡ true) × (length j ≤ 602)
-unfolding lengthsOf checkJoint firstOf fitJoint
-joint-fits k l r j e =
-    let c = judges (judged-unless WrongLength
-    (decided-and (decided-same (length j % 3) 2) (decided-le (length j) 602))) .0 (both-sound _ _ e .0) in
-    (decides (decided-fit 4 (2 + length j)) .1 (omega (arith, c), omega (arith, c), omega (arith, c)), c .1)
-
--- and that of a sound question
-pub question-fits : (k : Labels) (q : List ℕ) → checkFormula k 64 q ≡ Sound
-    → (fitLength 5 (2 + length q) ≡ true) × (length q ≤ 128)
-unfolding lengthsOf Legal
-question-fits k q e =
-    let (φ, f, s, _, _) = judges (judged-formula k 64 q) .0 e in
-    let n : length q ≡ 2 * size φ = omega (arith, ap length f, length-spell φ []) in
-    let m = size-some φ in (
-      decides (decided-fit 5 (2 + length q)) .1 (omega (arith, n), omega (arith, n, m), omega (arith, n, s)),
-      omega (arith, n, s),
-    )

@@ -3,8 +3,8 @@ use native.Mathlib.Omega.{arith}
 use mathlib.Core.Path.{refl}
 use Prim.Native.Nat.{_+_}
 use borrow.Author.Needs.{needs}
-use Rattle.casebook.proofs.record.word.Statement.{statement}
-use Rattle.casebook.proofs.record.word.Tie as tie
+use Rattle.records.proofs.record.word.Statement.{statement}
+use Rattle.records.proofs.record.word.Tie as tie
 
 shared-slice-read-result : tie.Need-shared-slice-read-result
 shared-slice-read-result c = search needs
