@@ -94,7 +94,8 @@ static inline uint32_t yenuslap_value(uint64_t answer)
     return (uint32_t)(answer & 0xffffffffu);
 }
 
-/* The known side of two halves. Every byte but 1 and 2 names none, and then the right is taken. */
+/* The known side of two halves. Every byte but 1 and 2 names none, and then the left half is known: document 02's
+ * rule; document 01's was the right, so whoever relied on that names YENUSLAP_RIGHT. */
 #define YENUSLAP_UNNAMED 0
 #define YENUSLAP_LEFT 1
 #define YENUSLAP_RIGHT 2
@@ -231,7 +232,7 @@ uint64_t yenuslap_quotient_of_splitting(uint8_t k,
                                         uint8_t *out, size_t out_len);
 
 /* Judges a question of 1 to 64 nodes on the joint run of two halves, and its quotient by the known half on the
- * other half, all stopped at a point. The two verdicts are proved to be the same.
+ * other half (the right one if no side is named), all stopped at a point. The two verdicts are proved to be the same.
  *   value    2 * joint verdict + half verdict (1 holds, 0 fails), so 3 or 0
  *   refused  as yenuslap_quotient, 18 aside
  *   lent     all is only read */

@@ -36,13 +36,15 @@ void check_cuts(void)
     IS_LONG(0, cut(YENUSLAP_LEFT, SIZE_MAX));
     IS_LONG(1, cut(YENUSLAP_RIGHT, 0));
     IS_LONG(0, cut(YENUSLAP_RIGHT, 1));
-    /* Unnamed, it is the right. */
+    /* Unnamed, it is the left. */
     IS_LONG(1, cut(YENUSLAP_UNNAMED, 0));
-    IS_LONG(0, cut(YENUSLAP_UNNAMED, 1));
-    IS_LONG(0, cut(3, 1));
-    IS_LONG(0, cut(255, 1));
+    IS_LONG(3, cut(YENUSLAP_UNNAMED, 1));
+    IS_LONG(0, cut(YENUSLAP_UNNAMED, 2));
+    IS_LONG(3, cut(3, 1));
+    IS_LONG(3, cut(255, 1));
     /* A half of even length has no points, and no other half is looked at. */
     IS_LONG(0, yenuslap_cut(BYTES(EVEN_HALF), BYTES(A_RIGHT_HALF_0), YENUSLAP_LEFT, 0));
+    IS_LONG(0, yenuslap_cut(BYTES(EVEN_HALF), BYTES(A_RIGHT_HALF_0), YENUSLAP_UNNAMED, 0));
     IS_LONG(3, yenuslap_cut(BYTES(EVEN_HALF), BYTES(A_RIGHT_HALF_0), YENUSLAP_RIGHT, 1));
     IS_LONG(0, yenuslap_cut(A_LEFT, 0, A_RIGHT, 0, YENUSLAP_RIGHT, 0));
     check_longest();

@@ -10,11 +10,18 @@ static uint64_t ask_a(const uint8_t *question, size_t question_len, uint8_t side
                                 question, question_len, side, point);
 }
 
-/* Puts case A's question to two halves, at point 1, with the right one known. */
-static uint64_t ask_halves(const uint8_t *left_half, size_t left_len, const uint8_t *right_half, size_t right_len)
+/* Puts case A's question to two halves, at point 1, with one of them known. */
+static uint64_t ask_known(uint8_t side, const uint8_t *left_half, size_t left_len, const uint8_t *right_half,
+                          size_t right_len)
 {
     return yenuslap_line_office(A_K, BYTES(A_LEFT), BYTES(A_RIGHT), left_half, left_len, right_half, right_len,
-                                BYTES(A_QUESTION), YENUSLAP_RIGHT, 1);
+                                BYTES(A_QUESTION), side, 1);
+}
+
+/* The same with the right one known. */
+static uint64_t ask_halves(const uint8_t *left_half, size_t left_len, const uint8_t *right_half, size_t right_len)
+{
+    return ask_known(YENUSLAP_RIGHT, left_half, left_len, right_half, right_len);
 }
 
 /* Both verdicts hold, or both fail. */
@@ -23,7 +30,6 @@ static void verdicts(void)
     GIVES(0, ask_a(BYTES(A_QUESTION), YENUSLAP_RIGHT, 0));
     GIVES(3, ask_a(BYTES(A_QUESTION), YENUSLAP_RIGHT, 1));
     GIVES(3, ask_a(BYTES(A_QUESTION), YENUSLAP_LEFT, 1));
-    GIVES(3, ask_a(BYTES(A_QUESTION), YENUSLAP_UNNAMED, 1));
     GIVES(0, ask_a(BYTES(BACK_BY_1), YENUSLAP_RIGHT, 1));
     GIVES(3, ask_a(BYTES(FORWARD_BY_0), YENUSLAP_LEFT, 0));
     GIVES(3, ask_a(BYTES(FORWARD_BY_2), YENUSLAP_RIGHT, 0));
@@ -45,8 +51,22 @@ static void refused_verdicts(void)
                                  BYTES(A_QUESTION), YENUSLAP_RIGHT, 1));
 }
 
+/* Unnamed, the left half is known: 12 is judged on it, and 17 is about the quotient by it. */
+static void unnamed_side(void)
+{
+    GIVES(3, ask_a(BYTES(A_QUESTION), YENUSLAP_UNNAMED, 1));
+    REFUSES(YENUSLAP_REFUSED_NOT_A_RUN, ask_known(YENUSLAP_UNNAMED, BYTES(A_LEFT_HALF_0), BYTES(EVEN_HALF)));
+    REFUSES(YENUSLAP_REFUSED_POINT_BEYOND, ask_known(YENUSLAP_UNNAMED, BYTES(EVEN_HALF), BYTES(A_RIGHT_HALF_0)));
+    GIVES(0, yenuslap_line_office(EIGHT_K, BYTES(NO_ROWS), BYTES(EIGHT_ROWS), BYTES(NO_HALF_STEPS),
+                                  BYTES(NO_HALF_STEPS), BYTES(TOO_LARGE), YENUSLAP_UNNAMED, 0));
+    REFUSES(YENUSLAP_REFUSED_QUOTIENT_TOO_LARGE,
+            yenuslap_line_office(EIGHT_K, BYTES(EIGHT_ROWS), BYTES(NO_ROWS), BYTES(NO_HALF_STEPS),
+                                 BYTES(NO_HALF_STEPS), BYTES(TOO_LARGE), YENUSLAP_UNNAMED, 0));
+}
+
 void check_line_office(void)
 {
     verdicts();
     refused_verdicts();
+    unnamed_side();
 }

@@ -44,13 +44,15 @@ static void by_halves(void)
     HOLDS(&out, AHEAD_BY_2_LEFT);
 }
 
-/* Unnamed, the known side is the right. */
+/* Unnamed, the known side is the left. */
 static void by_unnamed_side(void)
 {
     static const uint8_t unnamed[] = {YENUSLAP_UNNAMED, 3, 255};
     for (size_t at = 0; at < sizeof(unnamed); at++) {
         GIVES(4, divide_a(BYTES(A_QUESTION), unnamed[at], 1, 4));
-        HOLDS(&out, BACK_BY_1);
+        HOLDS(&out, BACK_BY_2);
+        GIVES(16, divide_a(BYTES(FORWARD_BY_0), unnamed[at], 0, 16));
+        HOLDS(&out, AHEAD_BY_0_LEFT);
     }
 }
 
@@ -68,11 +70,18 @@ static void refused_questions(void)
     UNCHANGED(&out);
 }
 
-/* Divides case A's question by the right one of two halves, at point 1. */
-static uint64_t divide_halves(const uint8_t *left_half, size_t left_len, const uint8_t *right_half, size_t right_len)
+/* Divides case A's question by the known one of two halves, at point 1. */
+static uint64_t divide_known(uint8_t side, const uint8_t *left_half, size_t left_len, const uint8_t *right_half,
+                             size_t right_len)
 {
     return yenuslap_quotient(A_K, BYTES(A_LEFT), BYTES(A_RIGHT), left_half, left_len, right_half, right_len,
-                             BYTES(A_QUESTION), YENUSLAP_RIGHT, 1, LENT(&out, 9));
+                             BYTES(A_QUESTION), side, 1, LENT(&out, 9));
+}
+
+/* The same by the right one. */
+static uint64_t divide_halves(const uint8_t *left_half, size_t left_len, const uint8_t *right_half, size_t right_len)
+{
+    return divide_known(YENUSLAP_RIGHT, left_half, left_len, right_half, right_len);
 }
 
 static void refused_halves(void)
@@ -88,6 +97,21 @@ static void refused_halves(void)
     REFUSES(YENUSLAP_REFUSED_HALVES_DO_NOT_MATCH, divide_halves(BYTES(A_LEFT_HALF_0), BYTES(A_RIGHT_HALF_1)));
     UNCHANGED(&out);
     REFUSES(YENUSLAP_REFUSED_HALVES_DO_NOT_MATCH, divide_halves(BYTES(NO_HALF_STEPS), BYTES(A_RIGHT_HALF_0)));
+    UNCHANGED(&out);
+}
+
+/* Unnamed, 12 is judged on the left half alone; a fault of the right one is 15 or 16. */
+static void refused_unnamed(void)
+{
+    REFUSES(YENUSLAP_REFUSED_POINT_BEYOND, divide_known(YENUSLAP_UNNAMED, BYTES(EVEN_HALF), BYTES(A_RIGHT_HALF_0)));
+    UNCHANGED(&out);
+    REFUSES(YENUSLAP_REFUSED_NOT_A_RUN, divide_known(YENUSLAP_UNNAMED, BYTES(A_LEFT_HALF_0), BYTES(EVEN_HALF)));
+    UNCHANGED(&out);
+    REFUSES(YENUSLAP_REFUSED_POINT_BEYOND,
+            divide_known(YENUSLAP_UNNAMED, BYTES(NO_HALF_STEPS), BYTES(A_RIGHT_HALF_0)));
+    UNCHANGED(&out);
+    REFUSES(YENUSLAP_REFUSED_HALVES_DO_NOT_MATCH,
+            divide_known(YENUSLAP_UNNAMED, BYTES(A_LEFT_HALF_0), BYTES(NO_HALF_STEPS)));
     UNCHANGED(&out);
 }
 
@@ -155,9 +179,11 @@ static void by_number(void)
     HOLDS(&out, FALSE);
     GIVES(4, number_a(0, YENUSLAP_RIGHT, 1, YENUSLAP_MOST_QUOTIENT));
     HOLDS(&out, BACK_BY_1);
-    GIVES(4, number_a(1, YENUSLAP_UNNAMED, 1, 4));
+    GIVES(4, number_a(1, YENUSLAP_RIGHT, 1, 4));
     HOLDS(&out, BACK_BY_3);
     GIVES(4, number_a(1, YENUSLAP_LEFT, 1, 4));
+    HOLDS(&out, BACK_BY_4);
+    GIVES(4, number_a(1, YENUSLAP_UNNAMED, 1, 4));
     HOLDS(&out, BACK_BY_4);
     GIVES(4, number_loops(BYTES(LOOP_RUN), 0, 1));
     HOLDS(&out, BACK_BY_1);
@@ -195,6 +221,7 @@ void check_quotients(void)
     by_unnamed_side();
     refused_questions();
     refused_halves();
+    refused_unnamed();
     large_quotients();
     by_number();
     refused_numbers();

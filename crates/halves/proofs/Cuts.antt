@@ -15,6 +15,7 @@ use Rattle.halves.specs.Halves.{halfOf, isHalfRun}
 use Rattle.halves.proofs.HalfRuns.{accepted-half, half-stop, half-stopped}
 use Rattle.halves.specs.Cuts.{beyond, prefixOf, cutOf, knownPart, knownOf}
 use Rattle.halves.specs.declared.side.Side.{Side}
+use Rattle.halves.specs.declared.side.Side.the-variants as side
 use Rattle.halves.specs.declared.side.Known.{Known}
 
 module _ (s : List ℕ) (point : ℕ) where
@@ -35,6 +36,11 @@ pub cut-prefix : (l r x : List ℕ) (side : Side) (known : Known) (point : ℕ) 
     → x ≡ prefixOf (knownPart l r known) point → x ≡ cutOf l r side point
 unfolding cutOf
 cut-prefix l r x side known point e h = rw (← e) h
+
+-- "A caller who names no side now gets .. from a cut the left half" (document 02, 2/12)
+pub unnamed-cut : (l r : List ℕ) (point : ℕ) → cutOf l r side.Unnamed point ≡ prefixOf l point
+unfolding cutOf
+unnamed-cut l r point = refl
 
 odd-of : (n : ℕ) → (n % 2 ≡ 0 → ⊥) → n % 2 ≡ 1
 odd-of n h = omega (arith, h)

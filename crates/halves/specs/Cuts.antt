@@ -1,4 +1,4 @@
--- The known side and the cut: document 01, "The quotient" and the end of "Who can cause a refusal".
+-- The known side and the cut: document 01, "The quotient" and the end of "Who can cause a refusal"; document 02, 2/12.
 use Prim.Native.Nat.{ℕ, _+_, _*_, _/_, _%_}
 use mathlib.Core.List.{List, []}
 use mathlib.Core.Bool.{Bool, cond, _||_}
@@ -9,9 +9,10 @@ use Rattle.halves.specs.declared.side.Side.the-variants as side
 use Rattle.halves.specs.declared.side.Known.{Known}
 use Rattle.halves.specs.declared.side.Known.the-variants as known
 
--- "A caller may name the known side; unnamed, it is the right."
+-- "A caller may name the known side" (document 01); "A caller who names no side now gets the quotient by the left half,
+-- and from a cut the left half" (document 02). Document 01's "unnamed, it is the right" holds no more
 abbrev pub knownOf : Side → Known
-knownOf side.Unnamed = known.Right
+knownOf side.Unnamed = known.Left
 knownOf side.Left = known.Left
 knownOf side.Right = known.Right
 

@@ -21,7 +21,7 @@ impl Side {
         ensures { λ r. ⌜ r ≡ knownOf self ⌝ }
     {
         match self {
-            Side::Unnamed => Known::Right,
+            Side::Unnamed => Known::Left,
             Side::Left => Known::Left,
             Side::Right => Known::Right,
         }

@@ -1,6 +1,7 @@
 -- Demand 3: the verdict on a log stopped at a point is the verdict on either half stopped there, under the very bytes
 -- written as the quotient by the other half stopped there. One theorem, `demand-three`, over the definitions that the
--- public calls promise to answer, for every accepted log, every point of it, every splitting and both known sides.
+-- public calls promise to answer, for every accepted log, every point of it, every splitting and both known sides, and
+-- where no side is named; for that call it is spelled out in `unnamed-agrees` (Unnamed).
 use Prim.Native.Nat.{ℕ, _*_, _≤_}
 use mathlib.Core.Path.{_≡_, refl, sym, _∙_, ap}
 use mathlib.Core.List.{List, []}

@@ -2,6 +2,7 @@ pub mod Quotients
 pub mod SplitRuns
 pub mod GivenVerdicts
 pub mod DemandThree
+pub mod Unnamed
 pub mod Windows
 pub mod Judging
 pub mod QuotientCalls

@@ -99,7 +99,8 @@ pub record Demand (c : Case) (side : Side) (point : ℕ) : Type 0 where
   pub byNumbers : (n : ℕ) → n < length (splittingsIn c) → length (splittingsIn c) ≤ splittingLimit
       → Decomposed c (leftIn c n) (rightIn c n) side point (byNumber c n side point) (byNumberOutput c n side point)
 
--- the whole: every accepted log and question, every known side, every point of the log
+-- the whole: every accepted log and question, every known side, every point of the log. A side is left, right or
+-- unnamed, which is the left (`knownOf`): so the claim covers the unnamed call, and the other half is then the right
 abbrev pub DemandThree : Type 0
 DemandThree =
     (c : Case) (side : Side) (point : ℕ)

@@ -66,11 +66,10 @@ pub fn line_office(asked: Asked, halves: [&[u8]; 2], known: Known) -> Result<[bo
     let quotient = machines.quotient(&question, &halves, known)?;
     let joint = joint_holds(&machines, &run, &question, known.point);
     let [left_half, right_half] = &halves;
-    let other = match known.side {
-        Side::Left => half_holds(&machines.right, right_half, &quotient, known.point),
-        Side::Right | Side::Unnamed => {
-            half_holds(&machines.left, left_half, &quotient, known.point)
-        }
+    let other = if known.side.knows_left() {
+        half_holds(&machines.right, right_half, &quotient, known.point)
+    } else {
+        half_holds(&machines.left, left_half, &quotient, known.point)
     };
     Ok([joint, other])
 }
@@ -107,9 +106,10 @@ impl Both {
         [left_half, right_half]: &[HalfRun; 2],
         known: Known,
     ) -> Result<Formula, Refusal> {
-        let (table, half) = match known.side {
-            Side::Left => (&self.left, left_half),
-            Side::Right | Side::Unnamed => (&self.right, right_half),
+        let (table, half) = if known.side.knows_left() {
+            (&self.left, left_half)
+        } else {
+            (&self.right, right_half)
         };
         let run = HalfRun {
             start: half.start,
@@ -273,10 +273,12 @@ impl Division<'_> {
 mod tests {
     use super::*;
 
-    /// Case A's machines and the halves of its splitting 0.
+    /// Case A's machines and log, and the halves of its splittings 0 and 1.
     const LEFT: [u8; 7] = [2, 0, 1, 1, 0, 3, 1];
     const RIGHT: [u8; 7] = [2, 0, 2, 1, 0, 4, 1];
+    const RUN: [u8; 5] = [0, 0, 0, 1, 1];
     const HALVES: [&[u8]; 2] = [&[0, 1, 1], &[0, 2, 1]];
+    const OTHER_HALVES: [&[u8]; 2] = [&[0, 3, 1], &[0, 4, 1]];
 
     /// Case A with a question.
     fn case_a(question: &[u8]) -> Asked<'_> {
@@ -288,8 +290,26 @@ mod tests {
         }
     }
 
-    /// The right half stopped at a point.
+    /// One state with loops of the labels 1 to 8.
+    fn eight_loops() -> Vec<u8> {
+        let loops = (1..=8).flat_map(|label| [0, label, 0]);
+        [1].into_iter().chain(loops).collect()
+    }
+
+    /// The right half stopped at a point: document 01's cases name the right.
     fn right(point: usize) -> Known {
+        let side = Side::Right;
+        Known { side, point }
+    }
+
+    /// The left half stopped at a point.
+    fn left(point: usize) -> Known {
+        let side = Side::Left;
+        Known { side, point }
+    }
+
+    /// The half that is known where no side is named, stopped at a point.
+    fn unnamed(point: usize) -> Known {
         let side = Side::Unnamed;
         Known { side, point }
     }
@@ -298,18 +318,82 @@ mod tests {
     #[test]
     fn case_a_by_both() {
         let back = case_a(&[6, 0, 0, 0]);
-        let run = [0, 0, 0, 1, 1];
         assert_eq!(by_halves(back, HALVES, right(0), 2), Ok(vec![1, 0]));
         assert_eq!(by_halves(back, HALVES, right(1), 4), Ok(vec![6, 1, 0, 0]));
-        assert_eq!(by_number(back, &run, 0, right(1), 4), Ok(vec![6, 1, 0, 0]));
-        assert_eq!(by_number(back, &run, 1, right(1), 4), Ok(vec![6, 3, 0, 0]));
-        let left = Known {
-            side: Side::Left,
-            point: 1,
-        };
-        assert_eq!(by_halves(back, HALVES, left, 4), Ok(vec![6, 2, 0, 0]));
-        assert_eq!(line_office(back, HALVES, left), Ok([true, true]));
+        assert_eq!(by_number(back, &RUN, 0, right(1), 4), Ok(vec![6, 1, 0, 0]));
+        assert_eq!(by_number(back, &RUN, 1, right(1), 4), Ok(vec![6, 3, 0, 0]));
+        assert_eq!(by_halves(back, HALVES, left(1), 4), Ok(vec![6, 2, 0, 0]));
+        assert_eq!(line_office(back, HALVES, left(1)), Ok([true, true]));
         assert_eq!(line_office(back, HALVES, right(0)), Ok([false, false]));
+    }
+
+    /// Case A with no side named: the quotient is by the left half, and the line office's second verdict the right's.
+    #[test]
+    fn case_a_unnamed() {
+        let back = case_a(&[6, 0, 0, 0]);
+        for (number, halves, answer) in [(0, HALVES, 2), (1, OTHER_HALVES, 4)] {
+            for known in [unnamed(1), left(1)] {
+                let quotient = vec![6, answer, 0, 0];
+                assert_eq!(by_halves(back, halves, known, 4), Ok(quotient.clone()));
+                assert_eq!(by_number(back, &RUN, number, known, 4), Ok(quotient));
+                assert_eq!(line_office(back, halves, known), Ok([true, true]));
+            }
+            for known in [unnamed(0), left(0)] {
+                assert_eq!(by_halves(back, halves, known, 2), Ok(vec![1, 0]));
+                assert_eq!(by_number(back, &RUN, number, known, 2), Ok(vec![1, 0]));
+                assert_eq!(line_office(back, halves, known), Ok([false, false]));
+            }
+        }
+    }
+
+    /// Case A ahead with no side named: the left's rows in order, where the right has others.
+    #[test]
+    fn case_a_unnamed_ahead() {
+        let silent = vec![4, 0, 5, 0, 0, 0, 4, 0, 5, 2, 0, 0, 5, 4, 0, 0];
+        let one = vec![4, 0, 5, 1, 0, 0, 7, 0, 0, 0];
+        let two = vec![5, 2, 0, 0];
+        for (label, quotient) in [(0, silent), (1, one), (2, two)] {
+            let question = [5, label, 0, 0];
+            let (asked, room) = (case_a(&question), quotient.len());
+            for known in [unnamed(0), left(0)] {
+                assert_eq!(by_halves(asked, HALVES, known, room), Ok(quotient.clone()));
+                assert_eq!(by_halves(asked, HALVES, known, room - 1), Err(18));
+                let numbered = by_number(asked, &RUN, 0, known, room);
+                assert_eq!(numbered, Ok(quotient.clone()));
+                assert_eq!(line_office(asked, HALVES, known), Ok([true, true]));
+            }
+        }
+    }
+
+    /// With no side named 17 is about the left machine's rows; by a machine without rows the question stays as it is.
+    #[test]
+    fn unnamed_sizes() {
+        let loops = eight_loops();
+        let question = [[5, 0].repeat(3), [2, 0].repeat(3), vec![0, 0]].concat();
+        let rows_left = Asked {
+            k: 4,
+            left: &loops,
+            right: &[1],
+            question: &question,
+        };
+        let rows_right = Asked {
+            left: &[1],
+            right: &loops,
+            ..rows_left
+        };
+        let halves: [&[u8]; 2] = [&[0], &[0]];
+        let room = 2 * QUOTIENT_NODES;
+        for (asked, known) in [(rows_left, unnamed(0)), (rows_right, right(0))] {
+            assert_eq!(by_halves(asked, halves, known, room), Err(17));
+            assert_eq!(by_number(asked, &[0, 0], 0, known, room), Err(17));
+            assert_eq!(line_office(asked, halves, known), Err(17));
+        }
+        for (asked, known) in [(rows_right, unnamed(0)), (rows_left, right(0))] {
+            let same = Ok(question.clone());
+            assert_eq!(by_halves(asked, halves, known, room), same);
+            assert_eq!(by_number(asked, &[0, 0], 0, known, room), same);
+            assert_eq!(line_office(asked, halves, known), Ok([false, false]));
+        }
     }
 
     /// Looking ahead: the idle, then the rows in order, joined to the right.
@@ -328,8 +412,7 @@ mod tests {
     /// Document 01's case: nested forward by 0 where eight rows shake hands, over some times "not".
     #[test]
     fn sizes_at_the_limit() {
-        let loops: Vec<u8> = (1..=8).flat_map(|label| [0, label, 0]).collect();
-        let right_table = [vec![1], loops].concat();
+        let right_table = eight_loops();
         let size = |forwards: usize, nots: usize| {
             let question = [[5, 0].repeat(forwards), [2, 0].repeat(nots), vec![0, 0]].concat();
             let asked = Asked {
@@ -358,9 +441,39 @@ mod tests {
         assert_eq!(quotient([&[9], &[9, 2, 1]], 2, 2), Err(12));
         assert_eq!(quotient([&[9], &[0, 2, 1]], 1, 2), Err(15));
         assert_eq!(quotient(HALVES, 1, 1), Err(18));
-        let run = [0, 0, 0, 1, 1];
-        assert_eq!(by_number(asked, &run, 2, right(2), 0), Err(12));
-        assert_eq!(by_number(asked, &run, 2, right(1), 0), Err(14));
-        assert_eq!(by_number(asked, &run, 1, right(1), 0), Err(18));
+        assert_eq!(by_number(asked, &RUN, 2, right(2), 0), Err(12));
+        assert_eq!(by_number(asked, &RUN, 2, right(1), 0), Err(14));
+        assert_eq!(by_number(asked, &RUN, 1, right(1), 0), Err(18));
+    }
+
+    /// With no side named 12 looks at the left half alone, and where the right is named at the right half alone.
+    #[test]
+    fn beyond_the_known_half() {
+        let asked = case_a(&[0, 0]);
+        let refused = |halves: [&[u8]; 2], point, by_left, by_right| {
+            for (known, number) in [
+                (unnamed(point), by_left),
+                (left(point), by_left),
+                (right(point), by_right),
+            ] {
+                let quotient = by_halves(asked, halves, known, 2);
+                assert_eq!(quotient, Err(number), "{halves:?}, {known:?}");
+                let office = line_office(asked, halves, known);
+                assert_eq!(office, Err(number), "{halves:?}, {known:?}");
+            }
+        };
+        // One half of even length, which has no points.
+        refused([&[0, 1], &[0, 2, 1]], 0, 12, 15);
+        refused([&[0, 1, 1], &[0, 2]], 0, 15, 12);
+        refused([&[], &[0]], 0, 12, 15);
+        refused([&[0], &[]], 0, 15, 12);
+        // One half a step shorter than the other: sound ones, then such as start in no state.
+        refused([&[0], &[0, 2, 1]], 1, 12, 16);
+        refused([&[0, 1, 1], &[0]], 1, 16, 12);
+        refused([&[9], &[9, 2, 1]], 1, 12, 15);
+        refused([&[9, 1, 1], &[9]], 1, 15, 12);
+        // At a point that both have, and at one beyond both, no side makes a difference.
+        refused([&[0], &[0, 2, 1]], 0, 16, 16);
+        refused([&[0], &[0, 2, 1]], 2, 12, 12);
     }
 }

@@ -39,8 +39,9 @@ pub fn half(
     check_k(k)?;
     let table = read_table(table, k)?;
     let formula = read_formula(formula, k, QUOTIENT_NODES)?;
-    // 12 as in a cut: judged on the half's length alone, before the half is known to be a run.
-    cut(half, half, Side::Unnamed, point)?;
+    // 12 as in a cut: judged on the half's length alone, before the half is known to be a run. It is lent as both, so
+    // the side does not matter.
+    cut(half, half, Side::Left, point)?;
     let half = read_half(half, &table)?;
     Ok(half_holds(&table, &half, &formula, point))
 }

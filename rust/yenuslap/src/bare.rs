@@ -3,7 +3,7 @@
 //! struct.
 //!
 //! They are as safe as the wrapped calls, and take the same bytes: sides as 1 (left), 2 (right) or any other byte
-//! (unnamed), parts as in the casebook's records.
+//! (unnamed, and then the left half is known), parts as in the casebook's records.
 //!
 //! ```
 //! // Over 15 handshake pairs: refused 4.

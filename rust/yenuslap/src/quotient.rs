@@ -9,7 +9,7 @@ use crate::refusal::{value_or_refusal, Refusal};
 pub struct Verdicts {
     /// Whether the question holds on the joint run.
     pub joint: bool,
-    /// Whether the quotient holds on the other half.
+    /// Whether the quotient holds on the other half: the right one, if no side is named.
     pub half: bool,
 }
 

@@ -47,10 +47,10 @@ struct Stop {
 impl Stop {
     /// The same for the reference.
     fn known(self) -> Known {
-        let side = if self.side == 1 {
-            Side::Left
-        } else {
-            Side::Right
+        let side = match self.side {
+            1 => Side::Left,
+            2 => Side::Right,
+            _ => Side::Unnamed,
         };
         let point = self.point;
         Known { side, point }

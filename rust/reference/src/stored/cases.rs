@@ -187,8 +187,9 @@ fn other_verdict(
     quotient: &Result<Vec<u8>, Refusal>,
 ) -> Result<bool, Refusal> {
     let formula = quotient.as_deref().unwrap_or(&[]);
-    match known.side {
-        Side::Left => half(asked.k, asked.right, right, formula, known.point),
-        Side::Right | Side::Unnamed => half(asked.k, asked.left, left, formula, known.point),
+    if known.side.knows_left() {
+        half(asked.k, asked.right, right, formula, known.point)
+    } else {
+        half(asked.k, asked.left, left, formula, known.point)
     }
 }

@@ -252,10 +252,11 @@ fn step_line(half: &[u8], number: usize) -> Vec<String> {
     numbers.iter().map(|number| number.to_string()).collect()
 }
 
-/// 1 where the left half is known, 2 where the right is: unnamed, it is the right.
+/// 1 where the side makes the left half the known one, 2 where it makes the right.
 fn known(side: Side) -> u8 {
-    match side {
-        Side::Left => 1,
-        Side::Right | Side::Unnamed => 2,
+    if side.knows_left() {
+        1
+    } else {
+        2
     }
 }

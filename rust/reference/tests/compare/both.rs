@@ -202,6 +202,12 @@ pub fn sides(byte: u8) -> (Side, yenuslap::Side) {
     }
 }
 
+/// Whether the left half is known where this byte names the side: 1 names the left, and so does every byte that names
+/// none (document 02).
+pub fn knows_left(side: u8) -> bool {
+    side != 2
+}
+
 /// Cuts with both, by the side's byte, and gives the number on which they agree, 0 if cut.
 pub fn cut_both(left: &[u8], right: &[u8], side: u8, point: usize) -> u8 {
     let (named, wrapped_side) = sides(side);

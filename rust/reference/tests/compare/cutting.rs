@@ -1,6 +1,6 @@
 //! The cut: both sides and unnamed, all points and beyond, halves of every length.
 
-use crate::both::{cut_both, Tally};
+use crate::both::{cut_both, knows_left, Tally};
 use reference::random::Random;
 
 /// Bytes for left, right and unnamed; every byte but 1 and 2 names no side.
@@ -48,7 +48,7 @@ fn even_halves_have_no_points() {
         for point in [0, 1, length / 2, length, usize::MAX] {
             tally.note(cut_both(&bytes[..length], &bytes[..7], 1, point));
             tally.note(cut_both(&bytes[..7], &bytes[..length], 2, point));
-            tally.note(cut_both(&bytes[..7], &bytes[..length], 0, point));
+            tally.note(cut_both(&bytes[..length], &bytes[..7], 0, point));
         }
     }
     tally.saw_exactly(&[12]);
@@ -64,9 +64,9 @@ fn every_point_of_long_halves() {
         let near = (0..=steps.min(210)).chain(steps - 2..=steps + 2);
         for point in near.chain(FAR_POINTS) {
             for side in SIDES {
-                let number = match side {
-                    1 => cut_both(half, &bytes[..2], side, point),
-                    _ => cut_both(&bytes[..2], half, side, point),
+                let number = match knows_left(side) {
+                    true => cut_both(half, &bytes[..2], side, point),
+                    false => cut_both(&bytes[..2], half, side, point),
                 };
                 assert_eq!(number == 0, point <= steps, "{steps} {point}");
                 tally.note(number);
@@ -90,7 +90,8 @@ fn one_half_lent_as_both() {
     tally.saw_exactly(&[0, 12]);
 }
 
-/// The part is the known half's beginning and no copy, also when both halves hold the same bytes.
+/// The part is the known half's beginning and no copy, also when both halves hold the same bytes; where no side is
+/// named it is the left half's.
 #[test]
 fn the_part_is_the_very_prefix() {
     let (left, right) = ([7, 1, 2, 255, 2], [7, 1, 2, 255, 2]);
@@ -99,7 +100,7 @@ fn the_part_is_the_very_prefix() {
         for (side, half) in [
             (yenuslap::Side::Left, &left),
             (yenuslap::Side::Right, &right),
-            (yenuslap::Side::Unnamed, &right),
+            (yenuslap::Side::Unnamed, &left),
         ] {
             let part = yenuslap::cut(&left, &right, side, point).unwrap();
             assert_eq!(part, &half[..1 + 2 * point]);

@@ -2,7 +2,7 @@
 
 use std::hint::black_box;
 
-use crate::both::{bare_answer, number_of, sides, wrapped_number};
+use crate::both::{bare_answer, knows_left, number_of, sides, wrapped_number};
 use crate::splitting_both::{alike, Halves, Log, Output};
 use reference::formula::QUOTIENT_NODES;
 use reference::quotient::{self, Asked, Known};
@@ -33,7 +33,7 @@ pub struct Stop {
 impl Stop {
     /// Whether the left half is the known one.
     pub fn knows_left(self) -> bool {
-        self.side == 1
+        knows_left(self.side)
     }
 
     /// The same for the reference.
@@ -59,9 +59,9 @@ impl Given {
 
     /// The half that is known.
     pub fn known(&self, side: u8) -> &[u8] {
-        match side {
-            1 => &self.halves.left_half,
-            _ => &self.halves.right_half,
+        match knows_left(side) {
+            true => &self.halves.left_half,
+            false => &self.halves.right_half,
         }
     }
 

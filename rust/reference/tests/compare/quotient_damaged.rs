@@ -237,7 +237,7 @@ fn empty_arguments() {
             }
         }
         let by_number = first_empty(&[(0, 3), (1, 3), (2, 3), (3, 9)], empty);
-        let (known, other) = if stop.side == 1 { (2, 3) } else { (3, 2) };
+        let (known, other) = if stop.knows_left() { (2, 3) } else { (3, 2) };
         let order = [(0, 3), (1, 3), (4, 9), (known, 12), (other, 15)];
         let by_halves = first_empty(&order, empty);
         let numbered = numbered_both(&logged, 0, stop, LARGEST);
@@ -305,10 +305,12 @@ fn halves_of_all_lengths() {
     tally.saw_exactly(&[0, 12, 15, 16]);
 }
 
-/// Demands this number of halves of idles, the known one and the other one so long, with either side known.
+/// Demands this number of halves of idles, the known one and the other one so long, with either side known and with
+/// none named.
 fn both_sides(idles: &[u8], [known, other]: [usize; 2], point: usize, number: u8) {
     for side in [0, 1, 2] {
-        let [left, right] = if side == 1 {
+        let stop = Stop { side, point };
+        let [left, right] = if stop.knows_left() {
             [known, other]
         } else {
             [other, known]
@@ -321,7 +323,6 @@ fn both_sides(idles: &[u8], [known, other]: [usize; 2], point: usize, number: u8
         };
         let question = vec![8, 0, 0, 0];
         let given = Logged { log, question }.with([left, right].map(|end| idles[..end].to_vec()));
-        let stop = Stop { side, point };
         let about = format!("{known} {other} {side} {point}");
         let quotient = quotient_both(&given, stop, 5);
         assert_eq!(number_of(&quotient), number, "{about}");

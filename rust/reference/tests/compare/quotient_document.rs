@@ -1,6 +1,7 @@
-//! The quotients that document 01 states or implies, written out by hand, for engine and reference both.
+//! The quotients that document 01 states or implies, written out by hand, for engine and reference both. Document 01's
+//! own name the right half; where no side is named it is the left, as document 02 says.
 
-use crate::both::unhex;
+use crate::both::{knows_left, unhex};
 use crate::quotient_both::{
     numbered_both, numbered_in_rooms, office_both, quotient_in_rooms, Given, Logged, Stop,
 };
@@ -32,15 +33,15 @@ impl World {
         self.logged(question).with(halves.map(unhex))
     }
 
-    /// Demands the quotient by the known one of two halves at their end, where the known side is the right, named or
-    /// not, or the left.
+    /// Demands the quotient by the known one of two halves at their end, where the known side is the right, or the
+    /// left, named or not.
     fn divides(&self, halves: [&str; 2], side: u8, question: &str, quotient: &str) {
         let given = self.given(halves, question);
         let point = (unhex(halves[0]).len() - 1) / 2;
         let sides: &[u8] = if side == LEFT {
-            &[LEFT]
+            &[LEFT, UNNAMED]
         } else {
-            &[RIGHT, UNNAMED]
+            &[RIGHT]
         };
         for side in sides {
             let stop = Stop { side: *side, point };
@@ -61,14 +62,12 @@ fn sheet_of_case_a() {
         (1, 0, true, "06010000"),
         (1, 1, true, "06030000"),
     ] {
-        for side in [UNNAMED, RIGHT] {
-            let stop = Stop { side, point };
-            let answer = numbered_in_rooms(&logged, number, stop);
-            assert_eq!(answer, Ok(unhex(quotient)), "{point} {number}");
-            let given = logged.with(halves[number].map(unhex));
-            assert_eq!(quotient_in_rooms(&given, stop), answer);
-            assert_eq!(office_both(&given, stop), Ok(verdict));
-        }
+        let stop = Stop { side: RIGHT, point };
+        let answer = numbered_in_rooms(&logged, number, stop);
+        assert_eq!(answer, Ok(unhex(quotient)), "{point} {number}");
+        let given = logged.with(halves[number].map(unhex));
+        assert_eq!(quotient_in_rooms(&given, stop), answer);
+        assert_eq!(office_both(&given, stop), Ok(verdict));
     }
     let end = Stop {
         side: RIGHT,
@@ -82,7 +81,7 @@ fn sheet_of_case_a() {
     assert_eq!(numbered_both(&logged, 0, beyond, 4), Err(12));
 }
 
-/// The same by the left half: the right one shook hands by the partner.
+/// The same by the left half, named or not: the right one shook hands by the partner.
 #[test]
 fn sheet_of_case_a_by_the_left() {
     let logged = CASE_A.logged("06000000");
@@ -92,9 +91,35 @@ fn sheet_of_case_a_by_the_left() {
         (1, 0, "06020000"),
         (1, 1, "06040000"),
     ] {
-        let stop = Stop { side: LEFT, point };
-        let answer = numbered_in_rooms(&logged, number, stop);
-        assert_eq!(answer, Ok(unhex(quotient)), "{point} {number}");
+        for side in [LEFT, UNNAMED] {
+            let stop = Stop { side, point };
+            let answer = numbered_in_rooms(&logged, number, stop);
+            assert_eq!(answer, Ok(unhex(quotient)), "{point} {number}");
+        }
+    }
+}
+
+/// Where no side is named the left half is known: 12 looks at it alone, and a fault of the right one is 15 or 16.
+#[test]
+fn beyond_the_left_half_where_none_is_named() {
+    for (halves, by_left, by_right) in [
+        (["00 01", "00 0201"], 12, 15),
+        (["00 0101", "00 02"], 15, 12),
+        (["00", "00 0201"], 12, 16),
+        (["00 0101", "00"], 16, 12),
+        (["09", "09 0201"], 12, 15),
+        (["09 0101", "09"], 15, 12),
+    ] {
+        let given = CASE_A.given(halves, "06000000");
+        for (side, number) in [(UNNAMED, by_left), (LEFT, by_left), (RIGHT, by_right)] {
+            let stop = Stop { side, point: 1 };
+            assert_eq!(
+                quotient_in_rooms(&given, stop),
+                Err(number),
+                "{halves:?} {side}"
+            );
+            assert_eq!(office_both(&given, stop), Err(number), "{halves:?} {side}");
+        }
     }
 }
 
@@ -148,10 +173,10 @@ fn one_state_machines() {
     for (number, side, quotient) in [
         (0, RIGHT, "06010000"),
         (1, RIGHT, "08000000"),
-        (0, UNNAMED, "06010000"),
-        (1, UNNAMED, "08000000"),
         (0, LEFT, "08000000"),
         (1, LEFT, "06010000"),
+        (0, UNNAMED, "08000000"),
+        (1, UNNAMED, "06010000"),
     ] {
         let answer = numbered_in_rooms(&logged, number, Stop { side, point: 1 });
         assert_eq!(answer, Ok(unhex(quotient)), "{number} {side}");
@@ -326,7 +351,7 @@ fn back_by_silence() {
 /// Document 01's large machine on the known side: one state with rows of labels 1 to 8 to itself.
 fn eight_loops(side: u8, question: &str) -> Result<usize, Refusal> {
     let loops = "01 000100 000200 000300 000400 000500 000600 000700 000800";
-    let (left, right) = if side == LEFT {
+    let (left, right) = if knows_left(side) {
         (loops, "01")
     } else {
         ("01", loops)
@@ -350,7 +375,8 @@ fn eight_loops(side: u8, question: &str) -> Result<usize, Refusal> {
     given.map(|bytes| bytes.len() / 2)
 }
 
-/// Three nested forward by 0 over not not true has 3,734 nodes, over not not not true 4,463, which is refused.
+/// Three nested forward by 0 over not not true has 3,734 nodes, over not not not true 4,463, which is refused. Where no
+/// side is named it is the left machine's rows that count.
 #[test]
 fn eight_loops_at_the_limit() {
     for side in [UNNAMED, LEFT, RIGHT] {

@@ -1,6 +1,6 @@
 //! Quotients of all sizes up to the limit, just over it and far over it, and the deepest questions.
 
-use crate::both::{number_of, Tally};
+use crate::both::{knows_left, number_of, Tally};
 use crate::quotient_both::{
     numbered_both, numbered_in_rooms, office_both, quotient_both, quotient_in_rooms, Given, Logged,
     Stop, LARGEST,
@@ -24,7 +24,7 @@ const AND: [u8; 2] = [3, 0];
 fn loops(side: u8, rows: u8, question: Vec<u8>) -> Logged {
     let rows = (1..=rows).flat_map(|label| [0, label, 0]);
     let known: Vec<u8> = [1].into_iter().chain(rows).collect();
-    let (left, right) = if side == 1 {
+    let (left, right) = if knows_left(side) {
         (known, vec![1])
     } else {
         (vec![1], known)
@@ -265,7 +265,11 @@ fn huge_trees_by_number() {
     for side in [0, 1, 2] {
         let mut logged = loops(side, 8, question.clone());
         // Five idles, and on the way both machines loop where only one can.
-        let label = if side == 1 { [1, 0, 0] } else { [8, 0, 0] };
+        let label = if knows_left(side) {
+            [1, 0, 0]
+        } else {
+            [8, 0, 0]
+        };
         logged.log.run = [vec![0, 0], [IDLE, 0, 0].repeat(5), label.to_vec()].concat();
         for point in [0, 5, 6] {
             let stop = Stop { side, point };

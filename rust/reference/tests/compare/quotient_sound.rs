@@ -26,7 +26,7 @@ fn short_log(random: &mut Random, seed: usize, most: usize) -> Log {
 fn every_point_of_short_logs() {
     let mut tally = Tally::new("quotients at every point of short logs");
     let mut random = Random::new(171);
-    for seed in 0..1200 {
+    for seed in 0..1800 {
         let log = short_log(&mut random, seed, usize::MAX >> 8);
         let nodes = random.from_to(1, 16);
         let logged = with_question(&mut random, log, nodes);

@@ -3,6 +3,7 @@
 use std::collections::BTreeSet;
 use std::fs;
 use std::path::PathBuf;
+use std::process::Command;
 
 use crate::program::{printed, refusal, root, same};
 use reference::sheet::{sheet, write_sheet};
@@ -52,6 +53,23 @@ fn the_program_prints_the_stored_ones() {
         refused.extend(refusal(&stored));
     }
     assert_eq!(refused, (1..=11).chain([13]).collect());
+}
+
+/// The casebooks and sheets of the base are the files that they were before document 02's requests, as `base.sha256`
+/// lists them; that the program prints these sheets is the test above.
+#[test]
+fn files_of_the_base_are_unchanged() {
+    let list = String::from_utf8(file("base", "sha256")).unwrap();
+    let sums = list.lines().filter(|line| !line.starts_with('#'));
+    assert_eq!(sums.count(), 68);
+    let checked = Command::new("sha256sum")
+        .args(["--check", "--strict", "--quiet", "cases/base.sha256"])
+        .current_dir(root())
+        .output()
+        .expect("sha256sum runs");
+    let told = [checked.stdout, checked.stderr].concat();
+    let told = String::from_utf8_lossy(&told);
+    assert!(checked.status.success(), "{told}");
 }
 
 /// Case A is document 01's, byte for byte and line by line.

@@ -27,20 +27,16 @@ pub fn side(arguments: &Arguments, option: &str) -> Result<Side, Failure> {
 }
 
 /// The point that is asked for, else every point up to the last.
-pub fn points(arguments: &Arguments, last: usize) -> Result<RangeInclusive<usize>, Failure> {
-    Ok(match arguments.number("point")? {
+pub fn points(asked: Option<usize>, last: usize) -> RangeInclusive<usize> {
+    match asked {
         Some(point) => point..=point,
         None => 0..=last,
-    })
+    }
 }
 
-/// The splitting that an option asks for, else every splitting of the log.
-pub fn splittings(
-    arguments: &Arguments,
-    option: &str,
-    book: &Book,
-) -> Result<RangeInclusive<usize>, Failure> {
-    Ok(match arguments.number(option)? {
+/// The splitting that is asked for, else every splitting of the log.
+pub fn splittings(asked: Option<usize>, book: &Book) -> Result<RangeInclusive<usize>, Failure> {
+    Ok(match asked {
         Some(number) => number..=number,
         // There is at least one.
         None => 0..=book.splittings()? - 1,

@@ -3,14 +3,14 @@
 use std::ffi::OsStr;
 
 use yenuslap::{
-    count_splittings, cut, line_office, quotient, quotient_of_splitting, read_casebook, split,
-    Casebook, Refusal, Side, Verdicts, MOST_HALF, MOST_QUOTIENT,
+    count_splittings, line_office, quotient, quotient_of_splitting, read_casebook, split, Casebook,
+    Refusal, Side, Verdicts, MOST_HALF, MOST_QUOTIENT,
 };
 
 use super::answer::answer;
 use super::contents::steps;
 use super::explain::explain_casebook;
-use super::failure::Failure;
+use super::failure::{complain, Failure};
 use super::faults::{first_refused, Item, Part};
 use super::half_faults::{explain_half, explain_match};
 use super::input::{read_bytes, shown_name};
@@ -67,17 +67,24 @@ pub struct Book<'a> {
 }
 
 impl Halves {
-    /// The half of a side, as the engine takes it where none is named.
+    /// The known half.
     pub fn known(&self, side: Side) -> &[u8] {
-        if knows_left(side) {
-            &self.left
-        } else {
-            &self.right
-        }
+        known(side, &self.left, &self.right)
     }
 }
 
 impl Book<'_> {
+    /// Tells on standard error which half is known where no side is named: standard output does not say.
+    pub fn tell_unnamed(&self, side: Side) {
+        if side == Side::Unnamed {
+            let (taken, other) = known(side, ("left", "right"), ("right", "left"));
+            complain(&format!(
+                "{}: note: without --known the quotient is by the {taken} half; --known {other} divides by the {other} one",
+                self.name
+            ));
+        }
+    }
+
     /// How many splittings the log has, or that they are too many.
     pub fn count(&self) -> Result<usize, Refusal> {
         let Casebook {
@@ -213,8 +220,16 @@ pub fn too_many_splittings(parts: &Casebook) -> String {
     format!("the log has over 65,535 splittings{since}; no number names one of so many")
 }
 
-/// Does the engine take the left half as the known one? What an unnamed side means is known to the engine only, so it
-/// is asked for a cut that has a point in the left half alone.
-pub fn knows_left(side: Side) -> bool {
-    cut(&[0], &[], side, 0).is_ok()
+/// Of what is the left's and what is the right's, that of the known side, as the engine takes it where none is named.
+pub fn known<T>(side: Side, left: T, right: T) -> T {
+    if side.knows_left() {
+        left
+    } else {
+        right
+    }
+}
+
+/// How the known half is called where it has no such point.
+pub fn known_half(side: Side) -> String {
+    format!("known half, the {} one", known(side, "left", "right"))
 }

@@ -145,7 +145,7 @@ Prints the verdict on the log stopped at each point: T if the question holds, F 
   --half left|right      judge this half and not the log (also --side)
   --line-office          print two verdicts: the line's, and the machine's that is not known under
                          the quotient by the known half
-  --known left|right     the known half; if none is named, the engine's usual one
+  --known left|right     the known half; without it the left one is, and standard error says so
   -h, --help             print this help
 
 example:
@@ -166,13 +166,13 @@ the quotient in the usual notation.
   --left HALF --right HALF
                         print only the quotient for these halves, as split prints them: no number
                         is needed, so a log may have over 65,535 splittings
-  --known left|right    the known half; if none is named, the engine's usual one
+  --known left|right    the known half; without it the left one is, and standard error says so
   --point P             stop the halves at this point; if none is given, at the log's end
   --hex                 print the quotient's bytes in hexadecimal; halves are given so too
   -h, --help            print this help
 
 example:
-  $ yenuslap quotient cases/a.casebook
+  $ yenuslap quotient cases/a.casebook --known right
   0 <-1> true
   1 <-3> true
 ";

@@ -4,7 +4,7 @@ use yenuslap::{Refusal, Side};
 
 use super::arguments::Arguments;
 use super::asked::{halves, side, splittings};
-use super::book::{no_such_point, Book, Halves, Loaded};
+use super::book::{known_half, no_such_point, Book, Halves, Loaded};
 use super::contents::{half_steps, steps};
 use super::failure::{Ending, Failure};
 use super::hex::joined;
@@ -19,9 +19,10 @@ pub const TOO_LARGE: u32 = 17;
 /// Prints the quotient by the halves that are given, for one splitting, or for each.
 pub fn run(arguments: &Arguments, out: &mut Output) -> Result<Ending, Failure> {
     let (known, given) = (side(arguments, "known")?, halves(arguments)?);
-    let point = arguments.number("point")?;
+    let (point, number) = (arguments.number("point")?, arguments.number("splitting")?);
     let loaded = Loaded::read(arguments.file()?)?;
     let book = loaded.book()?;
+    book.tell_unnamed(known);
     let last = match &given {
         Some(halves) => half_steps(halves.known(known)).count(),
         None => steps(book.parts.run),
@@ -34,7 +35,7 @@ pub fn run(arguments: &Arguments, out: &mut Output) -> Result<Ending, Failure> {
     };
     match given {
         Some(halves) => request.by_halves(&halves, last, out),
-        None => request.by_splittings(arguments, out),
+        None => request.by_splittings(number, out),
     }
 }
 
@@ -70,7 +71,9 @@ impl Request<'_> {
     /// Why a quotient by halves is refused. A half of even length has no points; what is wrong is its length then.
     fn refused_halves(&self, refusal: Refusal, halves: &Halves, last: usize) -> Failure {
         let sentence = match refusal.number() {
-            NO_POINT if self.point > last => no_such_point("known half", last, self.point),
+            NO_POINT if self.point > last => {
+                no_such_point(&known_half(self.known), last, self.point)
+            }
             TOO_LARGE => too_large(self.point),
             _ => return self.book.refused_halves(refusal, halves),
         };
@@ -78,9 +81,9 @@ impl Request<'_> {
     }
 
     /// Prints a line for the splitting that is asked for, or for each.
-    fn by_splittings(&self, arguments: &Arguments, out: &mut Output) -> Result<Ending, Failure> {
+    fn by_splittings(&self, asked: Option<usize>, out: &mut Output) -> Result<Ending, Failure> {
         let mut refused = None;
-        for number in splittings(arguments, "splitting", &self.book)? {
+        for number in splittings(asked, &self.book)? {
             let refusal = self.print(number, out)?;
             refused = refused.or(refusal);
         }

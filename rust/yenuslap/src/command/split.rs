@@ -13,7 +13,7 @@ pub fn run(arguments: &Arguments, out: &mut Output) -> Result<Ending, Failure> {
     let hex = arguments.has("hex");
     let loaded = Loaded::read(arguments.file()?)?;
     let book = loaded.book()?;
-    for number in splittings(arguments, "number", &book)? {
+    for number in splittings(arguments.number("number")?, &book)? {
         out.line(line(number, &book.splitting(number)?, hex))?;
     }
     Ok(Ending::Fine)

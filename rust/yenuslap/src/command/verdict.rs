@@ -4,7 +4,7 @@ use yenuslap::{half_verdict, joint_verdict, Refusal, Side};
 
 use super::arguments::{usage, Arguments};
 use super::asked::{formula, halves, points, side};
-use super::book::{knows_left, no_such_point, Book, Halves, Loaded};
+use super::book::{known, known_half, no_such_point, Book, Halves, Loaded};
 use super::contents::{half_steps, steps};
 use super::failure::{Ending, Failure};
 use super::faults::Item;
@@ -27,7 +27,7 @@ enum Subject {
 /// Prints the verdict at one point or at each.
 pub fn run(arguments: &Arguments, out: &mut Output) -> Result<Ending, Failure> {
     go_together(arguments)?;
-    let given = formula(arguments)?;
+    let (given, point) = (formula(arguments)?, arguments.number("point")?);
     let loaded = Loaded::read(arguments.file()?)?;
     let book = loaded.book()?;
     let request = Request {
@@ -37,7 +37,7 @@ pub fn run(arguments: &Arguments, out: &mut Output) -> Result<Ending, Failure> {
         book,
     };
     let mut refused = None;
-    for point in points(arguments, request.last_point())? {
+    for point in points(point, request.last_point()) {
         match request.verdict(point) {
             Ok(verdict) => out.line(format!("point {point}: {verdict}"))?,
             // The quotients at other points may be smaller.
@@ -69,12 +69,17 @@ fn go_together(arguments: &Arguments) -> Result<(), Failure> {
 /// What the options ask a verdict of.
 fn subject(arguments: &Arguments, book: &Book) -> Result<Subject, Failure> {
     let (half, known) = (side(arguments, "half")?, side(arguments, "known")?);
-    let halves = match (halves(arguments)?, arguments.number("splitting")?) {
+    let (given, number) = (halves(arguments)?, arguments.number("splitting")?);
+    let office = arguments.has("line-office");
+    if office {
+        book.tell_unnamed(known);
+    }
+    let halves = match (given, number) {
         (Some(halves), _) => halves,
         (None, Some(number)) => book.splitting(number)?,
         (None, None) => return Ok(Subject::Log),
     };
-    Ok(if arguments.has("line-office") {
+    Ok(if office {
         Subject::LineOffice(known, halves)
     } else {
         Subject::Half(half, halves)
@@ -101,6 +106,15 @@ impl Request<'_> {
         }
     }
 
+    /// How the run is called whose points are meant.
+    fn run_name(&self) -> String {
+        match &self.subject {
+            Subject::Log => "log".to_string(),
+            Subject::Half(side, halves) => format!("{} half", self.half(*side, halves).0),
+            Subject::LineOffice(side, _) => known_half(*side),
+        }
+    }
+
     /// The engine's verdict in words.
     fn verdict(&self, point: usize) -> Result<String, Refusal> {
         let parts = &self.book.parts;
@@ -119,7 +133,7 @@ impl Request<'_> {
                 let verdicts = self
                     .book
                     .line_office(halves, self.statement, *side, point)?;
-                let machine = if knows_left(*side) { "right" } else { "left" };
+                let machine = known(*side, "right", "left");
                 let (line, half) = (letter(verdicts.joint), letter(verdicts.half));
                 Ok(format!("line {line}, {machine} machine {half}"))
             }
@@ -128,18 +142,15 @@ impl Request<'_> {
 
     /// A side's name, its table and its half.
     fn half<'b>(&'b self, side: Side, halves: &'b Halves) -> (&'static str, &'b [u8], &'b [u8]) {
-        match side {
-            Side::Left => ("left", self.book.parts.left, &halves.left),
-            _ => ("right", self.book.parts.right, &halves.right),
-        }
+        let table = known(side, self.book.parts.left, self.book.parts.right);
+        (known(side, "left", "right"), table, halves.known(side))
     }
 
     /// A refused verdict, explained.
     fn refused(&self, refusal: Refusal, point: usize) -> Failure {
         let sentence = match (refusal.number(), self.given, &self.subject) {
             (9 | 10, Some(statement), _) => self.statement_sentence(statement, refusal),
-            (12, _, Subject::Log) => no_such_point("log", self.last_point(), point),
-            (12, ..) => no_such_point("half", self.last_point(), point),
+            (12, ..) => no_such_point(&self.run_name(), self.last_point(), point),
             (TOO_LARGE, ..) => too_large(point),
             (_, _, Subject::LineOffice(_, halves)) => {
                 return self.book.refused_halves(refusal, halves)

@@ -1,12 +1,17 @@
 //! `quotient`: in the usual notation and as bytes.
 
 use crate::books::{case_a_asking, CASE_A};
-use crate::program::{complains, prints, run};
+use crate::program::{complains, note_unnamed, prints, prints_unnamed, run, run_with};
 
-/// Demands these quotients on case A's machines and log, under this question.
+/// Demands these quotients on case A's machines and log, under this question, by the side that the options name.
 fn quotients(question: &[u8], options: &[&str], expected: &str) {
     let book = case_a_asking(question);
     prints(&[&["quotient", "-"], options].concat(), &book, expected);
+}
+
+/// The same by the right half, as all of document 01's.
+fn by_the_right(question: &[u8], options: &[&str], expected: &str) {
+    quotients(question, &[&["--known=right"], options].concat(), expected);
 }
 
 /// Back by 0 over true: case A's own question.
@@ -16,61 +21,74 @@ const BACK_BY_0: [u8; 4] = [6, 0, 0, 0];
 #[test]
 fn document_01() {
     let hex = |options: &[&'static str]| [&["--hex"], options].concat();
-    quotients(&BACK_BY_0, &[], "0 <-1> true\n1 <-3> true\n");
-    quotients(&BACK_BY_0, &hex(&[]), "0 06010000\n1 06030000\n");
-    quotients(&BACK_BY_0, &hex(&["--point", "0"]), "0 0100\n1 0100\n");
-    quotients(&BACK_BY_0, &["--point=0"], "0 false\n1 false\n");
+    by_the_right(&BACK_BY_0, &[], "0 <-1> true\n1 <-3> true\n");
+    by_the_right(&BACK_BY_0, &hex(&[]), "0 06010000\n1 06030000\n");
+    by_the_right(&BACK_BY_0, &hex(&["--point", "0"]), "0 0100\n1 0100\n");
+    by_the_right(&BACK_BY_0, &["--point=0"], "0 false\n1 false\n");
     // Back by 1 over true, at point 1.
-    quotients(&[6, 1, 0, 0], &hex(&["--splitting", "0"]), "0 0100\n");
+    by_the_right(&[6, 1, 0, 0], &hex(&["--splitting", "0"]), "0 0100\n");
     // Forward by 0 over true, at point 0.
     let ahead = ["--point", "0", "--splitting", "1"];
-    quotients(
+    by_the_right(
         &[5, 0, 0, 0],
         &hex(&ahead),
         "1 04000500000004000501000005030000\n",
     );
-    quotients(
+    by_the_right(
         &[5, 0, 0, 0],
         &ahead,
         "1 <0> true or <1> true or <3> true\n",
     );
     // Forward by 2 over true, at point 0.
-    quotients(&[5, 2, 0, 0], &hex(&ahead), "1 04000502000007000000\n");
-    quotients(&[5, 2, 0, 0], &ahead, "1 <2> true or <idle> true\n");
+    by_the_right(&[5, 2, 0, 0], &hex(&ahead), "1 04000502000007000000\n");
+    by_the_right(&[5, 2, 0, 0], &ahead, "1 <2> true or <idle> true\n");
 }
 
-/// Both sides: by the left half partners are the right's labels. If none is named the engine's usual one is taken.
+/// Both sides: by the left half partners are the right's labels.
 #[test]
 fn known_sides() {
-    quotients(
-        &BACK_BY_0,
-        &["--known", "left"],
-        "0 <-2> true\n1 <-4> true\n",
-    );
+    let by_left = "0 <-2> true\n1 <-4> true\n";
+    quotients(&BACK_BY_0, &["--known", "left"], by_left);
     quotients(&BACK_BY_0, &["--known=right"], "0 <-1> true\n1 <-3> true\n");
     let loops = ["quotient", "cases/loops.casebook", "--hex"];
-    prints(&loops, b"", "0 06010000\n1 08000000\n");
-    prints(
-        &[&loops[..], &["--known=left"]].concat(),
-        b"",
-        "0 08000000\n1 06010000\n",
-    );
+    let with = |side| [&loops[..], &[side]].concat();
+    prints(&with("--known=right"), b"", "0 06010000\n1 08000000\n");
+    prints(&with("--known=left"), b"", "0 08000000\n1 06010000\n");
+}
+
+/// If no side is named the quotient is by the left half, and standard error says so: by number, by halves, as bytes.
+#[test]
+fn unnamed_side() {
+    let name = "cases/loops.casebook";
+    let by_left = "0 08000000\n1 06010000\n";
+    prints_unnamed(&["quotient", name, "--hex"], b"", name, by_left);
+    let halves = ["--left=0,1:1", "--right=0,2:1"];
+    for (more, by_left) in [
+        (&["--point=1"][..], "0 <-2> true\n1 <-4> true\n"),
+        (&["--splitting=1"], "1 <-4> true\n"),
+        (&halves, "<-2> true\n"),
+    ] {
+        let call = [&["quotient", "-"], more].concat();
+        prints_unnamed(&call, &CASE_A, "standard input", by_left);
+        let named = [&call[..], &["--known=left"]].concat();
+        prints(&named, &CASE_A, by_left);
+    }
 }
 
 /// 3,734 nodes are given, and spelled; 4,463 are refused.
 #[test]
 fn sizes() {
     let name = "cases/largest_quotient_3734_nodes.casebook";
-    let ran = run(&["quotient", "--hex", name]);
+    let ran = run(&["quotient", "--known=right", "--hex", name]);
     assert_eq!(ran.text().len(), "0 \n".len() + 3_734 * 4);
-    let spelled = run(&["quotient", name]).text();
+    let spelled = run(&["quotient", "--known=right", name]).text();
     let words = spelled
         .split([' ', '\n', '(', ')'])
         .filter(|word| !word.is_empty());
     // Each node is one word; the number of the splitting is one more.
     assert_eq!(words.count(), 3_734 + 1);
     let name = "cases/too_large_4463_nodes.casebook";
-    let ran = run(&["quotient", name]);
+    let ran = run(&["quotient", "--known=right", name]);
     let sentence = "the quotient at point 0 has over 4,096 nodes, and no larger one is written";
     assert_eq!(ran.text(), "0 refused 17\n");
     assert_eq!(
@@ -110,20 +128,19 @@ fn too_large_in_some_splittings() {
 /// 12, 13 and 14; 12 comes first.
 #[test]
 fn refused() {
+    let refused = |file: &str, options: &[&str], complaint: &str| {
+        let call = [&["quotient", file, "--known=right"], options].concat();
+        complains(&call, &CASE_A, 1, complaint);
+    };
     let beyond = "standard input: refused 12: point 9 is beyond the log; it has 1 step, so its points are 0 to 1";
-    complains(&["quotient", "-", "--point", "9"], &CASE_A, 1, beyond);
-    complains(
-        &["quotient", "-", "--point=9", "--splitting=9"],
-        &CASE_A,
-        1,
-        beyond,
-    );
+    refused("-", &["--point", "9"], beyond);
+    refused("-", &["--point=9", "--splitting=9"], beyond);
     let none = "standard input: refused 14: there is no splitting 9; the log has 2 splittings, counted from 0";
-    complains(&["quotient", "-", "--splitting=9"], &CASE_A, 1, none);
+    refused("-", &["--splitting=9"], none);
     let name = "cases/refused_13_sixteen_two_way_steps.casebook";
     let many = format!("{name}: refused 13: the log has over 65,535 splittings, from step 16 on; no number names one of so many");
-    complains(&["quotient", name], b"", 1, &many);
-    complains(&["quotient", name, "--splitting=0"], b"", 1, &many);
+    refused(name, &[], &many);
+    refused(name, &["--splitting=0"], &many);
 }
 
 /// By halves that are given: those of a splitting have its quotient, and no number is needed.
@@ -131,13 +148,13 @@ fn refused() {
 fn by_halves() {
     let first = ["--left", "0,1:1", "--right", "0,2:1"];
     let with = |more: &[&'static str]| [&first[..], more].concat();
-    quotients(&BACK_BY_0, &with(&[]), "<-1> true\n");
+    by_the_right(&BACK_BY_0, &first, "<-1> true\n");
     quotients(&BACK_BY_0, &with(&["--known=left"]), "<-2> true\n");
-    quotients(&BACK_BY_0, &with(&["--point=0"]), "false\n");
+    by_the_right(&BACK_BY_0, &with(&["--point=0"]), "false\n");
     let hex = ["--hex", "--left=000301", "--right=000401"];
-    quotients(&BACK_BY_0, &hex, "06030000\n");
+    by_the_right(&BACK_BY_0, &hex, "06030000\n");
     // Halves need not be those of the casebook's log: here the left moves alone.
-    quotients(
+    by_the_right(
         &[6, 1, 0, 0],
         &["--left=0,1:1", "--right=0,idle"],
         "<-1> true\n",
@@ -146,12 +163,9 @@ fn by_halves() {
     let name = "cases/refused_13_sixteen_two_way_steps.casebook";
     let left = format!("--left=0{},idle", ",1:0".repeat(15));
     let right = format!("--right=0{},1:0", ",idle".repeat(15));
-    prints(&["quotient", name, &left, &right], b"", "<-idle> true\n");
-    prints(
-        &["quotient", name, &left, &right, "--known=left"],
-        b"",
-        "<-1> true\n",
-    );
+    let call = |side| ["quotient", name, left.as_str(), right.as_str(), side];
+    prints(&call("--known=right"), b"", "<-idle> true\n");
+    prints(&call("--known=left"), b"", "<-1> true\n");
 }
 
 /// 12, 15, 16 and 17 of halves that are given.
@@ -162,23 +176,52 @@ fn refused_halves() {
         let complaint = format!("standard input: refused {number}: {sentence}");
         complains(&[&given, more].concat(), &CASE_A, 1, &complaint);
     };
-    let beyond = "point 2 is beyond the known half; it has 1 step, so its points are 0 to 1";
-    refused(["0,1:1,idle", "0,2:1"], &["--point=2"], 12, beyond);
+    let beyond = |side: &str| {
+        format!("point 2 is beyond the known half, the {side} one; it has 1 step, so its points are 0 to 1")
+    };
+    let (longer, shorter) = (["0,1:1,idle", "0,2:1"], ["0,1:1", "0,2:1,idle"]);
+    let (by_left, by_right) = (
+        ["--point=2", "--known=left"],
+        ["--point=2", "--known=right"],
+    );
+    refused(longer, &by_right, 12, &beyond("right"));
+    refused(shorter, &by_left, 12, &beyond("left"));
     let unequal =
         "the left half has 2 steps and the right half 1 step; matching halves are equally long";
-    refused(
-        ["0,1:1,idle", "0,2:1"],
-        &["--point=2", "--known=left"],
-        16,
-        unequal,
-    );
+    refused(longer, &by_left, 16, unequal);
     let no_row =
         "step 1 of the left half goes from 0 by label 2 to 1, and the left table has no such row";
-    refused(["0,2:1", "0,2:1"], &[], 15, no_row);
+    refused(["0,2:1", "0,2:1"], &["--known=right"], 15, no_row);
     let even = "the right half has 2 bytes; a half has one byte, and two for each step";
-    refused(["00", "00ff"], &["--hex"], 12, even);
+    refused(["00", "00ff"], &["--hex", "--known=right"], 12, even);
     refused(["00", "00ff"], &["--hex", "--known=left"], 15, even);
     let name = "cases/too_large_4463_nodes.casebook";
     let large = format!("{name}: refused 17: the quotient at point 0 has over 4,096 nodes, and no larger one is written");
-    complains(&["quotient", name, "--left=0", "--right=0"], b"", 1, &large);
+    let call = ["quotient", name, "--left=0", "--right=0", "--known=right"];
+    complains(&call, b"", 1, &large);
+}
+
+/// Where no side is named 12 is judged on the left half. That the quotient is by this one is told first, whatever is
+/// refused but the casebook.
+#[test]
+fn refused_unnamed() {
+    let refused = |options: &[&str], sentence: &str| {
+        let ran = run_with(&[&["quotient", "-"], options].concat(), &CASE_A);
+        let complaint = format!("yenuslap: standard input: refused {sentence}\n");
+        assert_eq!(ran.err, note_unnamed("standard input") + &complaint);
+        assert_eq!((ran.text().as_str(), ran.status), ("", Some(1)));
+    };
+    let shorter = ["--left=0,1:1", "--right=0,2:1,idle", "--point=2"];
+    let beyond = "12: point 2 is beyond the known half, the left one; it has 1 step, so its points are 0 to 1";
+    refused(&shorter, beyond);
+    let longer = ["--left=0,1:1,idle", "--right=0,2:1", "--point=2"];
+    let unequal =
+        "16: the left half has 2 steps and the right half 1 step; matching halves are equally long";
+    refused(&longer, unequal);
+    let none = "14: there is no splitting 9; the log has 2 splittings, counted from 0";
+    refused(&["--splitting=9"], none);
+    let ran = run_with(&["quotient", "-"], &CASE_A[1..]);
+    assert_eq!((ran.err.lines().count(), ran.status), (1, Some(1)));
+    let ran = run_with(&["quotient", "-", "--splitting=x"], &CASE_A);
+    assert_eq!((ran.err.lines().count(), ran.status), (1, Some(2)));
 }

@@ -1,7 +1,7 @@
 //! `verdict`: on the log, on a half, for the line office.
 
 use crate::books::CASE_A;
-use crate::program::{complains, prints, root, run, run_with};
+use crate::program::{complains, note_unnamed, prints, prints_unnamed, root, run, run_with};
 
 /// Demands these verdicts on case A.
 fn verdicts(options: &[&str], expected: &str) {
@@ -47,16 +47,45 @@ fn on_a_half() {
 fn for_the_line_office() {
     let office = ["--line-office", "--splitting", "1"];
     let with = |more: &[&'static str]| [&office[..], more].concat();
-    let both = "point 0: line F, left machine F\npoint 1: line T, left machine T\n";
-    verdicts(&with(&[]), both);
-    verdicts(&with(&["--known", "right"]), both);
-    let other = "point 0: line F, right machine F\npoint 1: line T, right machine T\n";
-    verdicts(&with(&["--known", "left"]), other);
+    let by_right = "point 0: line F, left machine F\npoint 1: line T, left machine T\n";
+    verdicts(&with(&["--known", "right"]), by_right);
+    let by_left = "point 0: line F, right machine F\npoint 1: line T, right machine T\n";
+    verdicts(&with(&["--known", "left"]), by_left);
     let ahead = "point 0: line T, right machine T\n";
     verdicts(
         &with(&["--known=left", "--point=0", "--formula=<2> true"]),
         ahead,
     );
+}
+
+/// For the line office with no side named: the left half is known, standard error says so first, and 12 is judged on
+/// the left half.
+#[test]
+fn unnamed_side() {
+    let office = ["verdict", "-", "--line-office"];
+    let with = |more: &[&'static str]| [&office[..], more].concat();
+    let by_left = "point 0: line F, right machine F\npoint 1: line T, right machine T\n";
+    let name = "standard input";
+    prints_unnamed(&with(&["--splitting=1"]), &CASE_A, name, by_left);
+    let halves = ["--left=0,3:1", "--right=0,4:1"];
+    prints_unnamed(&with(&halves), &CASE_A, name, by_left);
+    let refused = |options: &[&'static str], sentence: &str| {
+        let ran = run_with(&with(options), &CASE_A);
+        let complaint = format!("yenuslap: {name}: refused {sentence}\n");
+        assert_eq!(ran.err, note_unnamed(name) + &complaint);
+        assert_eq!((ran.text().as_str(), ran.status), ("", Some(1)));
+    };
+    let shorter = ["--left=0,1:1", "--right=0,2:1,idle", "--point=2"];
+    let beyond = "12: point 2 is beyond the known half, the left one; it has 1 step, so its points are 0 to 1";
+    refused(&shorter, beyond);
+    let longer = ["--left=0,1:1,idle", "--right=0,2:1", "--point=2"];
+    let unequal =
+        "16: the left half has 2 steps and the right half 1 step; matching halves are equally long";
+    refused(&longer, unequal);
+    let none = "14: there is no splitting 2; the log has 2 splittings, counted from 0";
+    refused(&["--splitting=2"], none);
+    let ran = run_with(&with(&["--splitting=0", "--point=x"]), &CASE_A);
+    assert_eq!((ran.err.lines().count(), ran.status), (1, Some(2)));
 }
 
 /// 12, 13, 14 and 17.
@@ -65,18 +94,27 @@ fn refused() {
     let beyond = "standard input: refused 12: point 2 is beyond the log; it has 1 step, so its points are 0 to 1";
     let halves = ["--splitting", "0"];
     complains(&["verdict", "-", "--point", "2"], &CASE_A, 1, beyond);
-    for more in [&["--half", "left"][..], &["--line-office"]] {
+    let subjects: [(&[&str], &str); 4] = [
+        (&["--half", "left"], "the left half"),
+        (&["--half", "right"], "the right half"),
+        (
+            &["--line-office", "--known=left"],
+            "the known half, the left one",
+        ),
+        (
+            &["--line-office", "--known=right"],
+            "the known half, the right one",
+        ),
+    ];
+    for (more, judged) in subjects {
         let arguments = [&["verdict", "-", "--point", "2"], &halves[..], more].concat();
-        let beyond = beyond.replace("the log", "the half");
+        let beyond = beyond.replace("the log", judged);
         complains(&arguments, &CASE_A, 1, &beyond);
     }
     let none = "standard input: refused 14: there is no splitting 2; the log has 2 splittings, counted from 0";
-    complains(
-        &["verdict", "-", "--line-office", "--splitting", "2"],
-        &CASE_A,
-        1,
-        none,
-    );
+    let office = ["verdict", "-", "--line-office", "--known=right"];
+    let arguments = [&office[..], &["--splitting", "2"]].concat();
+    complains(&arguments, &CASE_A, 1, none);
     let ran = run(&[
         "verdict",
         "cases/refused_13_sixteen_two_way_steps.casebook",
@@ -88,7 +126,13 @@ fn refused() {
         .contains(": refused 13: the log has over 65,535 splittings, from step 16 on;"));
     let name = "cases/too_large_4463_nodes.casebook";
     let large = format!("yenuslap: {name}: refused 17: the quotient at point 0 has over 4,096 nodes, and no larger one is written\n");
-    let ran = run(&["verdict", name, "--line-office", "--splitting=0"]);
+    let ran = run(&[
+        "verdict",
+        name,
+        "--line-office",
+        "--splitting=0",
+        "--known=right",
+    ]);
     assert_eq!(ran.text(), "point 0: refused 17\n");
     assert_eq!((ran.err, ran.status), (large, Some(1)));
     // The log's own verdict needs no quotient, and its splittings need not be few.
@@ -121,11 +165,8 @@ fn refused_statements() {
     let question = format!("{}true", "not ".repeat(64));
     let large =
         "line 1, column 253: with this node the tree is too large; a question has at most 64 nodes";
-    refused(
-        &["--line-office", "--splitting=0", "--formula", &question],
-        9,
-        large,
-    );
+    let office = ["--line-office", "--splitting=0", "--known=right"];
+    refused(&[&office[..], &["--formula", &question]].concat(), 9, large);
 }
 
 /// Statements that are no text of a statement.
@@ -152,10 +193,11 @@ fn by_halves() {
         "point 0: F\npoint 1: F\n",
     );
     let both = "point 0: line F, left machine F\npoint 1: line T, left machine T\n";
-    verdicts(&with(&["--line-office", formula]), both);
+    let office = ["--line-office", "--known=right"];
+    verdicts(&with(&[&office[..], &[formula]].concat()), both);
     // Case A's own question is back by 0, and the left moved alone by 1.
     let last = "point 1: line F, left machine F\n";
-    verdicts(&with(&["--line-office", "--point=1"]), last);
+    verdicts(&with(&[&office[..], &["--point=1"]].concat()), last);
     // Longer halves than the log have more points.
     let longer = ["--left=0,1:1,idle", "--right=0,2:1,idle", "--half=left"];
     verdicts(&longer, "point 0: F\npoint 1: F\npoint 2: F\n");
@@ -164,26 +206,25 @@ fn by_halves() {
 /// 15 and 16 of halves that are given: the half that is judged, and the step.
 #[test]
 fn refused_halves() {
-    let refused = |halves: [&str; 2], subject: &str, number: u8, sentence: &str| {
-        let given = [
-            "verdict", "-", "--left", halves[0], "--right", halves[1], subject,
-        ];
+    let refused = |halves: [&str; 2], subject: &[&str], number: u8, sentence: &str| {
+        let given = ["verdict", "-", "--left", halves[0], "--right", halves[1]];
         let complaint = format!("standard input: refused {number}: {sentence}");
-        complains(&given, &CASE_A, 1, &complaint);
+        complains(&[&given, subject].concat(), &CASE_A, 1, &complaint);
     };
     let no_row = |side: &str| {
         format!("step 1 of the {side} half goes from 0 by label 9 to 1, and the {side} table has no such row")
     };
     let wrong = ["0,9:1", "0,9:1"];
-    refused(wrong, "--half=right", 15, &no_row("right"));
-    refused(wrong, "--half=left", 15, &no_row("left"));
-    refused(wrong, "--line-office", 15, &no_row("left"));
+    let office = ["--line-office", "--known=right"];
+    refused(wrong, &["--half=right"], 15, &no_row("right"));
+    refused(wrong, &["--half=left"], 15, &no_row("left"));
+    refused(wrong, &office, 15, &no_row("left"));
     let rule =
         "a move matches an idle or a move by its label's partner, and an idle matches an idle";
     let sentence = format!(
         "at step 1 the left half moves by label 1 and the right half moves by label 4; {rule}"
     );
-    refused(["0,1:1", "0,4:1"], "--line-office", 16, &sentence);
+    refused(["0,1:1", "0,4:1"], &office, 16, &sentence);
 }
 
 /// A quotient that is too large at one point hides no other point: the lines are those of the stored sheet.

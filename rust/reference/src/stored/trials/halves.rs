@@ -120,14 +120,15 @@ fn steps() -> Vec<Trial> {
     found.into_iter().map(trial).collect()
 }
 
-/// A cut of the known one of two halves.
+/// A cut of the known one of two halves, lent as the half that the side makes known.
 fn cut(known: &[u8], other: &[u8], side: Side, point: u16) -> Trial {
-    let halves = match side {
-        Side::Left => [known.to_vec(), other.to_vec()],
-        Side::Right | Side::Unnamed => [other.to_vec(), known.to_vec()],
+    let halves = if side.knows_left() {
+        [known, other]
+    } else {
+        [other, known]
     };
     Trial::Cut {
-        halves,
+        halves: halves.map(|half| half.to_vec()),
         side,
         point,
     }
