@@ -38,6 +38,8 @@ mod text;
 mod text_places;
 #[path = "command/tidy.rs"]
 mod tidy;
+#[path = "command/unnamed.rs"]
+mod unnamed;
 #[path = "command/verdict.rs"]
 mod verdict;
 #[path = "command/wrong_text.rs"]

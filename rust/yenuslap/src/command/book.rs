@@ -74,7 +74,7 @@ impl Halves {
 }
 
 impl Book<'_> {
-    /// Tells on standard error which half is known where no side is named: standard output does not say.
+    /// Tells on standard error by which half the quotient is where no side is named.
     pub fn tell_unnamed(&self, side: Side) {
         if side == Side::Unnamed {
             let (taken, other) = known(side, ("left", "right"), ("right", "left"));

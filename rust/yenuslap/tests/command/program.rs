@@ -63,28 +63,13 @@ pub fn run(arguments: &[impl AsRef<OsStr>]) -> Ran {
 
 /// Demands status 0, this output, and nothing on standard error.
 pub fn prints(arguments: &[&str], input: &[u8], expected: &str) {
-    prints_and_tells(arguments, input, expected, "");
-}
-
-/// Demands status 0, this output, and on standard error that the quotient is by the left half, of a call on this file.
-pub fn prints_unnamed(arguments: &[&str], input: &[u8], file: &str, expected: &str) {
-    prints_and_tells(arguments, input, expected, &note_unnamed(file));
-}
-
-/// Demands status 0 and this on standard output and standard error.
-fn prints_and_tells(arguments: &[&str], input: &[u8], expected: &str, told: &str) {
     let ran = run_with(arguments, input);
     assert_eq!(ran.text(), expected, "{arguments:?}: {}", ran.err);
     assert_eq!(
         (ran.status, ran.err.as_str()),
-        (Some(0), told),
+        (Some(0), ""),
         "{arguments:?}"
     );
-}
-
-/// What standard error says first of a call on a file that names no known side.
-pub fn note_unnamed(file: &str) -> String {
-    format!("yenuslap: {file}: note: without --known the quotient is by the left half; --known right divides by the right one\n")
 }
 
 /// Demands a status, no output, and this complaint.

@@ -1,7 +1,7 @@
 //! `quotient`: in the usual notation and as bytes.
 
 use crate::books::{case_a_asking, CASE_A};
-use crate::program::{complains, note_unnamed, prints, prints_unnamed, run, run_with};
+use crate::program::{complains, prints, run};
 
 /// Demands these quotients on case A's machines and log, under this question, by the side that the options name.
 fn quotients(question: &[u8], options: &[&str], expected: &str) {
@@ -54,25 +54,6 @@ fn known_sides() {
     let with = |side| [&loops[..], &[side]].concat();
     prints(&with("--known=right"), b"", "0 06010000\n1 08000000\n");
     prints(&with("--known=left"), b"", "0 08000000\n1 06010000\n");
-}
-
-/// If no side is named the quotient is by the left half, and standard error says so: by number, by halves, as bytes.
-#[test]
-fn unnamed_side() {
-    let name = "cases/loops.casebook";
-    let by_left = "0 08000000\n1 06010000\n";
-    prints_unnamed(&["quotient", name, "--hex"], b"", name, by_left);
-    let halves = ["--left=0,1:1", "--right=0,2:1"];
-    for (more, by_left) in [
-        (&["--point=1"][..], "0 <-2> true\n1 <-4> true\n"),
-        (&["--splitting=1"], "1 <-4> true\n"),
-        (&halves, "<-2> true\n"),
-    ] {
-        let call = [&["quotient", "-"], more].concat();
-        prints_unnamed(&call, &CASE_A, "standard input", by_left);
-        let named = [&call[..], &["--known=left"]].concat();
-        prints(&named, &CASE_A, by_left);
-    }
 }
 
 /// 3,734 nodes are given, and spelled; 4,463 are refused.
@@ -199,29 +180,4 @@ fn refused_halves() {
     let large = format!("{name}: refused 17: the quotient at point 0 has over 4,096 nodes, and no larger one is written");
     let call = ["quotient", name, "--left=0", "--right=0", "--known=right"];
     complains(&call, b"", 1, &large);
-}
-
-/// Where no side is named 12 is judged on the left half. That the quotient is by this one is told first, whatever is
-/// refused but the casebook.
-#[test]
-fn refused_unnamed() {
-    let refused = |options: &[&str], sentence: &str| {
-        let ran = run_with(&[&["quotient", "-"], options].concat(), &CASE_A);
-        let complaint = format!("yenuslap: standard input: refused {sentence}\n");
-        assert_eq!(ran.err, note_unnamed("standard input") + &complaint);
-        assert_eq!((ran.text().as_str(), ran.status), ("", Some(1)));
-    };
-    let shorter = ["--left=0,1:1", "--right=0,2:1,idle", "--point=2"];
-    let beyond = "12: point 2 is beyond the known half, the left one; it has 1 step, so its points are 0 to 1";
-    refused(&shorter, beyond);
-    let longer = ["--left=0,1:1,idle", "--right=0,2:1", "--point=2"];
-    let unequal =
-        "16: the left half has 2 steps and the right half 1 step; matching halves are equally long";
-    refused(&longer, unequal);
-    let none = "14: there is no splitting 9; the log has 2 splittings, counted from 0";
-    refused(&["--splitting=9"], none);
-    let ran = run_with(&["quotient", "-"], &CASE_A[1..]);
-    assert_eq!((ran.err.lines().count(), ran.status), (1, Some(1)));
-    let ran = run_with(&["quotient", "-", "--splitting=x"], &CASE_A);
-    assert_eq!((ran.err.lines().count(), ran.status), (1, Some(2)));
 }

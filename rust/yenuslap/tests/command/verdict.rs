@@ -1,7 +1,7 @@
 //! `verdict`: on the log, on a half, for the line office.
 
 use crate::books::CASE_A;
-use crate::program::{complains, note_unnamed, prints, prints_unnamed, root, run, run_with};
+use crate::program::{complains, prints, root, run, run_with};
 
 /// Demands these verdicts on case A.
 fn verdicts(options: &[&str], expected: &str) {
@@ -56,36 +56,6 @@ fn for_the_line_office() {
         &with(&["--known=left", "--point=0", "--formula=<2> true"]),
         ahead,
     );
-}
-
-/// For the line office with no side named: the left half is known, standard error says so first, and 12 is judged on
-/// the left half.
-#[test]
-fn unnamed_side() {
-    let office = ["verdict", "-", "--line-office"];
-    let with = |more: &[&'static str]| [&office[..], more].concat();
-    let by_left = "point 0: line F, right machine F\npoint 1: line T, right machine T\n";
-    let name = "standard input";
-    prints_unnamed(&with(&["--splitting=1"]), &CASE_A, name, by_left);
-    let halves = ["--left=0,3:1", "--right=0,4:1"];
-    prints_unnamed(&with(&halves), &CASE_A, name, by_left);
-    let refused = |options: &[&'static str], sentence: &str| {
-        let ran = run_with(&with(options), &CASE_A);
-        let complaint = format!("yenuslap: {name}: refused {sentence}\n");
-        assert_eq!(ran.err, note_unnamed(name) + &complaint);
-        assert_eq!((ran.text().as_str(), ran.status), ("", Some(1)));
-    };
-    let shorter = ["--left=0,1:1", "--right=0,2:1,idle", "--point=2"];
-    let beyond = "12: point 2 is beyond the known half, the left one; it has 1 step, so its points are 0 to 1";
-    refused(&shorter, beyond);
-    let longer = ["--left=0,1:1,idle", "--right=0,2:1", "--point=2"];
-    let unequal =
-        "16: the left half has 2 steps and the right half 1 step; matching halves are equally long";
-    refused(&longer, unequal);
-    let none = "14: there is no splitting 2; the log has 2 splittings, counted from 0";
-    refused(&["--splitting=2"], none);
-    let ran = run_with(&with(&["--splitting=0", "--point=x"]), &CASE_A);
-    assert_eq!((ran.err.lines().count(), ran.status), (1, Some(2)));
 }
 
 /// 12, 13, 14 and 17.
