@@ -29,7 +29,8 @@ use Rattle.quotient.specs.Calls.{byNumberOutput, splittingsIn, rightIn, 
 use Rattle.quotient.specs.Demand.{verdictAt, halvesGiven, halvesOutput, Decomposed}
 use Rattle.quotient.proofs.DemandThree.{demand-three}
 
--- "A caller who names no side now gets the quotient by the left half", given halves: the answer, 12 on the left half among it, and the lent output
+-- "A caller who names no side now gets the quotient by the left half", given halves: the answer, 12 on the left half
+-- among it, and the lent output
 module _ (k : Labels) (l r a b f : List ℕ) (point : ℕ) where
   pub unnamed-by-half : (room : ℕ)
       → byHalf k l r a b f side.Unnamed point room ≡ byHalf k l r a b f side.Left point room

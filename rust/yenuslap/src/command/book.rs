@@ -78,10 +78,9 @@ impl Book<'_> {
     pub fn tell_unnamed(&self, side: Side) {
         if side == Side::Unnamed {
             let (taken, other) = known(side, ("left", "right"), ("right", "left"));
-            complain(&format!(
-                "{}: note: without --known the quotient is by the {taken} half; --known {other} divides by the {other} one",
-                self.name
-            ));
+            let told = format!("without --known the quotient is by the {taken} half");
+            let else_by = format!("--known {other} divides by the {other} one");
+            complain(&format!("{}: note: {told}; {else_by}", self.name));
         }
     }
 
