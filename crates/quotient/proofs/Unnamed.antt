@@ -9,19 +9,21 @@ use lib.ListN.{length, take}
 use lib.Dec.{ltb}
 use borrow.Author.Tests.{ltb-true, ltb-false}
 use Rattle.hml.proofs.Tests.{apart}
-use Rattle.hml.specs.System.{steps}
+use Rattle.hml.specs.System.{steps, stop}
 use Rattle.hml.specs.Formula.{size}
 use Rattle.labels.specs.declared.refusal.Check.the-variants.{Sound}
 use Rattle.labels.specs.declared.label.Labels.{Labels}
+use Rattle.halves.specs.Halves.{halfOf}
 use Rattle.halves.specs.Cuts.{knownOf, otherPart}
 use Rattle.halves.specs.declared.side.Side.{Side}
 use Rattle.halves.specs.declared.side.Side.the-variants as side
 use Rattle.machines.specs.Joints.{jointOf}
 use Rattle.machines.specs.Cases.{Case}
 use Rattle.formulas.specs.Formulas.{questionLimit, quotientLimit, checkFormula}
-use Rattle.verdict.specs.Verdicts.{halfVerdict}
+use Rattle.verdict.specs.Verdicts.{halfHolds, halfVerdict}
 use Rattle.joining.specs.Joinings.{joinBytes, checkHalves}
 use Rattle.splitting.specs.Splittings.{checkLog, splittingLimit}
+use Rattle.dividing.specs.Quotients.{quotientBy, textOf}
 use Rattle.dividing.specs.declared.divide.Quotient.{Quotient}
 use Rattle.dividing.specs.declared.divide.Quotient.the-variants.{Written}
 use Rattle.quotient.specs.Calls.{treeByHalf, checkByHalf, byHalf, byHalfOutput, treeByNumber, byNumber}
@@ -29,9 +31,13 @@ use Rattle.quotient.specs.Calls.{byNumberOutput, splittingsIn, rightIn, 
 use Rattle.quotient.specs.Demand.{verdictAt, halvesGiven, halvesOutput, Decomposed}
 use Rattle.quotient.proofs.DemandThree.{demand-three}
 
--- "A caller who names no side now gets the quotient by the left half", given halves: the answer, 12 on the left half
--- among it, and the lent output
+-- "A caller who names no side now gets the quotient by the left half", given halves: the tree; the answer, 12 on the
+-- left half among it; the lent output
 module _ (k : Labels) (l r a b f : List ℕ) (point : ℕ) where
+  pub unnamed-tree : treeByHalf k l r a b f side.Unnamed point ≡ quotientBy k l (stop point (halfOf a)) f
+  unfolding treeByHalf
+  unnamed-tree = refl
+
   pub unnamed-by-half : (room : ℕ)
       → byHalf k l r a b f side.Unnamed point room ≡ byHalf k l r a b f side.Left point room
   unfolding byHalf checkByHalf treeByHalf
@@ -42,7 +48,12 @@ module _ (k : Labels) (l r a b f : List ℕ) (point : ℕ) where
   unfolding byHalfOutput checkByHalf treeByHalf
   unnamed-by-half-output out = refl
 
-  -- and from the line office the right machine's verdict
+  -- the line office's machine is the right one
+  pub unnamed-machine : machineHolds k l r a b f side.Unnamed point
+      ≡ halfHolds r b (textOf (quotientBy k l (stop point (halfOf a)) f)) point
+  unfolding machineHolds treeByHalf
+  unnamed-machine = refl
+
   pub unnamed-office : officeOf k l r a b f side.Unnamed point ≡ officeOf k l r a b f side.Left point
   unfolding officeOf checkLine checkByHalf treeByHalf machineHolds
   unnamed-office = refl

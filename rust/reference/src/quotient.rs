@@ -327,7 +327,7 @@ mod tests {
         assert_eq!(line_office(back, HALVES, right(0)), Ok([false, false]));
     }
 
-    /// Case A with no side named: the quotient is by the left half, and the line office's second verdict the right's.
+    /// Case A with no side named: quotients and the line office are those by the left half.
     #[test]
     fn case_a_unnamed() {
         let back = case_a(&[6, 0, 0, 0]);

@@ -21,7 +21,8 @@ fn short_log(random: &mut Random, seed: usize, most: usize) -> Log {
     many_ways(random, shape, most)
 }
 
-/// Every point of short logs, by the halves of any splitting, every way of naming a side.
+/// Every point of short logs, by the halves of any splitting, every way of naming a side; so many logs that some of
+/// the quotients are too large.
 #[test]
 fn every_point_of_short_logs() {
     let mut tally = Tally::new("quotients at every point of short logs");

@@ -74,7 +74,7 @@ impl Halves {
 }
 
 impl Book<'_> {
-    /// Tells on standard error by which half the quotient is where no side is named.
+    /// Tells on standard error by which half the quotient is where no side is named: standard output need not say.
     pub fn tell_unnamed(&self, side: Side) {
         if side == Side::Unnamed {
             let (taken, other) = known(side, ("left", "right"), ("right", "left"));

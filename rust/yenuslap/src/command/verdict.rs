@@ -28,10 +28,11 @@ enum Subject {
 pub fn run(arguments: &Arguments, out: &mut Output) -> Result<Ending, Failure> {
     go_together(arguments)?;
     let (given, point) = (formula(arguments)?, arguments.number("point")?);
+    let asked = Asked::of(arguments)?;
     let loaded = Loaded::read(arguments.file()?)?;
     let book = loaded.book()?;
     let request = Request {
-        subject: subject(arguments, &book)?,
+        subject: asked.subject(&book)?,
         statement: given.as_ref().map_or(book.parts.question, |s| &s.bytes),
         given: given.as_ref(),
         book,
@@ -66,24 +67,44 @@ fn go_together(arguments: &Arguments) -> Result<(), Failure> {
     }
 }
 
-/// What the options ask a verdict of.
-fn subject(arguments: &Arguments, book: &Book) -> Result<Subject, Failure> {
-    let (half, known) = (side(arguments, "half")?, side(arguments, "known")?);
-    let (given, number) = (halves(arguments)?, arguments.number("splitting")?);
-    let office = arguments.has("line-office");
-    if office {
-        book.tell_unnamed(known);
+/// What the options say of the subject; the casebook may still have no such splitting.
+struct Asked {
+    /// Whether it is for the line office.
+    office: bool,
+    /// The half that is judged, or for the line office the known one.
+    side: Side,
+    halves: Option<Halves>,
+    number: Option<usize>,
+}
+
+impl Asked {
+    /// Reads the options.
+    fn of(arguments: &Arguments) -> Result<Asked, Failure> {
+        let office = arguments.has("line-office");
+        Ok(Asked {
+            office,
+            side: side(arguments, if office { "known" } else { "half" })?,
+            halves: halves(arguments)?,
+            number: arguments.number("splitting")?,
+        })
     }
-    let halves = match (given, number) {
-        (Some(halves), _) => halves,
-        (None, Some(number)) => book.splitting(number)?,
-        (None, None) => return Ok(Subject::Log),
-    };
-    Ok(if office {
-        Subject::LineOffice(known, halves)
-    } else {
-        Subject::Half(half, halves)
-    })
+
+    /// What is asked of this casebook.
+    fn subject(self, book: &Book) -> Result<Subject, Failure> {
+        if self.office {
+            book.tell_unnamed(self.side);
+        }
+        let halves = match (self.halves, self.number) {
+            (Some(halves), _) => halves,
+            (None, Some(number)) => book.splitting(number)?,
+            (None, None) => return Ok(Subject::Log),
+        };
+        Ok(if self.office {
+            Subject::LineOffice(self.side, halves)
+        } else {
+            Subject::Half(self.side, halves)
+        })
+    }
 }
 
 /// Of what, and for which statement, verdicts are asked.

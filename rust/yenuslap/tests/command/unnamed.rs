@@ -73,19 +73,22 @@ fn refused() {
     }
 }
 
-/// A casebook that is refused and options that are misused are told alone: nothing was divided.
+/// A casebook that is refused is told alone, and so are misused options, also on such a casebook: nothing was divided.
 #[test]
 fn nothing_divided() {
+    let refused = &CASE_A[1..];
     for call in [&QUOTIENT[..], &LINE_OFFICE] {
-        let sound = [call, &["--splitting=0"]].concat();
-        let refused = run_with(&sound, &CASE_A[1..]);
-        assert_eq!((refused.err.lines().count(), refused.status), (1, Some(1)));
+        let ran = run_with(&[call, &["--splitting=0"]].concat(), refused);
+        assert_eq!((ran.err.lines().count(), ran.status), (1, Some(1)));
         for options in [
             ["--splitting=x", "--point=0"],
             ["--splitting=0", "--point=x"],
+            ["--splitting=0", "--known=x"],
         ] {
-            let misused = on_case_a(call, &options);
-            assert_eq!((misused.err.lines().count(), misused.status), (1, Some(2)));
+            for book in [&CASE_A[..], refused] {
+                let ran = run_with(&[call, &options].concat(), book);
+                assert_eq!((ran.err.lines().count(), ran.status), (1, Some(2)));
+            }
         }
     }
 }
