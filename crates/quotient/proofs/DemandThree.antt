@@ -3,10 +3,14 @@
 -- public calls promise to answer, for every accepted log, every point of it, every splitting and both known sides, and
 -- where no side is named; for that call it is spelled out in `unnamed-agrees` (Unnamed).
 use Prim.Native.Nat.{ℕ, _*_, _≤_}
+use mathlib.Core.Bool.{Bool, true, false}
 use mathlib.Core.Path.{_≡_, refl, sym, _∙_, ap}
 use mathlib.Core.List.{List, []}
 use mathlib.Core.Option.{some}
 use lib.ListN.{length, take, drop}
+use lib.Dec.{ltb}
+use borrow.Author.Tests.{ltb-true, ltb-false}
+use Rattle.hml.proofs.Tests.{apart}
 use Rattle.hml.specs.System.{steps, stop}
 use Rattle.hml.specs.Formula.{Formula, size, holds}
 use Rattle.hml.specs.Compose.{beside}
@@ -21,7 +25,7 @@ use Rattle.halves.specs.Cuts.{knownOf, knownPart, otherPart, cutOf}
 use Rattle.halves.specs.declared.side.Side.{Side}
 use Rattle.halves.proofs.Cuts.{cut-stopped}
 use Rattle.machines.specs.Joints.{jointOf}
-use Rattle.machines.specs.Cases.{caseWith}
+use Rattle.machines.specs.Cases.{Case, caseWith}
 use Rattle.formulas.specs.Formulas.{questionLimit, quotientLimit, checkFormula}
 use Rattle.verdict.specs.Verdicts.{verdictOf, jointVerdict, halfVerdict}
 use Rattle.joining.specs.Joinings.{joinBytes, checkHalves}
@@ -29,13 +33,14 @@ use Rattle.splitting.specs.Splittings.{splittingLimit, checkLog, leftHalf, righ
 use Rattle.splitting.proofs.AllSplittings.{splitting-joins}
 use Rattle.dividing.specs.Quotients.{answerOf, outputAfter}
 use Rattle.dividing.specs.declared.divide.Quotient.{Quotient}
+use Rattle.dividing.specs.declared.divide.Quotient.the-variants.{Written}
 use Rattle.dividing.proofs.Answers.{refused-kept, too-short, enough-room, text-written, rest-kept, exactly-too-large}
 use Rattle.quotient.specs.Calls.{treeByHalf, byHalf, byHalfOutput, treeByNumber, byNumber, byNumberOutput}
 use Rattle.quotient.proofs.Quotients.{tree-found, question-read, question-fits, quotient-fits, verdict-kept}
 use Rattle.quotient.proofs.SplitRuns.{LogParts, log-parts, SplitRun, split-run, joint-call-sound}
 use Rattle.quotient.proofs.SplitRuns.{by-number-sound, known-within, by-half-sound, half-call-sound}
 use Rattle.quotient.proofs.GivenVerdicts.{joint-given, half-given}
-use Rattle.quotient.specs.Demand.{DemandThree, Given, Decomposed, Demand}
+use Rattle.quotient.specs.Demand.{DemandThree, Given, Decomposed, Demand, verdictAt}
 
 -- one splitting of a sound log and a legal question φ: a call whose checks pass does what the demand says
 module _ (k : Labels) (l r s a b f : List ℕ) (side : Side) (point : ℕ) (log : LogParts k l r s)
@@ -146,3 +151,26 @@ by-parts k l r s f side point log question within = record {
 -- demand 3
 pub demand-three : DemandThree
 demand-three c = by-parts (c .labels) (c .left) (c .right) (c .run) (c .question)
+
+-- where a call that does as demand 3 says tells of n bytes written, the verdicts agree under these n bytes
+pub written-agrees : {c : Case} {a b : List ℕ} {side : Side} {point : ℕ} {answer : ℕ → Quotient}
+    {output : List ℕ → List ℕ} → Decomposed c a b side point answer output
+    → (out : List ℕ) (n : ℕ) → answer (length out) ≡ Written n
+    → halfVerdict (c .labels) (otherPart (c .left) (c .right) (knownOf side)) (otherPart a b (knownOf side))
+    (take n (output out)) point
+    ≡ verdictAt c point
+written-agrees {c} {a} {b} {side} {point} {answer} {output} d out n told =
+    go (ltb quotientLimit (size (d .tree))) (ltb (length out) (2 * size (d .tree))) refl refl
+  where
+    go : (large short : Bool) → ltb quotientLimit (size (d .tree)) ≡ large
+        → ltb (length out) (2 * size (d .tree)) ≡ short
+        → halfVerdict (c .labels) (otherPart (c .left) (c .right) (knownOf side)) (otherPart a b (knownOf side))
+        (take n (output out)) point
+        ≡ verdictAt c point
+    go true short e f =
+        let refused = d .tooLarge (length out) .1 (ltb-true _ _ e) in absurd (apart cc)
+    go false true e f =
+        let refused = d .tooShort (ltb-false _ _ e) (length out) (ltb-true _ _ f) in absurd (apart cc)
+    go false false e f =
+        let given = d .given (ltb-false _ _ e) out (ltb-false _ _ f) in
+        let same : n ≡ 2 * size (d .tree) = let z = sym told ∙ given .written in cc in rw same (given .agree)

@@ -10,7 +10,7 @@ use lib.Dec.{ltb}
 use borrow.Author.Tests.{le-ltb, ltb-false}
 use Rattle.hml.proofs.Tests.{apart}
 use Rattle.hml.specs.System.{steps}
-use Rattle.hml.specs.Formula.{Formula, size}
+use Rattle.hml.specs.Formula.{Formula}
 use Rattle.hml.specs.Compose.{paired}
 use Rattle.hml.proofs.Composition.{Join}
 use Rattle.hml.specs.Spell.{spell}
@@ -46,7 +46,7 @@ use Rattle.quotient.specs.declared.line.LineOffice.the-variants as line
 use Rattle.quotient.proofs.QuotientCalls.{by-half-checked}
 use Rattle.quotient.proofs.Quotients.{verdict-kept}
 use Rattle.quotient.proofs.GivenVerdicts.{joint-holds, half-holds}
-use Rattle.quotient.proofs.DemandThree.{demand-three}
+use Rattle.quotient.proofs.DemandThree.{demand-three, written-agrees}
 use Rattle.quotient.specs.Demand.{Decomposed}
 
 -- an answer and the checks behind it
@@ -145,22 +145,12 @@ module _ (k : Labels) (l r a b f : List ℕ) (side : Side) (point : ℕ) where
         )
 
     -- under the bytes that were written
-    module _ (n : ℕ) (out : List ℕ) (room : 8192 ≤ length out)
-        (told : byHalf k l r a b f side point (length out) ≡ answer.Written n) where
-      size-told : n ≡ 2 * size (demand .tree)
-      unfolding byHalf answerOf nodesOf
-      size-told =
-          let (_, z) = written-told (checkTree (checkByHalf k l r a b f side point) tree (length out))
-          (2 * nodesOf tree) n told in
-          sym (rw (demand .found) at z)
-
-      machine-verdict : halfVerdict k (otherPart l r (knownOf side)) (otherPart a b (knownOf side))
-          (take n (byHalfOutput k l r a b f side point out)) point
-          ≡ verdictOf (machineHolds k l r a b f side point)
-      unfolding nodesOf
-      machine-verdict =
-          let h : size (demand .tree) ≤ 4096 = rw (demand .found) at small in
-          rw size-told (demand .given h out (omega (arith, h, room)) .agree) ∙ line-verdict ∙ ap verdictOf verdicts-same
+    machine-verdict : (n : ℕ) (out : List ℕ) → byHalf k l r a b f side point (length out) ≡ answer.Written n
+        → halfVerdict k (otherPart l r (knownOf side)) (otherPart a b (knownOf side))
+        (take n (byHalfOutput k l r a b f side point out)) point
+        ≡ verdictOf (machineHolds k l r a b f side point)
+    machine-verdict n out told =
+        written-agrees demand out n told ∙ line-verdict ∙ ap verdictOf verdicts-same
 
   -- whatever is refused, the two answers of the line office are the same where both are given
   pub answers-same : Same (officeOf k l r a b f side point)
@@ -208,4 +198,4 @@ module _ (k : Labels) (l r a b f : List ℕ) (side : Side) (point : ℕ) where
       given : q ≡ officeOf k l r a b f side point
       given =
           let sound = line-sound (length out) n told enough in
-          z ∙ rw (y, u, v, e, machine-verdict sound n out enough told, both-given, sound, verdicts-same sound)
+          z ∙ rw (y, u, v, e, machine-verdict sound n out told, both-given, sound, verdicts-same sound)

@@ -1,35 +1,27 @@
 -- Document 02, 2/12, "The left half becomes the usual known side", over the calls' answers and outputs: where no side
 -- is named they are those by the left half, and demand 3 holds of them. What unnamed means is said once, by `knownOf`
 -- (halves/specs/Cuts); so all of this is `demand-three`, or holds by computing. The cut is halves' (`unnamed-cut`).
-use Prim.Native.Nat.{ℕ, _*_, _≤_, _<_}
-use mathlib.Core.Path.{_≡_, refl, sym, _∙_}
-use mathlib.Core.Bool.{Bool, true, false}
+use Prim.Native.Nat.{ℕ, _≤_, _<_}
+use mathlib.Core.Path.{_≡_, refl}
 use mathlib.Core.List.{List}
 use lib.ListN.{length, take}
-use lib.Dec.{ltb}
-use borrow.Author.Tests.{ltb-true, ltb-false}
-use Rattle.hml.proofs.Tests.{apart}
 use Rattle.hml.specs.System.{steps, stop}
-use Rattle.hml.specs.Formula.{size}
 use Rattle.labels.specs.declared.refusal.Check.the-variants.{Sound}
 use Rattle.labels.specs.declared.label.Labels.{Labels}
 use Rattle.halves.specs.Halves.{halfOf}
-use Rattle.halves.specs.Cuts.{knownOf, otherPart}
-use Rattle.halves.specs.declared.side.Side.{Side}
 use Rattle.halves.specs.declared.side.Side.the-variants as side
 use Rattle.machines.specs.Joints.{jointOf}
 use Rattle.machines.specs.Cases.{Case}
-use Rattle.formulas.specs.Formulas.{questionLimit, quotientLimit, checkFormula}
+use Rattle.formulas.specs.Formulas.{questionLimit, checkFormula}
 use Rattle.verdict.specs.Verdicts.{halfHolds, halfVerdict}
 use Rattle.joining.specs.Joinings.{joinBytes, checkHalves}
 use Rattle.splitting.specs.Splittings.{checkLog, splittingLimit}
 use Rattle.dividing.specs.Quotients.{quotientBy, textOf}
-use Rattle.dividing.specs.declared.divide.Quotient.{Quotient}
 use Rattle.dividing.specs.declared.divide.Quotient.the-variants.{Written}
 use Rattle.quotient.specs.Calls.{treeByHalf, checkByHalf, byHalf, byHalfOutput, treeByNumber, byNumber}
 use Rattle.quotient.specs.Calls.{byNumberOutput, splittingsIn, rightIn, machineHolds, checkLine, officeOf}
-use Rattle.quotient.specs.Demand.{verdictAt, halvesGiven, halvesOutput, Decomposed}
-use Rattle.quotient.proofs.DemandThree.{demand-three}
+use Rattle.quotient.specs.Demand.{verdictAt, halvesGiven, halvesOutput}
+use Rattle.quotient.proofs.DemandThree.{demand-three, written-agrees}
 
 -- "A caller who names no side now gets the quotient by the left half", given halves: the tree; the answer, 12 on the
 -- left half among it; the lent output
@@ -69,29 +61,6 @@ module _ (c : Case) (n point : ℕ) where
   unfolding byNumberOutput treeByNumber treeByHalf
   unnamed-by-number-output out = refl
 
--- where a call that does as demand 3 says tells of n bytes written, the verdicts agree under these n bytes
-agree-written : {c : Case} {a b : List ℕ} {side : Side} {point : ℕ} {answer : ℕ → Quotient}
-    {output : List ℕ → List ℕ} → Decomposed c a b side point answer output
-    → (out : List ℕ) (n : ℕ) → answer (length out) ≡ Written n
-    → halfVerdict (c .labels) (otherPart (c .left) (c .right) (knownOf side)) (otherPart a b (knownOf side))
-    (take n (output out)) point
-    ≡ verdictAt c point
-agree-written {c} {a} {b} {side} {point} {answer} {output} d out n told =
-    go (ltb quotientLimit (size (d .tree))) (ltb (length out) (2 * size (d .tree))) refl refl
-  where
-    go : (large short : Bool) → ltb quotientLimit (size (d .tree)) ≡ large
-        → ltb (length out) (2 * size (d .tree)) ≡ short
-        → halfVerdict (c .labels) (otherPart (c .left) (c .right) (knownOf side)) (otherPart a b (knownOf side))
-        (take n (output out)) point
-        ≡ verdictAt c point
-    go true short e f =
-        let refused = d .tooLarge (length out) .1 (ltb-true _ _ e) in absurd (apart cc)
-    go false true e f =
-        let refused = d .tooShort (ltb-false _ _ e) (length out) (ltb-true _ _ f) in absurd (apart cc)
-    go false false e f =
-        let given = d .given (ltb-false _ _ e) out (ltb-false _ _ f) in
-        let same : n ≡ 2 * size (d .tree) = let z = sym told ∙ given .written in cc in rw same (given .agree)
-
 -- "Equality of the two verdicts covers the unnamed call with its new meaning": under the very bytes that it writes, the
 -- right half's verdict is that on the log. Given halves, however many splittings there are, and by number
 module _ (c : Case) (point : ℕ) (log : checkLog (c .labels) (c .left) (c .right) (c .run) ≡ Sound)
@@ -103,11 +72,11 @@ module _ (c : Case) (point : ℕ) (log : checkLog (c .labels) (c .left) (c .righ
       → halfVerdict (c .labels) (c .right) b (take n (halvesOutput c a b side.Unnamed point out)) point
       ≡ verdictAt c point
   unnamed-agrees a b halves join =
-      agree-written (demand-three c side.Unnamed point log question within .byHalves a b halves join)
+      written-agrees (demand-three c side.Unnamed point log question within .byHalves a b halves join)
 
   pub unnamed-number-agrees : (i : ℕ) → i < length (splittingsIn c) → length (splittingsIn c) ≤ splittingLimit
       → (out : List ℕ) (n : ℕ) → byNumber c i side.Unnamed point (length out) ≡ Written n
       → halfVerdict (c .labels) (c .right) (rightIn c i) (take n (byNumberOutput c i side.Unnamed point out)) point
       ≡ verdictAt c point
   unnamed-number-agrees i below few =
-      agree-written (demand-three c side.Unnamed point log question within .byNumbers i below few)
+      written-agrees (demand-three c side.Unnamed point log question within .byNumbers i below few)

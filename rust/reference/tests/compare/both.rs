@@ -202,8 +202,8 @@ pub fn sides(byte: u8) -> (Side, yenuslap::Side) {
     }
 }
 
-/// Whether the left half is known where this byte names the side: 1 names the left, and so does every byte that names
-/// none (document 02).
+/// Whether this byte for the side makes the left half the known one: 1 does, and so does every byte that names no side
+/// (document 02).
 pub fn knows_left(side: u8) -> bool {
     side != 2
 }

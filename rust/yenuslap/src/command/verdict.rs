@@ -154,6 +154,7 @@ impl Request<'_> {
                 let verdicts = self
                     .book
                     .line_office(halves, self.statement, *side, point)?;
+                // The machine whose half is not the known one.
                 let machine = known(*side, "right", "left");
                 let (line, half) = (letter(verdicts.joint), letter(verdicts.half));
                 Ok(format!("line {line}, {machine} machine {half}"))

@@ -8,7 +8,7 @@ const QUOTIENT: [&str; 2] = ["quotient", "-"];
 const LINE_OFFICE: [&str; 3] = ["verdict", "-", "--line-office"];
 
 /// What standard error says first of a call on a file.
-fn note(file: &str) -> String {
+pub fn note(file: &str) -> String {
     format!("yenuslap: {file}: note: without --known the quotient is by the left half; --known right divides by the right one\n")
 }
 
@@ -77,17 +77,19 @@ fn refused() {
 #[test]
 fn nothing_divided() {
     let refused = &CASE_A[1..];
+    let told_alone = |ran: Ran, status| {
+        assert_eq!((ran.err.lines().count(), ran.status), (1, Some(status)));
+        assert!(!ran.err.contains("without --known"), "{}", ran.err);
+    };
     for call in [&QUOTIENT[..], &LINE_OFFICE] {
-        let ran = run_with(&[call, &["--splitting=0"]].concat(), refused);
-        assert_eq!((ran.err.lines().count(), ran.status), (1, Some(1)));
+        told_alone(run_with(&[call, &["--splitting=0"]].concat(), refused), 1);
         for options in [
             ["--splitting=x", "--point=0"],
             ["--splitting=0", "--point=x"],
             ["--splitting=0", "--known=x"],
         ] {
             for book in [&CASE_A[..], refused] {
-                let ran = run_with(&[call, &options].concat(), book);
-                assert_eq!((ran.err.lines().count(), ran.status), (1, Some(2)));
+                told_alone(run_with(&[call, &options].concat(), book), 2);
             }
         }
     }
