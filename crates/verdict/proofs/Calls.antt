@@ -10,15 +10,16 @@ use lib.Dec.{ltb}
 use borrow.Author.Tests.{lt-ltb, le-ltb, ltb-false, ne-eqb}
 use Rattle.hml.specs.Lists.{present}
 use Rattle.hml.specs.System.{Run, last, steps, stop}
-use Rattle.hml.specs.Formula.{Formula, size, holds}
+use Rattle.hml.specs.Formula.{Formula, size, nesting, holds}
 use Rattle.hml.specs.Machine.{machine}
 use Rattle.hml.specs.Compose.{beside}
 use Rattle.hml.proofs.Alone.{holds-alone}
+use Rattle.hml.proofs.Tests.{apart}
 use Rattle.labels.specs.Refusals.{thenOf, firstOf, refusedIf}
 use Rattle.labels.specs.Labels.{checkLabels, pairing}
 use Rattle.labels.specs.declared.label.Labels.{Labels}
 use Rattle.labels.specs.declared.refusal.Refusal.{Refusal}
-use Rattle.labels.specs.declared.refusal.Refusal.the-variants.{PointBeyond}
+use Rattle.labels.specs.declared.refusal.Refusal.the-variants.{PointBeyond, NotARun}
 use Rattle.labels.specs.declared.refusal.Check.{Check}
 use Rattle.labels.specs.declared.refusal.Check.the-variants.{Sound, Refused}
 use Rattle.labels.proofs.Slices.{copied}
@@ -33,13 +34,14 @@ use Rattle.machines.proofs.JointRuns.{accepted-joint, joint-stop}
 use Rattle.machines.specs.Working.{Tables, AcceptedJoint, Held}
 use Rattle.machines.proofs.Buffers.{accepted-held}
 use Rattle.formulas.specs.Formulas.{formulaOf, quotientLimit, Legal, checkFormula}
-use Rattle.formulas.specs.Working.{sizesOver, treeOf}
-use Rattle.formulas.proofs.Checking.{judged-formula, legal-tree}
-use Rattle.formulas.proofs.TreeSizes.{length-over}
-use Rattle.formulas.proofs.Operands.{legal-part, legal-nesting, legal-labels}
+use Rattle.formulas.specs.Working.{Tree, treeOf, forwardsIn}
+use Rattle.formulas.proofs.Checking.{judged-formula, legal-tree, formula-length}
+use Rattle.formulas.proofs.ForwardCount.{nesting-forwards}
+use Rattle.formulas.proofs.Operands.{legal-nesting, legal-labels}
 use Rattle.verdict.specs.Verdicts.{jointHolds, halfHolds, checkJointCall, checkHalfCall, verdictOf, answered}
 use Rattle.verdict.specs.Verdicts.{jointVerdict, halfVerdict}
-use Rattle.verdict.specs.Working.{Ready, gridOf, judged, tablesHold, besideStill}
+use Rattle.verdict.specs.Working.{Ready, Coded, Whole, leftIn, rightIn, judged, judgedBy, treeAt, tablesHold}
+use Rattle.verdict.specs.Working.{besideStill}
 use Rattle.verdict.specs.declared.answer.Verdict.{Verdict}
 use Rattle.verdict.specs.declared.answer.Verdict.the-variants as verdict
 use Rattle.verdict.proofs.Still.{still-read, still-length, still-take, still-ends}
@@ -62,31 +64,41 @@ front-held s xs p e h ends = record { whole = omega arith; within = h; kept = ke
         rw (front (3 * m + 2) i, front-at (3 * m) (omega arith), front-at (3 * m + 1) (omega arith))
         (ends m (omega arith))
 
--- a legal formula is ready for its verdict, with the sizes of its trees
+-- a legal formula is one tree, and ready for its verdict by its words
 module _ (k : Labels) (f : List ℕ) (legal : Legal k quotientLimit f) where
-  pub legal-ready : (sizes xs : List ℕ) (n : ℕ) → length sizes ≡ 4096 → length xs ≡ 614 → Held xs n → n ≤ 602
-      → Ready k (sizesOver f sizes) xs n 0 f
-  legal-ready sizes xs n z w h i =
-      let p = legal-part k quotientLimit f legal sizes (omega (arith, z)) in
-      record {
-        tree = p .tree;
-        ranged = legal-labels k quotientLimit f legal;
-        sized = p .sized;
-        held = h;
-        room = omega (arith, legal-nesting k quotientLimit f legal, i, w);
-        size = w;
-        slots = length-over f sizes ∙ z;
-      }
+  pub legal-whole : Whole f
+  unfolding Legal Whole
+  legal-whole = let (φ, e, s, l, d) = legal in (φ, e, s)
 
-  -- the verdict on grids that have the tables' rows is the tables' verdict
-  module _ (labels : Labels) (l r gl gr : List ℕ) (el : (p : ℕ) → gridOf gl p ≡ tableOf l p)
-      (er : (p : ℕ) → gridOf gr p ≡ tableOf r p) (j : Run (ℕ × ℕ)) (b : Bool)
-      (p : b ≡ judged labels gl gr (treeOf f) j) where
+  one-tree : Tree f
+  unfolding Legal Tree
+  one-tree = let (φ, e, s, l, d) = legal in (φ, [], e)
+
+  pub legal-few : length f / 2 ≤ 4096
+  unfolding Legal
+  legal-few = let (φ, e, s, l, d) = legal in omega (arith, formula-length f φ e, s)
+
+  pub legal-ready : (ws xs : List ℕ) (n : ℕ) → Coded ws f → length xs ≡ 614 → Held xs n → n ≤ 602
+      → Ready k ws xs n 0 (length f / 2)
+  legal-ready ws xs n c w h i = record {
+    tree = rw (c .spelled) one-tree;
+    ranged = rw (c .spelled) (legal-labels k quotientLimit f legal);
+    skips = c .skips;
+    held = h;
+    room = rw (c .spelled) (omega (arith, legal-nesting k quotientLimit f legal, i, w));
+    size = w;
+    few = legal-few;
+  }
+
+  -- the verdict by grids is the tables' verdict, if it is for every formula that nests so many forward modalities
+  module _ (labels : Labels) (l r g ws : List ℕ) (c : Coded ws f)
+      (same : (φ : Formula) → nesting φ ≤ forwardsIn f → (j : Run (ℕ × ℕ))
+      → judged labels (leftIn g) (rightIn g) φ j ≡ tablesHold labels l r φ j)
+      (j : Run (ℕ × ℕ)) (b : Bool) (p : b ≡ judgedBy labels g (treeAt ws (length f / 2)) j) where
     tables-judged : b ≡ present (λ φ. tablesHold labels l r φ j) (formulaOf f)
-    unfolding judged tablesHold
     tables-judged =
-        rw (legal-tree k quotientLimit f legal)
-        (p ∙ ap₂ (λ L R. holds (beside (pairing labels) L R) (treeOf f) j) (fun-ext el) (fun-ext er))
+        let q = rw (c .spelled) at p in
+        rw (legal-tree k quotientLimit f legal) (q ∙ same (treeOf f) (nesting-forwards f one-tree) j)
 
     pub legal-holds : b ≡ true → verdict.Holds ≡ verdictOf (present (λ φ. tablesHold labels l r φ j) (formulaOf f))
     unfolding verdictOf
@@ -203,6 +215,10 @@ labels-refused c d x e = rw e
 pub labels-sound : (c d e : Check) → c ≡ Sound → d ≡ e → thenOf c d ≡ e
 labels-sound c d e p q = rw p q
 
+-- a check that refuses is not sound, and its refusal is the answer
+pub not-sound : (c : Check) (x : Refusal) → c ≡ Refused x → c ≡ Sound → ⊥
+not-sound c x e f = apart cc
+
 pub answer-refused : (c : Check) (x : Refusal) (b : Bool) → c ≡ Refused x → verdict.Refused x ≡ answered c b
 unfolding answered
 answer-refused c x b e = rw e
@@ -301,10 +317,26 @@ module _ (k : Labels) (t s f : List ℕ) where
   pub half-beyond : (p : ℕ) → halfParts ≡ Sound → beyond s p ≡ true → Refused PointBeyond ≡ checkHalfCall k t s f p
   half-beyond p e b = rw (half-regroup p, e, b)
 
+  -- the parts, where the table and the half are judged first and not refused
+  pub half-parts-judged : checkLabels k ≡ Sound → checkTableAndHalf k t s ≡ Sound → (c : Check)
+      → checkFormula k quotientLimit f ≡ c → halfParts ≡ c
+  unfolding checkTableAndHalf firstOf
+  half-parts-judged labels h c e = rw (labels, both-sound (checkTable k t) _ h .0) e
+
   pub half-judged : (p : ℕ) → halfParts ≡ Sound → beyond s p ≡ false → (c : Check) → c ≡ checkTableAndHalf k t s
       → c ≡ checkHalfCall k t s f p
   unfolding checkTableAndHalf firstOf
   half-judged p e b c h = rw (half-regroup p, e, b) (h ∙ rw (half-parts e .0) (then-sound (checkHalf t s)))
+
+  -- a half that is refused where its table is not
+  pub half-unfit : (p : ℕ) → halfParts ≡ Sound → beyond s p ≡ false → (checkTableAndHalf k t s ≡ Sound → ⊥)
+      → Refused NotARun ≡ checkHalfCall k t s f p
+  unfolding checkTableAndHalf checkHalf firstOf
+  half-unfit p e b n = half-judged p e b (Refused NotARun) (go (isHalfRun t s) refl)
+    where
+      go : (r : Bool) → isHalfRun t s ≡ r → Refused NotARun ≡ checkTableAndHalf k t s
+      go true q = absurd (n (rw (half-parts e .0, q)))
+      go false q = rw (half-parts e .0, q)
 
   pub half-call : (p : ℕ) → checkHalfCall k t s f p ≡ Sound → HalfCall × (beyond s p ≡ false)
   unfolding checkHalf

@@ -1,7 +1,10 @@
+pub mod Words
+pub mod Nodes
+pub mod Coding
 pub mod Operands
 pub mod Ahead
-pub mod GridRows
-pub mod Grids
+pub mod FilledGrids
+pub mod TwoGrids
 pub mod Calls
 pub mod Still
 pub mod Widening

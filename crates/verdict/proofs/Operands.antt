@@ -1,35 +1,58 @@
--- The verdict of a formula from those of its operands, by its operator.
-use Prim.Native.Nat.{ℕ, _+_, _-_, _*_, _/_, _≤_, _<_, max}
+-- The operators: what a call for an operand may rely on, and the verdict from those of the operands.
+use Prim.Native.Nat.{ℕ, zero, suc, _+_, _-_, _*_, _%_, _≤_, _<_, max}
 use mathlib.Core.Path.{_≡_, refl, sym, _∙_, ap}
 use mathlib.Core.Logic.{⊎-elim}
-use mathlib.Core.Bool.{Bool, true, false, cond, _&&_, _||_, not as negate, false≢true, Bool·beq, and-false}
+use mathlib.Core.Bool.{Bool, true, false, cond, _&&_, _||_, not as negate, or-false, false≢true, Bool·beq}
 use mathlib.Core.List.{List}
 use native.Mathlib.Omega.{arith}
 use lib.ListN.{length, getD, take, drop}
-use lib.Seq.{getD-take, length-take-le}
-use lib.Dec.{eqb, leb}
-use borrow.Author.Tests.{leb-true}
-use Rattle.hml.specs.Lists.{same}
-use Rattle.hml.proofs.Tests.{both-true}
+use lib.Dec.{eqb, ltb, leb}
+use borrow.Author.Tests.{leb-true, ltb-true, ltb-false, eqb-true, ne-eqb, le-ltb}
+use Rattle.hml.proofs.Tests.{both-true, decides, decided-or, decided-same}
 use Rattle.hml.specs.System.{Run, _▸_, move, idle}
-use Rattle.hml.specs.Formula.{Formula, not, fwd, fwdIdle, size, nesting, labelled, holds}
+use Rattle.hml.specs.Formula.{Formula, not, fwd, back, fwdIdle, backIdle, size, nesting, labelled, holds}
 use Rattle.labels.specs.Labels.{count}
 use Rattle.labels.proofs.Labels.{count-most}
 use Rattle.labels.specs.declared.label.Labels.{Labels}
-use Rattle.labels.proofs.Slices.{rest, rest-of, rest-length}
 use Rattle.halves.specs.Runs.{stepOf}
 use Rattle.machines.specs.Joints.{jointOf}
-use Rattle.machines.specs.Steps.{jointStepAt, jointRead}
-use Rattle.machines.specs.declared.step.JointRead.the-variants as read
-use Rattle.machines.proofs.Steps.{step-there}
 use Rattle.machines.proofs.Buffers.{held-empty, held-shorter, held-step}
 use Rattle.machines.specs.Working.{Held}
-use Rattle.formulas.specs.Operators.{isBack}
-use Rattle.formulas.specs.Working.{Tree, treeOf, Part}
-use Rattle.formulas.proofs.Operators.{Unary, at, BackTree, back-label, back-idle, back-tree}
-use Rattle.formulas.proofs.Operands.{AndOr, connected, operand-part, operand-is, first-part, second-part, back-operand}
-use Rattle.formulas.proofs.Operands.{size-read, second-room, operands-are, nesting-connected, labelled-connected}
-use Rattle.verdict.specs.Working.{Ready, Shown, grants, judged}
+use Rattle.formulas.specs.Operators.{isForward, isBack, isConnective, isModality}
+use Rattle.formulas.specs.Working.{Tree, treeOf, treeSize}
+use Rattle.formulas.proofs.OperatorTable.{forward-numbers}
+use Rattle.formulas.proofs.Operators.{Unary, Binary, at, node-room, BackTree, back-label, back-idle, back-tree}
+use Rattle.formulas.proofs.Operands.{AndOr, connected, tree-size, back-operand, and-or, modality-operator, two-up}
+use Rattle.formulas.proofs.Operands.{nesting-connected, labelled-connected}
+use Rattle.verdict.specs.Working.{Ready, Shown, Never, Skips, goesBack, judged, treeAt, textOf, operatorIn, sizeIn}
+use Rattle.verdict.specs.Working.{hasTwo}
+use Rattle.verdict.proofs.Words.{text-length, text-drop, text-behind, text-operator, text-label}
+use Rattle.verdict.proofs.Words.{skips-fewer, skips-first}
+
+-- which operator it is, by the tests that it passed or failed
+neither : (a b : Bool) → (a || b) ≡ false → (a ≡ false) × (b ≡ false)
+neither true b e = absurd (false≢true (sym e))
+neither false b e = (refl, e)
+
+pub two-operands : (o : ℕ) → (isConnective o || isBack o) ≡ true → (o ≡ 2 → ⊥) → isBack o ≡ false → AndOr o
+two-operands o e n b = and-or o (sym (or-false _) ∙ (rw b at e)) n
+
+pub looks-forward : (f : List ℕ) → Tree f → (o : ℕ) → getD f 0 0 ≡ o → (o ≡ 0 → ⊥) → (o ≡ 1 → ⊥)
+    → (isConnective o || isBack o) ≡ false → isForward o ≡ true
+unfolding isModality
+looks-forward f t o e a b n =
+    let (c, d) = neither (isConnective o) (isBack o) n in
+    let m = modality-operator f t (rw e (two-up o a b)) (rw e c) in
+    sym (or-false _) ∙ (rw (e, d) at m)
+
+pub forward-five : (o : ℕ) → isForward o ≡ true → (o ≡ 7 → ⊥) → o ≡ 5
+forward-five o e n =
+    ⊎-elim (λ z. z) (λ z. absurd (n z))
+    (decides (decided-or (decided-same o 5) (decided-same o 7)) .0 (sym (forward-numbers o) ∙ e))
+
+has-two : (o : ℕ) → AndOr o → hasTwo o ≡ true
+unfolding hasTwo
+has-two o w = ⊎-elim (λ e. rw e) (λ e. rw e) w
 
 first-true : (a b : Bool) → (a && b) ≡ true → a ≡ true
 first-true a b e = both-true {a = a} {b = b} e .0
@@ -37,137 +60,194 @@ first-true a b e = both-true {a = a} {b = b} e .0
 second-true : (a b : Bool) → (a && b) ≡ true → b ≡ true
 second-true a b e = both-true {a = a} {b = b} e .1
 
-module _ (k : Labels) (sizes xs : List ℕ) (n : ℕ) (f : List ℕ) (y : Ready k sizes xs n 0 f) where
-  part : Part sizes f
-  part = record { tree = y .tree; sized = y .sized }
+-- the first node of a tree that begins at a word
+module _ (ws : List ℕ) (i : ℕ) (t : Tree (textOf ws i)) where
+  pub some-node : 1 ≤ i
+  some-node = omega (arith, node-room (textOf ws i) t, text-length ws i)
 
-  -- what a call for the operand of a modality or of "not" may rely on
-  operand-ready : (g : Formula → Formula) → Unary f g → (m more : ℕ) → Held xs m
-      → (labelled (count k) (g (treeOf (rest 2 f))) ≡ true → labelled (count k) (treeOf (rest 2 f)) ≡ true)
-      → m + 3 * (more + nesting (treeOf (rest 2 f))) ≤ n + 3 * nesting (g (treeOf (rest 2 f)))
-      → Ready k sizes xs m more (rest 2 f)
-  operand-ready g u m more h l i =
-      let e = operand-is sizes f part g u in
-      let p = operand-part sizes f part g u in
-      let w = y .ranged in
+  pub operator-read : getD (textOf ws i) 0 0 ≡ operatorIn (getD ws i 0)
+  operator-read = text-operator ws i some-node
+
+  -- a label's operator is neither "and" nor "or"
+  label-read : (o : ℕ) → operatorIn (getD ws i 0) ≡ o → hasTwo o ≡ false → getD (textOf ws i) 1 0 ≡ getD ws i 0 % 256
+  label-read o e h = text-label ws i some-node (rw e h)
+
+  -- what it is made of where it has one operand
+  operand-is : (g : Formula → Formula) → Unary (textOf ws i) g → treeAt ws i ≡ g (treeAt ws (i - 1))
+  operand-is g u = let e = u .is in rw (text-behind ws i some-node) at e
+
+  operand-tree : (g : Formula → Formula) → Unary (textOf ws i) g → Tree (textOf ws (i - 1))
+  operand-tree g u = let e = u .operand in rw (text-behind ws i some-node) at e
+
+  -- and where it has two: the second begins where the first one ends, which the word tells
+  module _ (s : Skips ws i) (o : AndOr (operatorIn (getD ws i 0))) where
+    two : Binary (textOf ws i) (connected (operatorIn (getD ws i 0)))
+    two = ⊎-elim
+        (λ e. rw e (at (textOf ws i) t 3 (operator-read ∙ e)))
+        (λ e. rw e (at (textOf ws i) t 4 (operator-read ∙ e))) o
+
+    first-tree : Tree (textOf ws (i - 1))
+    first-tree = let e = two .first in rw (text-behind ws i some-node) at e
+
+    first-size : sizeIn (getD ws i 0) ≡ size (treeAt ws (i - 1))
+    first-size = skips-first ws i some-node s (has-two _ o) ∙ tree-size (textOf ws (i - 1)) first-tree
+
+    pub second-begins : 2 + sizeIn (getD ws i 0) ≤ i
+    second-begins =
+        let e = two .room in
+        let room = rw (text-behind ws i some-node) at e in
+        omega (arith, room, first-size, text-length ws i)
+
+    second-text : drop (2 * size (treeOf (drop 2 (textOf ws i)))) (drop 2 (textOf ws i))
+        ≡ textOf ws (i - 1 - sizeIn (getD ws i 0))
+    second-text =
+        rw (text-behind ws i some-node, ← first-size)
+        (text-drop ws (sizeIn (getD ws i 0)) (i - 1) (omega (arith, second-begins)))
+
+    second-tree : Tree (textOf ws (i - 1 - sizeIn (getD ws i 0)))
+    second-tree = let e = two .second in rw second-text at e
+
+    operands-are : treeAt ws i
+        ≡ connected (operatorIn (getD ws i 0)) (treeAt ws (i - 1)) (treeAt ws (i - 1 - sizeIn (getD ws i 0)))
+    operands-are = let e = two .is in rw (second-text, text-behind ws i some-node) at e
+
+-- what a call for an operand may rely on
+module _ (k : Labels) (ws xs : List ℕ) (n i : ℕ) (y : Ready k ws xs n 0 i) where
+  abbrev w : ℕ
+  w = getD ws i 0
+
+  -- the operand of a modality or of "not"
+  operand-ready : (g : Formula → Formula) → Unary (textOf ws i) g → (m more : ℕ) → Held xs m
+      → (labelled (count k) (g (treeAt ws (i - 1))) ≡ true → labelled (count k) (treeAt ws (i - 1)) ≡ true)
+      → m + 3 * (more + nesting (treeAt ws (i - 1))) ≤ n + 3 * nesting (g (treeAt ws (i - 1)))
+      → Ready k ws xs m more (i - 1)
+  operand-ready g u m more h l room =
+      let e = operand-is ws i (y .tree) g u in
+      let ranged = y .ranged in
       record {
-        tree = p .tree;
-        ranged = l (rw e at w);
-        sized = p .sized;
+        tree = operand-tree ws i (y .tree) g u;
+        ranged = l (rw e at ranged);
+        skips = skips-fewer ws i (i - 1) (omega arith) (y .skips);
         held = h;
-        room = omega (arith, i, ap nesting e, y .room);
+        room = omega (arith, room, ap nesting e, y .room);
         size = y .size;
-        slots = y .slots;
+        few = omega (arith, y .few);
       }
 
-  pub not-ready : getD f 0 0 ≡ 2 → Ready k sizes xs n 0 (rest 2 f)
-  unfolding labelled nesting
-  not-ready e = operand-ready not (at f (y .tree) 2 e) n 0 (y .held) (λ l. l) (omega arith)
+  abbrev here : (o : ℕ) → operatorIn w ≡ o → getD (textOf ws i) 0 0 ≡ o
+  here o e = operator-read ws i (y .tree) ∙ e
 
-  pub forward-ready : getD f 0 0 ≡ 5 → Ready k sizes xs n 1 (rest 2 f) × Shown (getD f 1 0)
+  pub not-ready : operatorIn w ≡ 2 → Ready k ws xs n 0 (i - 1)
   unfolding labelled nesting
+  not-ready e = operand-ready not (at (textOf ws i) (y .tree) 2 (here 2 e)) n 0 (y .held) (λ l. l) (omega arith)
+
+  -- a label byte is one of the labels
+  label-low : (g : ℕ → Formula → Formula) → ((a : ℕ) (φ : Formula)
+      → labelled (count k) (g a φ) ≡ (leb a (count k) && labelled (count k) φ))
+      → Unary (textOf ws i) (g (getD (textOf ws i) 1 0)) → getD (textOf ws i) 1 0 ≤ 254
+  label-low g d u =
+      let a = getD (textOf ws i) 1 0 in
+      let ranged = y .ranged in
+      let whole = rw (operand-is ws i (y .tree) (g a) u, d a (treeAt ws (i - 1))) at ranged in
+      omega (arith, leb-true a (count k) (first-true _ (labelled (count k) (treeAt ws (i - 1))) whole), count-most k)
+
+  pub forward-ready : operatorIn w ≡ 5 → Ready k ws xs n 1 (i - 1) × Shown (w % 256)
+  unfolding labelled nesting hasTwo
   forward-ready e =
-      let u = at f (y .tree) 5 e in
-      let w = y .ranged in
-      let whole = rw (operand-is sizes f part (fwd (getD f 1 0)) u) at w in
-      let low = leb-true (getD f 1 0) (count k) (first-true _ (labelled (count k) (treeOf (rest 2 f))) whole) in (
-        operand-ready (fwd (getD f 1 0)) u n 1 (y .held) (second-true (leb (getD f 1 0) (count k)) _) (omega arith),
-        λ z. omega (arith, low, count-most k),
+      let a = getD (textOf ws i) 1 0 in
+      let u = at (textOf ws i) (y .tree) 5 (here 5 e) in
+      let low = label-low fwd (λ a φ. refl) u in (
+        operand-ready (fwd a) u n 1 (y .held) (second-true (leb a (count k)) _) (omega arith),
+        λ z. omega (arith, low, label-read ws i (y .tree) 5 e refl, z),
       )
 
-  pub idle-ready : getD f 0 0 ≡ 7 → Ready k sizes xs n 1 (rest 2 f)
+  pub idle-ready : operatorIn w ≡ 7 → Ready k ws xs n 1 (i - 1)
   unfolding labelled nesting
-  idle-ready e = operand-ready fwdIdle (at f (y .tree) 7 e) n 1 (y .held) (λ l. l) (omega arith)
+  idle-ready e = operand-ready fwdIdle (at (textOf ws i) (y .tree) 7 (here 7 e)) n 1 (y .held) (λ l. l) (omega arith)
 
-  pub back-ready : isBack (getD f 0 0) ≡ true → 5 ≤ n → Ready k sizes xs (n - 3) 0 (rest 2 f)
+  pub back-ready : isBack (operatorIn w) ≡ true → 5 ≤ n → Ready k ws xs (n - 3) 0 (i - 1)
   back-ready o l =
-      let w = back-operand f (y .tree) o in
-      operand-ready (w .over) (w .tree) (n - 3) 0 (held-shorter xs n (y .held) l) (w .ranged (count k) _)
-      (omega (arith, w .nests (treeOf (rest 2 f))))
+      let x = back-operand (textOf ws i) (y .tree) (rw (operator-read ws i (y .tree)) o) in
+      operand-ready (x .over) (x .tree) (n - 3) 0 (held-shorter xs n (y .held) l) (x .ranged (count k) _)
+      (omega (arith, x .nests (treeAt ws (i - 1))))
 
-  -- the same for the operands of "and" and "or": the second begins where the first one ends, which the sizes tell
-  module _ (o : AndOr (getD f 0 0)) where
-    pub read-size : (4 ≤ length f) × (length f / 2 - 2 < length sizes)
-    read-size = size-read sizes f part o
+  -- the operands of "and" and "or"
+  module _ (o : AndOr (operatorIn w)) where
+    both : treeAt ws i ≡ connected (operatorIn w) (treeAt ws (i - 1)) (treeAt ws (i - 1 - sizeIn w))
+    both = operands-are ws i (y .tree) (y .skips) o
 
-    module _ (m : ℕ) (e : m ≡ getD sizes (length f / 2 - 2) 0) where
-      both : treeOf f ≡ connected (getD f 0 0) (treeOf (rest 2 f)) (treeOf (rest (2 * m + 2) f))
-      both = operands-are sizes f part o m e
+    both-ranged : (labelled (count k) (treeAt ws (i - 1)) ≡ true)
+        × (labelled (count k) (treeAt ws (i - 1 - sizeIn w)) ≡ true)
+    both-ranged =
+        both-true (sym (ap (labelled (count k)) both ∙ labelled-connected (count k) (operatorIn w) _ _) ∙ y .ranged)
 
-      both-ranged : (labelled (count k) (treeOf (rest 2 f)) ≡ true)
-          × (labelled (count k) (treeOf (rest (2 * m + 2) f)) ≡ true)
-      both-ranged =
-          both-true (sym (ap (labelled (count k)) both ∙ labelled-connected (count k) (getD f 0 0) _ _) ∙ y .ranged)
+    both-room : n + 3 * max (nesting (treeAt ws (i - 1))) (nesting (treeAt ws (i - 1 - sizeIn w))) ≤ length xs
+    both-room = omega (arith, y .room, ap nesting both ∙ nesting-connected (operatorIn w) _ _)
 
-      both-room : n + 3 * max (nesting (treeOf (rest 2 f))) (nesting (treeOf (rest (2 * m + 2) f))) ≤ length xs
-      both-room = omega (arith, y .room, ap nesting both ∙ nesting-connected (getD f 0 0) _ _)
+    pub first-ready : Ready k ws xs n 0 (i - 1)
+    first-ready = record {
+      tree = first-tree ws i (y .tree) (y .skips) o;
+      ranged = both-ranged .0;
+      skips = skips-fewer ws i (i - 1) (omega arith) (y .skips);
+      held = y .held;
+      room = omega (arith, both-room);
+      size = y .size;
+      few = omega (arith, y .few);
+    }
 
-      first-of : Ready k sizes xs n 0 (rest 2 f)
-      first-of =
-          let p = first-part sizes f part o in
-          record {
-            tree = p .tree;
-            ranged = both-ranged .0;
-            sized = p .sized;
-            held = y .held;
-            room = omega (arith, both-room);
-            size = y .size;
-            slots = y .slots;
-          }
-
-      pub second-begins : 2 * m + 2 ≤ length f
-      second-begins = second-room sizes f part o m e
-
-      pub second-ready : Ready k sizes xs n 0 (rest (2 * m + 2) f)
-      second-ready =
-          let p = second-part sizes f part o m e in
-          record {
-            tree = p .tree;
-            ranged = both-ranged .1;
-            sized = p .sized;
-            held = y .held;
-            room = omega (arith, both-room);
-            size = y .size;
-            slots = y .slots;
-          }
-
-    pub first-ready : Ready k sizes xs n 0 (rest 2 f)
-    first-ready = first-of (getD sizes (length f / 2 - 2) 0) refl
+    pub second-ready : Ready k ws xs n 0 (i - 1 - sizeIn w)
+    second-ready = record {
+      tree = second-tree ws i (y .tree) (y .skips) o;
+      ranged = both-ranged .1;
+      skips = skips-fewer ws i (i - 1 - sizeIn w) (omega arith) (y .skips);
+      held = y .held;
+      room = omega (arith, both-room);
+      size = y .size;
+      few = omega (arith, y .few);
+    }
 
 -- the verdict from those of the operands
-module _ (labels : Labels) (l r f : List ℕ) (j : Run (ℕ × ℕ)) (t : Tree f) where
-  pub judged-top : getD f 0 0 ≡ 0 → true ≡ judged labels l r (treeOf f) j
+module _ (labels : Labels) (l r ws : List ℕ) (i : ℕ) (j : Run (ℕ × ℕ)) (t : Tree (textOf ws i)) where
+  abbrev it : (o : ℕ) → operatorIn (getD ws i 0) ≡ o → getD (textOf ws i) 0 0 ≡ o
+  it o e = operator-read ws i t ∙ e
+
+  pub judged-top : operatorIn (getD ws i 0) ≡ 0 → true ≡ judged labels l r (treeAt ws i) j
   unfolding judged holds
-  judged-top e = rw (at f t 0 e)
+  judged-top e = rw (at (textOf ws i) t 0 (it 0 e))
 
-  pub judged-bottom : getD f 0 0 ≡ 1 → false ≡ judged labels l r (treeOf f) j
+  pub judged-bottom : operatorIn (getD ws i 0) ≡ 1 → false ≡ judged labels l r (treeAt ws i) j
   unfolding judged holds
-  judged-bottom e = rw (at f t 1 e)
+  judged-bottom e = rw (at (textOf ws i) t 1 (it 1 e))
 
-  pub judged-not : (b : Bool) → getD f 0 0 ≡ 2 → b ≡ judged labels l r (treeOf (rest 2 f)) j
-      → negate b ≡ judged labels l r (treeOf f) j
+  pub judged-not : (b : Bool) → operatorIn (getD ws i 0) ≡ 2 → b ≡ judged labels l r (treeAt ws (i - 1)) j
+      → negate b ≡ judged labels l r (treeAt ws i) j
   unfolding judged holds
-  judged-not b e p = rw (at f t 2 e .is) (ap negate (rw (rest-of 2 f) at p))
+  judged-not b e p = rw (operand-is ws i t not (at (textOf ws i) t 2 (it 2 e))) (ap negate p)
 
-  pub judged-forward : (b : Bool) → getD f 0 0 ≡ 5
-      → b ≡ judged labels l r (fwd (getD f 1 0) (treeOf (rest 2 f))) j → b ≡ judged labels l r (treeOf f) j
-  judged-forward b e p = rw (at f t 5 e .is) (rw (rest-of 2 f) at p)
+  pub judged-forward : (b : Bool) → operatorIn (getD ws i 0) ≡ 5
+      → b ≡ judged labels l r (fwd (getD ws i 0 % 256) (treeAt ws (i - 1))) j → b ≡ judged labels l r (treeAt ws i) j
+  unfolding hasTwo
+  judged-forward b e p =
+      rw (operand-is ws i t (fwd (getD (textOf ws i) 1 0)) (at (textOf ws i) t 5 (it 5 e)), label-read ws i t 5 e refl)
+      p
 
-  pub judged-idle : (b : Bool) (u : ℕ × ℕ) → getD f 0 0 ≡ 7
-      → b ≡ judged labels l r (treeOf (rest 2 f)) (j ▸ stepOf 255 u) → b ≡ judged labels l r (treeOf f) j
+  pub judged-idle : (b : Bool) (u : ℕ × ℕ) → operatorIn (getD ws i 0) ≡ 7
+      → b ≡ judged labels l r (treeAt ws (i - 1)) (j ▸ stepOf 255 u) → b ≡ judged labels l r (treeAt ws i) j
   unfolding judged holds stepOf
-  judged-idle b u e p = rw (at f t 7 e .is) (rw (rest-of 2 f) at p)
+  judged-idle b u e p = rw (operand-is ws i t fwdIdle (at (textOf ws i) t 7 (it 7 e))) p
 
   -- "and" and "or": the first operand settles it, or the second does
-  module _ (o : AndOr (getD f 0 0)) (a : Bool) (p : a ≡ judged labels l r (treeOf (rest 2 f)) j) where
-    first-judged : a ≡ judged labels l r (treeOf (drop 2 f)) j
-    first-judged = rw (rest-of 2 f) at p
+  module _
+      (s : Skips ws i) (o : AndOr (operatorIn (getD ws i 0))) (a : Bool)
+      (p : a ≡ judged labels l r (treeAt ws (i - 1)) j) where
+    first-judged : a ≡ judged labels l r (treeOf (drop 2 (textOf ws i))) j
+    first-judged = rw (text-behind ws i (some-node ws i t)) p
 
-    pub judged-settled : Bool·beq a (eqb (getD f 0 0) 4) ≡ true → a ≡ judged labels l r (treeOf f) j
+    pub judged-settled : Bool·beq a (eqb (operatorIn (getD ws i 0)) 4) ≡ true → a ≡ judged labels l r (treeAt ws i) j
     unfolding judged holds
-    judged-settled s = ⊎-elim
-        (λ e. rw (at f t 3 e .is, ← first-judged) (settled a _ (rw e at s)))
-        (λ e. rw (at f t 4 e .is, ← first-judged) (settled-or a _ (rw e at s))) o
+    judged-settled q = ⊎-elim
+        (λ e. rw (at (textOf ws i) t 3 (it 3 e) .is, ← first-judged) (settled a _ (rw e at q)))
+        (λ e. rw (at (textOf ws i) t 4 (it 4 e) .is, ← first-judged) (settled-or a _ (rw e at q))) o
       where
         settled : (a c : Bool) → Bool·beq a false ≡ true → a ≡ (a && c)
         settled true c s = absurd (false≢true s)
@@ -177,13 +257,12 @@ module _ (labels : Labels) (l r f : List ℕ) (j : Run (ℕ × ℕ)) (t : Tree f
         settled-or true c s = refl
         settled-or false c s = absurd (false≢true s)
 
-    judged-second : (sizes : List ℕ) → Part sizes f → (m : ℕ) → m ≡ getD sizes (length f / 2 - 2) 0
-        → Bool·beq a (eqb (getD f 0 0) 4) ≡ false
-        → judged labels l r (treeOf (rest (2 * m + 2) f)) j ≡ judged labels l r (treeOf f) j
+    pub judged-second : Bool·beq a (eqb (operatorIn (getD ws i 0)) 4) ≡ false
+        → judged labels l r (treeAt ws (i - 1 - sizeIn (getD ws i 0))) j ≡ judged labels l r (treeAt ws i) j
     unfolding judged holds
-    judged-second sizes q m e s = ⊎-elim
-        (λ z. rw (operands-are sizes f q o m e, z, ← p, open-and a (rw z at s)))
-        (λ z. rw (operands-are sizes f q o m e, z, ← p, open-or a (rw z at s))) o
+    judged-second q = ⊎-elim
+        (λ z. rw (operands-are ws i t s o, z, ← p, open-and a (rw z at q)))
+        (λ z. rw (operands-are ws i t s o, z, ← p, open-or a (rw z at q))) o
       where
         open-and : (a : Bool) → Bool·beq a false ≡ false → a ≡ true
         open-and true s = refl
@@ -192,6 +271,101 @@ module _ (labels : Labels) (l r f : List ℕ) (j : Run (ℕ × ℕ)) (t : Tree f
         open-or : (a : Bool) → Bool·beq a true ≡ false → a ≡ false
         open-or true s = absurd (false≢true (sym s))
         open-or false s = refl
+
+-- a back modality, on the run in the first n bytes of xs
+module _ (k labels : Labels) (l r ws xs : List ℕ) (n i : ℕ) (y : Ready k ws xs n 0 i)
+    (o : isBack (operatorIn (getD ws i 0)) ≡ true) where
+  abbrev f : List ℕ
+  f = textOf ws i
+
+  back-one : BackTree f
+  back-one = back-tree f (y .tree) (rw (operator-read ws i (y .tree)) o)
+
+  -- on the empty run it fails
+  back-empty : n < 5 → false ≡ judged labels l r (treeOf f) (jointOf (take n xs))
+  unfolding judged holds
+  back-empty s = go back-one
+    where
+      go : BackTree f → false ≡ judged labels l r (treeOf f) (jointOf (take n xs))
+      go (back-label e u) = rw (u .is, held-empty xs n (y .held) s)
+      go (back-idle e u) = rw (u .is, held-empty xs n (y .held) s)
+
+  -- the verdict by the last step's label: 8 fits the mark of an idle, 6 its own label, which is no such mark
+  abbrev fits : ℕ → Bool
+  fits a = cond (eqb (operatorIn (getD ws i 0)) 8) (eqb a 255) (eqb a (getD ws i 0 % 256))
+
+  back-step : (a : ℕ) (u : ℕ × ℕ) (j : Run (ℕ × ℕ))
+      → judged labels l r (treeOf f) (j ▸ stepOf a u) ≡ (fits a && judged labels l r (treeAt ws (i - 1)) j)
+  unfolding judged holds stepOf labelled hasTwo
+  back-step a u j = go (eqb a 255) refl back-one
+    where
+      go : (b : Bool) → eqb a 255 ≡ b → BackTree f
+          → judged labels l r (treeOf f) (j ▸ cond b idle (move a u))
+          ≡ (fits a && judged labels l r (treeAt ws (i - 1)) j)
+      go b q (back-idle e x) = idles b q
+        where
+          six : operatorIn (getD ws i 0) ≡ 8
+          six = sym (operator-read ws i (y .tree)) ∙ e
+
+          idles : (b : Bool) → eqb a 255 ≡ b
+              → judged labels l r (treeOf f) (j ▸ cond b idle (move a u))
+              ≡ (fits a && judged labels l r (treeAt ws (i - 1)) j)
+          idles true q = rw (operand-is ws i (y .tree) backIdle x, six, q)
+          idles false q = rw (operand-is ws i (y .tree) backIdle x, six, q)
+      go b q (back-label e x) = moves b q
+        where
+          six : operatorIn (getD ws i 0) ≡ 6
+          six = sym (operator-read ws i (y .tree)) ∙ e
+
+          read : getD f 1 0 ≡ getD ws i 0 % 256
+          read = label-read ws i (y .tree) 6 six refl
+
+          low : getD f 1 0 ≤ 254
+          low = label-low k ws xs n i y back (λ a φ. refl) x
+
+          moves : (b : Bool) → eqb a 255 ≡ b
+              → judged labels l r (treeOf f) (j ▸ cond b idle (move a u))
+              ≡ (fits a && judged labels l r (treeAt ws (i - 1)) j)
+          moves true q =
+              rw (
+                operand-is ws i (y .tree) (back (getD f 1 0)) x,
+                six,
+                ne-eqb a (getD ws i 0 % 256) (λ z. omega (arith, z, low, read, eqb-true a 255 q)),
+              )
+          moves false q = rw (operand-is ws i (y .tree) (back (getD f 1 0)) x, six, read)
+
+  back-judged : 5 ≤ n → judged labels l r (treeOf f) (jointOf (take n xs))
+      ≡ (fits (getD xs (n - 3) 0) && judged labels l r (treeAt ws (i - 1)) (jointOf (take (n - 3) xs)))
+  back-judged s = rw (held-step xs n (y .held) s) (back-step (getD xs (n - 3) 0) _ (jointOf (take (n - 3) xs)))
+
+  -- as the code asks: a run too short, or another last step
+  module _ (b : Bool) (g : b ≡ goesBack (operatorIn (getD ws i 0)) (getD ws i 0 % 256) xs n) where
+    pub back-other : b ≡ false → false ≡ judged labels l r (treeAt ws i) (jointOf (take n xs))
+    unfolding goesBack
+    back-other e = go (ltb n 5) refl
+      where
+        go : (t : Bool) → ltb n 5 ≡ t → false ≡ judged labels l r (treeAt ws i) (jointOf (take n xs))
+        go true q = back-empty (ltb-true n 5 q)
+        go false q =
+            let unfit : fits (getD xs (n - 3) 0) ≡ false = sym (g ∙ rw q) ∙ e in
+            rw (back-judged (ltb-false n 5 q), unfit)
+
+    pub back-long : b ≡ true → 5 ≤ n
+    unfolding goesBack
+    back-long e = go (ltb n 5) refl
+      where
+        go : (t : Bool) → ltb n 5 ≡ t → 5 ≤ n
+        go true q = absurd (false≢true (sym (g ∙ rw q) ∙ e))
+        go false q = ltb-false n 5 q
+
+    pub back-same : b ≡ true
+        → judged labels l r (treeAt ws (i - 1)) (jointOf (take (n - 3) xs))
+        ≡ judged labels l r (treeAt ws i) (jointOf (take n xs))
+    unfolding goesBack
+    back-same e =
+        let long = back-long e in
+        let fit : fits (getD xs (n - 3) 0) ≡ true = sym (g ∙ rw (le-ltb n 5 long)) ∙ e in
+        rw (back-judged long, fit)
 
 -- "not" turns a verdict round
 upright : (b : Bool) → Bool·beq b true ≡ b
@@ -204,115 +378,102 @@ turned true false = refl
 turned false true = refl
 turned false false = refl
 
--- going on with the operand of "not" and the second one of "and" and "or": what is left has the verdict of the whole,
--- or the other one where "not" stands an odd number of times before it
-pub record Going (labels : Labels) (l r sizes xs : List ℕ) (n : ℕ) (f left : List ℕ) (even : Bool) : Type 0 where
-  pub ready : Ready labels sizes xs n 0 left
-  pub shorter : length left ≤ length f
-  pub same : Bool·beq (judged labels l r (treeOf left) (jointOf (take n xs))) even
-      ≡ judged labels l r (treeOf f) (jointOf (take n xs))
+failing : (e : Bool) → negate e ≡ Bool·beq false e
+failing true = refl
+failing false = refl
 
-pub going-start : (labels : Labels) (l r sizes xs : List ℕ) (n : ℕ) (f : List ℕ)
-    → Ready labels sizes xs n 0 f → Going labels l r sizes xs n f f true
-going-start labels l r sizes xs n f y = record { ready = y; shorter = omega arith; same = upright _ }
+-- going on with the operand of "not", the second one of "and" and "or", and the one of a back modality on the shorter
+-- run: what is left has the verdict of the whole, or the other one where "not" stands an odd number of times before it
+pub record Going (labels : Labels) (l r ws xs : List ℕ) (n₀ i₀ n i : ℕ) (even : Bool) : Type 0 where
+  pub ready : Ready labels ws xs n 0 i
+  pub shorter : i ≤ i₀
+  pub same : Bool·beq (judged labels l r (treeAt ws i) (jointOf (take n xs))) even
+      ≡ judged labels l r (treeAt ws i₀) (jointOf (take n₀ xs))
+
+pub going-start : (labels : Labels) (l r ws xs : List ℕ) (n i : ℕ)
+    → Ready labels ws xs n 0 i → Going labels l r ws xs n i n i true
+going-start labels l r ws xs n i y = record { ready = y; shorter = omega arith; same = upright _ }
 
 module _
-    (labels : Labels) (l r sizes xs : List ℕ) (n : ℕ) (f left : List ℕ) (even : Bool)
-    (g : Going labels l r sizes xs n f left even) where
+    (labels : Labels) (l r ws xs : List ℕ) (n₀ i₀ n i : ℕ) (even : Bool)
+    (g : Going labels l r ws xs n₀ i₀ n i even) where
   abbrev run : Run (ℕ × ℕ)
   run = jointOf (take n xs)
 
-  pub going-end : (v : Bool) → v ≡ judged labels l r (treeOf left) run
-      → Bool·beq v even ≡ judged labels l r (treeOf f) run
+  abbrev whole : Bool
+  whole = judged labels l r (treeAt ws i₀) (jointOf (take n₀ xs))
+
+  pub going-end : (v : Bool) → v ≡ judged labels l r (treeAt ws i) run → Bool·beq v even ≡ whole
   going-end v p = ap (λ b. Bool·beq b even) p ∙ g .same
 
-  pub going-not : getD left 0 0 ≡ 2 → Going labels l r sizes xs n f (rest 2 left) (negate even)
+  pub going-not : operatorIn (getD ws i 0) ≡ 2 → Going labels l r ws xs n₀ i₀ n (i - 1) (negate even)
   going-not e = record {
-    ready = not-ready labels sizes xs n left (g .ready) e;
-    shorter = omega (arith, g .shorter, rest-length 2 left);
-    same = turned (judged labels l r (treeOf (rest 2 left)) run) even
-        ∙ going-end _ (judged-not labels l r left run (g .ready .tree) _ e refl);
+    ready = not-ready labels ws xs n i (g .ready) e;
+    shorter = omega (arith, g .shorter);
+    same = turned (judged labels l r (treeAt ws (i - 1)) run) even
+        ∙ going-end _ (judged-not labels l r ws i run (g .ready .tree) _ e refl);
   }
 
-  module _ (o : AndOr (getD left 0 0)) (a : Bool) (p : a ≡ judged labels l r (treeOf (rest 2 left)) run) where
-    pub going-settled : Bool·beq a (eqb (getD left 0 0) 4) ≡ true
-        → Bool·beq a even ≡ judged labels l r (treeOf f) run
-    going-settled s = going-end a (judged-settled labels l r left run (g .ready .tree) o a p s)
+  -- a back modality
+  module _ (o : isBack (operatorIn (getD ws i 0)) ≡ true) (b : Bool)
+      (q : b ≡ goesBack (operatorIn (getD ws i 0)) (getD ws i 0 % 256) xs n) where
+    pub going-nowhere : b ≡ false → negate even ≡ whole
+    going-nowhere e = failing even ∙ going-end false (back-other labels labels l r ws xs n i (g .ready) o b q e)
 
-    pub going-on : Bool·beq a (eqb (getD left 0 0) 4) ≡ false → (m : ℕ) → m ≡ getD sizes (length left / 2 - 2) 0
-        → Going labels l r sizes xs n f (rest (2 * m + 2) left) even
-    going-on s m e =
-        let parts = part labels sizes xs n left (g .ready) in
-        record {
-          ready = second-ready labels sizes xs n left (g .ready) o m e;
-          shorter = omega (arith, g .shorter, rest-length (2 * m + 2) left);
-          same = going-end _ (judged-second labels l r left run (g .ready .tree) o a p sizes parts m e s);
-        }
+    pub going-long : b ≡ true → 5 ≤ n
+    going-long e = back-long labels labels l r ws xs n i (g .ready) o b q e
 
--- a back modality, on the run in the first n bytes of xs
-module _
-    (labels : Labels) (l r f xs : List ℕ) (n : ℕ) (t : Tree f) (h : Held xs n)
-    (o : isBack (getD f 0 0) ≡ true) where
-  -- on the empty run it fails
-  pub back-empty : n < 5 → false ≡ judged labels l r (treeOf f) (jointOf (take n xs))
-  unfolding judged holds
-  back-empty s = go (back-tree f t o)
+    pub going-back : b ≡ true → Going labels l r ws xs n₀ i₀ (n - 3) (i - 1) even
+    going-back e = record {
+      ready = back-ready labels ws xs n i (g .ready) o (going-long e);
+      shorter = omega (arith, g .shorter);
+      same = going-end _ (back-same labels labels l r ws xs n i (g .ready) o b q e);
+    }
+
+  -- "and" and "or"
+  module _ (o : AndOr (operatorIn (getD ws i 0))) (a : Bool) (p : a ≡ judged labels l r (treeAt ws (i - 1)) run) where
+    pub going-settled : Bool·beq a (eqb (operatorIn (getD ws i 0)) 4) ≡ true → Bool·beq a even ≡ whole
+    going-settled s = going-end a (judged-settled labels l r ws i run (g .ready .tree) (g .ready .skips) o a p s)
+
+    pub going-on : Bool·beq a (eqb (operatorIn (getD ws i 0)) 4) ≡ false
+        → Going labels l r ws xs n₀ i₀ n (i - 1 - sizeIn (getD ws i 0)) even
+    going-on s = record {
+      ready = second-ready labels ws xs n i (g .ready) o;
+      shorter = omega (arith, g .shorter);
+      same = going-end _ (judged-second labels l r ws i run (g .ready .tree) (g .ready .skips) o a p s);
+    }
+
+-- the same of "not" alone, on every run
+pub record Turning (ws : List ℕ) (i₀ i : ℕ) (even : Bool) : Type 0 where
+  pub tree : Tree (textOf ws i)
+  pub shorter : i ≤ i₀
+  pub same : (k : Labels) (l r : List ℕ) (j : Run (ℕ × ℕ))
+      → Bool·beq (judged k l r (treeAt ws i) j) even ≡ judged k l r (treeAt ws i₀) j
+
+pub turning-start : (ws : List ℕ) (i : ℕ) → Tree (textOf ws i) → Turning ws i i true
+turning-start ws i t = record { tree = t; shorter = omega arith; same = λ k l r j. upright _ }
+
+module _ (ws : List ℕ) (i₀ i : ℕ) (even : Bool) (g : Turning ws i₀ i even) where
+  pub turning-on : operatorIn (getD ws i 0) ≡ 2 → Turning ws i₀ (i - 1) (negate even)
+  turning-on e = record {
+    tree = operand-tree ws i (g .tree) not (at (textOf ws i) (g .tree) 2 (operator-read ws i (g .tree) ∙ e));
+    shorter = omega (arith, g .shorter);
+    same = λ k l r j. turned (judged k l r (treeAt ws (i - 1)) j) even
+        ∙ ap (λ b. Bool·beq b even) (judged-not k l r ws i j (g .tree) _ e refl) ∙ g .same k l r j;
+  }
+
+  -- true behind an odd number of "not"s, and false behind an even one
+  pub turning-top : operatorIn (getD ws i 0) ≡ 0 → negate even ≡ true → Never ws i₀
+  unfolding Never
+  turning-top e n k l r j =
+      sym (odd even n) ∙ ap (λ b. Bool·beq b even) (judged-top k l r ws i j (g .tree) e) ∙ g .same k l r j
     where
-      go : BackTree f → false ≡ judged labels l r (treeOf f) (jointOf (take n xs))
-      go (back-label e u) = rw (u .is, held-empty xs n h s)
-      go (back-idle e u) = rw (u .is, held-empty xs n h s)
+      odd : (b : Bool) → negate b ≡ true → Bool·beq true b ≡ false
+      odd true n = absurd (false≢true n)
+      odd false n = refl
 
-  module _ (s : 5 ≤ n) where
-    -- the last step, as it is read
-    last-label : jointStepAt (take n xs) (n / 3 - 1) .label .0 ≡ getD xs (n - 3) 0
-    unfolding jointStepAt
-    last-label =
-        let place : 3 * (n / 3 - 1) + 2 ≡ n - 3 = omega (arith, h .whole, s) in
-        getD-take n xs (3 * (n / 3 - 1) + 2) 0 (omega (arith, place, s)) ∙ ap (λ i. getD xs i 0) place
-
-    last-read : read.Step (jointStepAt (take n xs) (n / 3 - 1)) ≡ jointRead (take n xs) (n / 3 - 1)
-    last-read =
-        let whole = length-take-le n xs (h .within) in
-        step-there (take n xs) (n / 3 - 1) (rw whole (h .whole)) (omega (arith, whole, s))
-
-    -- the verdict by its label
-    abbrev granted : ℕ → Bool
-    granted a = cond (eqb a 255) (eqb (getD f 0 0) 8) (eqb (getD f 0 0) 6 && eqb a (getD f 1 0))
-
-    last-granted : grants (getD f 0 0) (getD f 1 0) (jointRead (take n xs) (n / 3 - 1)) ≡ granted (getD xs (n - 3) 0)
-    unfolding grants
-    last-granted = rw (← last-read, last-label)
-
-    back-step : (a : ℕ) (u : ℕ × ℕ) (j : Run (ℕ × ℕ))
-        → judged labels l r (treeOf f) (j ▸ stepOf a u) ≡ (granted a && judged labels l r (treeOf (drop 2 f)) j)
-    unfolding judged holds stepOf
-    back-step a u j = go (eqb a 255) (back-tree f t o)
-      where
-        go : (b : Bool) → BackTree f
-            → judged labels l r (treeOf f) (j ▸ cond b idle (move a u))
-            ≡ (cond b (eqb (getD f 0 0) 8) (eqb (getD f 0 0) 6 && eqb a (getD f 1 0))
-            && judged labels l r (treeOf (drop 2 f)) j)
-        go true (back-label e w) = rw (w .is, e)
-        go true (back-idle e w) = rw (w .is, e)
-        go false (back-label e w) = rw (w .is, e)
-        go false (back-idle e w) = rw (w .is, e)
-
-    back-judged : judged labels l r (treeOf f) (jointOf (take n xs))
-        ≡ (grants (getD f 0 0) (getD f 1 0) (jointRead (take n xs) (n / 3 - 1))
-        && judged labels l r (treeOf (drop 2 f)) (jointOf (take (n - 3) xs)))
-    back-judged = rw (held-step xs n h s, last-granted) (back-step (getD xs (n - 3) 0) _ (jointOf (take (n - 3) xs)))
-
-    -- over false it fails
-    pub back-false : Tree (rest 2 f) → getD (rest 2 f) 0 0 ≡ 1
-        → false ≡ judged labels l r (treeOf f) (jointOf (take n xs))
-    back-false u e =
-        let never = rw (rest-of 2 f) at (judged-bottom labels l r (rest 2 f) (jointOf (take (n - 3) xs)) u e) in
-        rw (back-judged, ← never, and-false _)
-
-    module _ (b : Bool) (g : b ≡ grants (getD f 0 0) (getD f 1 0) (jointRead (take n xs) (n / 3 - 1))) where
-      pub back-other : b ≡ false → false ≡ judged labels l r (treeOf f) (jointOf (take n xs))
-      back-other e = rw (back-judged, ← g, e)
-
-      pub back-same : (v : Bool) → b ≡ true → v ≡ judged labels l r (treeOf (rest 2 f)) (jointOf (take (n - 3) xs))
-          → v ≡ judged labels l r (treeOf f) (jointOf (take n xs))
-      back-same v e p = rw (back-judged, ← g, e) (rw (rest-of 2 f) at p)
+  pub turning-bottom : operatorIn (getD ws i 0) ≡ 1 → even ≡ true → Never ws i₀
+  unfolding Never
+  turning-bottom e n k l r j =
+      ap (λ b. Bool·beq false b) (sym n)
+      ∙ ap (λ b. Bool·beq b even) (judged-bottom k l r ws i j (g .tree) e) ∙ g .same k l r j

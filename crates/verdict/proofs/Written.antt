@@ -46,32 +46,32 @@ moved-held mover.Right xs n h room shown to =
     whole : set xs (n + 2) to ≡ put xs n (getD xs n 0) (getD xs (n + 1) 0) to
     whole = rw (set-getD xs n 0, set-getD xs (n + 1) 0)
 
-module _ (k : Labels) (sizes xs : List ℕ) (n : ℕ) (f : List ℕ) (y : Ready k sizes xs n 1 f) where
+module _ (k : Labels) (ws xs : List ℕ) (n i : ℕ) (y : Ready k ws xs n 1 i) where
   abbrev room : n + 3 ≤ length xs
   room = omega (arith, y .room)
 
-  -- the longer run is ready for f
-  pub moved-ready : (m : Mover) → Shown (getD xs n 0) → (to : ℕ) → Ready k sizes (set xs (placeOf m n) to) (n + 3) 0 f
+  -- the longer run is ready for the tree
+  pub moved-ready : (m : Mover) → Shown (getD xs n 0) → (to : ℕ) → Ready k ws (set xs (placeOf m n) to) (n + 3) 0 i
   moved-ready m shown to = record {
     tree = y .tree;
     ranged = y .ranged;
-    sized = y .sized;
+    skips = y .skips;
     held = moved-held m xs n (y .held) room shown to;
     room = rw (length-set xs (placeOf m n) to) (omega (arith, y .room));
     size = length-set xs (placeOf m n) to ∙ y .size;
-    slots = y .slots;
+    few = y .few;
   }
 
   -- what is written behind the run leaves the run as it is
-  pub written-ready : (a p q : ℕ) → Shown a → Ready k sizes (put xs n a p q) n 1 f
+  pub written-ready : (a p q : ℕ) → Shown a → Ready k ws (put xs n a p q) n 1 i
   written-ready a p q shown = record {
     tree = y .tree;
     ranged = y .ranged;
-    sized = y .sized;
+    skips = y .skips;
     held = held;
     room = rw (length-put xs n a p q) (y .room);
     size = length-put xs n a p q ∙ y .size;
-    slots = y .slots;
+    few = y .few;
   }
     where
       longer : Held (put xs n a p q) (n + 3)

@@ -1,22 +1,21 @@
 -- How the code works: what functions ask for and promise that serve others. No call's promise cites this file.
-use Prim.Native.Nat.{ℕ, zero, suc, _+_, _*_, _≤_, _<_}
+use Prim.Native.Nat.{ℕ, zero, suc, _+_, _-_, _*_, _/_, _%_, _≤_, _<_}
 use mathlib.Core.Path.{_≡_}
-use mathlib.Core.Bool.{Bool, true, false, cond, _&&_}
+use mathlib.Core.Bool.{Bool, true, false, cond, _&&_, _||_}
 use mathlib.Core.List.{List, [], _∷_}
-use lib.ListN.{length, getD, drop}
-use lib.Dec.{eqb}
+use lib.ListN.{length, getD, take, drop}
+use lib.Dec.{eqb, ltb, leb}
 use Rattle.hml.specs.Lists.{same, any, present}
 use Rattle.hml.specs.System.{System, Run, Pairing}
-use Rattle.hml.specs.Formula.{Formula, holds, nesting, labelled}
+use Rattle.hml.specs.Formula.{Formula, holds, size, nesting, labelled}
+use Rattle.hml.specs.Spell.{spell}
 use Rattle.hml.specs.Compose.{beside}
 use Rattle.labels.specs.Labels.{count}
 use Rattle.labels.specs.Labels.{pairing}
 use Rattle.labels.specs.declared.label.Labels.{Labels}
 use Rattle.tables.specs.Tables.{tableOf}
-use Rattle.machines.specs.declared.step.JointRead.{JointRead}
-use Rattle.machines.specs.declared.step.JointRead.the-variants as read
 use Rattle.machines.specs.Working.{Held}
-use Rattle.formulas.specs.Working.{Tree, treeOf, Sized}
+use Rattle.formulas.specs.Working.{Tree, treeOf, treeSize}
 use Rattle.verdict.specs.declared.trial.Mover.{Mover}
 use Rattle.verdict.specs.declared.trial.Mover.the-variants as mover
 
@@ -34,11 +33,6 @@ gridBy mover.Right l r = r
 unfoldable pub placeOf : Mover → ℕ → ℕ
 placeOf mover.Left n = n + 1
 placeOf mover.Right n = n + 2
-
--- does a back modality fit the last step, as it was read: 8 the joint idle, 6 a move of its label?
-unfoldable pub grants : ℕ → ℕ → JointRead → Bool
-grants o a (read.Step x) = cond (eqb (x .label .0) 255) (eqb o 8) (eqb o 6 && eqb (x .label .0) a)
-grants o a read.NoSuchStep = false
 
 -- a label that a move can show
 abbrev pub Shown : ℕ → Type 0
@@ -58,32 +52,7 @@ pub record Grid (g : List ℕ) : Type 0 where
   pub whole : length g ≡ 1088
   pub few : (p : ℕ) → p < 64 → getD g (17 * p) 0 ≤ 8
 
--- so many rows from a place on lie within a grid
-abbrev pub Within : ℕ → ℕ → Type 0
-Within at rows = at + 2 * rows ≤ 1088
-
--- how many moves stand before the first with this label
-unfoldable pub skippedIn : ℕ → List (ℕ × ℕ) → ℕ
-skippedIn b [] = 0
-skippedIn b (m ∷ moves) = cond (same (m .0) b) 0 (suc (skippedIn b moves))
-
--- the tables of a call
-pub record Grids (l r : List ℕ) : Type 0 where
-  pub left : Grid l
-  pub right : Grid r
-
--- the first n bytes of xs are a run, with room behind it for `more` steps and those that the first tree of f looks
--- ahead; sizes has the sizes of f's trees
-pub record Ready (k : Labels) (sizes xs : List ℕ) (n more : ℕ) (f : List ℕ) : Type 0 where
-  pub tree : Tree f
-  pub ranged : labelled (count k) (treeOf f) ≡ true
-  pub sized : Sized sizes f
-  pub held : Held xs n
-  pub room : n + 3 * (more + nesting (treeOf f)) ≤ length xs
-  pub size : length xs ≡ 614
-  pub slots : length sizes ≡ 4096
-
--- the verdict of the two tables beside each other
+-- the verdict of the two grids beside each other
 unfoldable pub judged : Labels → List ℕ → List ℕ → Formula → Run (ℕ × ℕ) → Bool
 judged labels l r φ j = holds (beside (pairing labels) (gridOf l) (gridOf r)) φ j
 
@@ -110,3 +79,109 @@ widened (a ∷ q ∷ bytes) = a ∷ q ∷ 0 ∷ widened bytes
 unfoldable pub besideStill : List ℕ → List ℕ
 besideStill [] = []
 besideStill (p ∷ bytes) = p ∷ 0 ∷ widened bytes
+
+-- A formula as words, one a node, from its last node on: word n is that of the node with n nodes from it on, itself
+-- among them. The operator stands above the low 12 bits; in these stands the size of the first operand of "and" and
+-- "or", of any other node its label.
+unfoldable pub operatorIn : ℕ → ℕ
+operatorIn w = w / 4096
+
+unfoldable pub sizeIn : ℕ → ℕ
+sizeIn w = w % 4096
+
+-- "and" and "or"
+unfoldable pub hasTwo : ℕ → Bool
+hasTwo o = eqb o 3 || eqb o 4
+
+-- the label byte
+unfoldable pub labelIn : ℕ → ℕ
+labelIn w = cond (hasTwo (operatorIn w)) 0 (w % 256)
+
+-- the bytes of the last n nodes
+unfoldable pub textOf : List ℕ → ℕ → List ℕ
+textOf ws zero = []
+textOf ws (suc n) = operatorIn (getD ws (suc n) 0) ∷ labelIn (getD ws (suc n) 0) ∷ textOf ws n
+
+-- each "and" and "or" among the last n nodes has the size of its first operand, so its second one is found
+unfoldable pub Skips : List ℕ → ℕ → Type 0
+Skips ws n = (i : ℕ) → i < n → hasTwo (operatorIn (getD ws (suc i) 0)) ≡ true
+    → sizeIn (getD ws (suc i) 0) ≡ treeSize (textOf ws i)
+
+-- the words of a formula's bytes
+pub record Coded (ws f : List ℕ) : Type 0 where
+  pub spelled : textOf ws (length f / 2) ≡ f
+  pub skips : Skips ws (length f / 2)
+
+-- bytes that are one tree and no more, of at most 4,096 nodes
+unfoldable pub Whole : List ℕ → Type 0
+Whole f = (φ : Formula) × (f ≡ spell φ []) × (size φ ≤ 4096)
+
+-- the last n nodes of f
+unfoldable pub lastNodes : List ℕ → ℕ → List ℕ
+lastNodes f n = drop (length f - 2 * n) f
+
+-- what stands in place n before the word does: the size of the tree that begins with n nodes from it on
+unfoldable pub SizesIn : List ℕ → List ℕ → ℕ → Type 0
+SizesIn ws f n = (i : ℕ) → 1 ≤ i → i ≤ n → getD ws i 0 ≡ treeSize (lastNodes f i)
+
+-- a tree's size by its operator and the sizes of its operands
+unfoldable pub sizeBy : ℕ → ℕ → ℕ → ℕ
+sizeBy o first second = cond (leb o 1) 1 (cond (hasTwo o) (1 + first + second) (1 + first))
+
+-- the word of a node whose first operand has this size
+unfoldable pub wordOf : ℕ → ℕ → ℕ → ℕ
+wordOf o a first = cond (hasTwo o) (4096 * o + first) (4096 * o + a)
+
+-- two grids in one list, the left's, then the right's
+abbrev pub leftIn : List ℕ → List ℕ
+leftIn g = take 1088 g
+
+abbrev pub rightIn : List ℕ → List ℕ
+rightIn g = drop 1088 g
+
+-- both grids of a call
+pub record TwoGrids (g : List ℕ) : Type 0 where
+  pub whole : length g ≡ 2176
+  pub left : Grid (leftIn g)
+  pub right : Grid (rightIn g)
+
+-- so many rows from a place on lie within them
+abbrev pub Inside : ℕ → ℕ → Type 0
+Inside at rows = at + 2 * rows ≤ 2176
+
+-- where the grid of the side that moves begins
+unfoldable pub startOf : Mover → ℕ
+startOf mover.Left = 0
+startOf mover.Right = 1088
+
+-- the verdict by both grids
+abbrev pub judgedBy : Labels → List ℕ → Formula → Run (ℕ × ℕ) → Bool
+judgedBy labels g φ j = judged labels (leftIn g) (rightIn g) φ j
+
+-- the tree that begins with n nodes from its first one on
+abbrev pub treeAt : List ℕ → ℕ → Formula
+treeAt ws n = treeOf (textOf ws n)
+
+-- that tree holds on no run
+unfoldable pub Never : List ℕ → ℕ → Type 0
+Never ws n = (k : Labels) (l r : List ℕ) (j : Run (ℕ × ℕ)) → false ≡ judged k l r (treeAt ws n) j
+
+-- does a back modality fit the last step of the run in the first n bytes, by its label: 8 an idle, 6 a move of its own?
+unfoldable pub goesBack : ℕ → ℕ → List ℕ → ℕ → Bool
+goesBack o a xs n =
+    cond (ltb n 5) false (cond (eqb o 8) (eqb (getD xs (n - 3) 0) 255) (eqb (getD xs (n - 3) 0) a))
+
+-- a place where the next step of the run in the first n bytes has the state of the side that moves
+abbrev pub Placed : ℕ → ℕ → Type 0
+Placed place n = (m : Mover) × (place ≡ placeOf m n)
+
+-- the first n bytes of xs are a run, with room behind it for `more` steps and those that the tree at `at` looks ahead;
+-- ws are the words of its formula
+pub record Ready (k : Labels) (ws xs : List ℕ) (n more at : ℕ) : Type 0 where
+  pub tree : Tree (textOf ws at)
+  pub ranged : labelled (count k) (treeAt ws at) ≡ true
+  pub skips : Skips ws at
+  pub held : Held xs n
+  pub room : n + 3 * (more + nesting (treeAt ws at)) ≤ length xs
+  pub size : length xs ≡ 614
+  pub few : at ≤ 4096

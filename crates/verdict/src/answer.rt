@@ -1,7 +1,7 @@
 // The answer of a verdict, and how both calls come to it.
-use crate::grid::rows_by_state;
+use crate::code::coded;
+use crate::grids::look_up;
 use crate::search::holds;
-use formulas::sizes::tree_sizes;
 use labels::label::Labels;
 use labels::refusal::Refusal;
 ghost use mathlib.Core.Path.{_≡_};
@@ -20,9 +20,9 @@ pub enum Verdict {
     Refused(Refusal),
 }
 
-// The verdict on the run in the first len bytes of a buffer that has room for four steps more. The rows of each state
-// and the sizes of the formula's trees are found once, so that no rows are searched for and no operand is read to find
-// the one behind it.
+// The verdict on the run in the first len bytes of a buffer that has room for four steps more. The formula's words, and
+// the rows of each state if it looks ahead, are found once, so that no rows are searched for and no operand is read to
+// find the one behind it.
 pub(crate) fn verdict_on(
     labels: Labels,
     left: &[u8],
@@ -38,13 +38,11 @@ pub(crate) fn verdict_on(
         (λ φ. tablesHold labels (now (left .entry)) (now (right .entry)) φ (jointOf (take len (now (run .entry)))))
         (formulaOf (now (formula .entry)))) ⌝ }
 {
-    let mut left_grid = [0u8; 1088];
-    rows_by_state(labels, left, &mut left_grid);
-    let mut right_grid = [0u8; 1088];
-    rows_by_state(labels, right, &mut right_grid);
-    let mut sizes = [0usize; 4096];
-    tree_sizes(formula, &mut sizes);
-    if holds(labels, &left_grid, &right_grid, &sizes, run, len, formula) {
+    let mut code = [0u16; 4097];
+    let forwards = coded(formula, &mut code);
+    let mut grids = [0u8; 2176];
+    look_up(labels, left, right, forwards, &mut grids);
+    if holds(labels, &grids, &code, run, len, formula.len() / 2) {
         return Verdict::Holds;
     }
     Verdict::Fails

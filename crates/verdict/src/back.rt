@@ -1,35 +1,34 @@
-// The last step of a run, and whether a back modality fits it.
-use machines::step::JointRead;
-use machines::step::joint_step;
+// Which operators go on with the run at hand or with a shorter one, and whether a back modality fits a run's last step.
+use formulas::node::is_back;
+use formulas::node::is_connective;
+use labels::label::Label;
 ghost use mathlib.Core.Path.{_≡_};
-ghost use Prim.Native.Nat.{_-_, _/_, _≤_};
-ghost use lib.ListN.{length, take};
-ghost use Rattle.machines.specs.Steps.{jointRead};
-ghost use Rattle.verdict.specs.Working.{grants};
+ghost use mathlib.Core.Bool.{_||_};
+ghost use Prim.Native.Nat.{_≤_};
+ghost use Rattle.formulas.specs.Operators.{isConnective, isBack};
+ghost use Rattle.verdict.specs.Working.{goesBack};
 
-// The last step of the run in the first len bytes, of which there is one.
-pub(crate) fn last_step(run: &[u8], len: usize) -> JointRead
-    requires { ⌜ (5 ≤ len) × (len ≤ length (now run)) ⌝ }
-    ensures { λ r. ⌜ r ≡ jointRead (take len (now (run .entry))) (len / 3 - 1) ⌝ }
+// "Not", "and" and "or" ask for verdicts on the run at hand, the back modalities on the one without its last step.
+pub(crate) fn goes_on(operator: u8) -> bool
+    ensures { λ r. ⌜ r ≡ (isConnective operator || isBack operator) ⌝ }
 {
-    joint_step(&run[..len], len / 3 - 1)
+    if is_connective(operator) {
+        return true;
+    }
+    is_back(operator)
 }
 
-// Does a back modality, by its operator and label, fit the step that was read?
-pub(crate) fn back_fits(operator: u8, label: u8, last: JointRead) -> bool
-    ensures { λ r. ⌜ r ≡ grants operator label last ⌝ }
+// Does the run in the first len bytes end in a step that a back modality, by its operator and label, fits?
+pub(crate) fn steps_back(run: &[u8; 614], len: usize, operator: u8, label: u8) -> bool
+    requires { ⌜ len ≤ 614 ⌝ }
+    ensures { λ r. ⌜ r ≡ goesBack operator label (now (run .entry)) len ⌝ }
 {
-    match last {
-        JointRead::Step(step) => {
-            let shown = step.label;
-            if shown.is_idle() {
-                return operator == 8;
-            }
-            if operator != 6 {
-                return false;
-            }
-            shown.0 == label
-        }
-        JointRead::NoSuchStep => false,
+    if len < 5 {
+        return false;
     }
+    let shown = run[len - 3];
+    if operator == 8 {
+        return shown == Label::IDLE.0;
+    }
+    shown == label
 }

@@ -7,9 +7,11 @@ use labels::refusal::Check;
 use labels::refusal::Refusal;
 use machines::joint::check_joint;
 ghost use mathlib.Core.Path.{_≡_};
+ghost use Rattle.labels.specs.Labels.{checkLabels};
+ghost use Rattle.labels.specs.declared.refusal.Check.the-variants.{Sound};
 ghost use Rattle.verdict.specs.Verdicts.{jointVerdict, checkJointCall};
 
-// The verdict on a joint run stopped at a point. The run is copied once, into a buffer with room for four steps more.
+// The verdict on a joint run stopped at a point. The labels are judged first, before all else.
 pub fn joint(
     labels: Labels,
     left: &[u8],
@@ -18,6 +20,26 @@ pub fn joint(
     formula: &[u8],
     point: usize,
 ) -> Verdict
+    ensures { λ r. ⌜ r ≡ jointVerdict labels
+        (now (left .entry)) (now (right .entry)) (now (run .entry)) (now (formula .entry)) point ⌝ }
+{
+    match labels.check() {
+        Check::Sound => {}
+        Check::Refused(refusal) => return Verdict::Refused(refusal),
+    }
+    judged_joint(labels, left, right, run, formula, point)
+}
+
+// The same for labels that no check refuses. The run is copied once, into a buffer with room for four steps more.
+fn judged_joint(
+    labels: Labels,
+    left: &[u8],
+    right: &[u8],
+    run: &[u8],
+    formula: &[u8],
+    point: usize,
+) -> Verdict
+    requires { ⌜ checkLabels labels ≡ Sound ⌝ }
     ensures { λ r. ⌜ r ≡ jointVerdict labels
         (now (left .entry)) (now (right .entry)) (now (run .entry)) (now (formula .entry)) point ⌝ }
 {
@@ -31,7 +53,7 @@ pub fn joint(
     verdict_on(labels, left, right, &mut buffer, len, formula)
 }
 
-// What a joint call judges, in order.
+// What a joint call judges after its labels, in order.
 fn check_joint_call(
     labels: Labels,
     left: &[u8],
@@ -40,13 +62,10 @@ fn check_joint_call(
     formula: &[u8],
     point: usize,
 ) -> Check
+    requires { ⌜ checkLabels labels ≡ Sound ⌝ }
     ensures { λ r. ⌜ r ≡ checkJointCall labels
         (now (left .entry)) (now (right .entry)) (now (run .entry)) (now (formula .entry)) point ⌝ }
 {
-    match labels.check() {
-        Check::Sound => {}
-        Check::Refused(refusal) => return Check::Refused(refusal),
-    }
     let parts = check_joint(labels, left, right, run).then(check_formula(labels, 4096, formula));
     match parts {
         Check::Sound => {}

@@ -2,8 +2,10 @@
 pub mod answer;
 mod back;
 mod beside;
-mod grid;
+mod code;
+mod grids;
 pub mod half;
 pub mod joint;
+mod never;
 mod search;
 mod trial;

@@ -1,24 +1,27 @@
 // The verdict of a formula on a joint run that stands in a buffer. A look ahead writes one step behind the run, judges
-// the longer run, and puts back what stood there: after a back modality these are steps of the log. The two grids have
-// one lifetime, so that the grid of the side that moves can be chosen.
-use crate::back::back_fits;
-use crate::back::last_step;
-use crate::grid::Rows;
-use crate::grid::rows_before;
-use crate::grid::rows_from;
+// the longer run, and puts back what stood there: after a back modality these are steps of the log. All is passed as
+// numbers and references to arrays, so that trying one row after the other is a loop in the compiled code.
+use crate::back::goes_on;
+use crate::back::steps_back;
+use crate::code::label_in;
+use crate::code::operator_in;
+use crate::code::size_in;
+use crate::grids::Rows;
+use crate::grids::rows_from;
+use crate::grids::wanted_rows;
+use crate::never::fails_everywhere;
 use crate::trial::Mover;
-use crate::trial::Moves;
 use crate::trial::Trial;
-use crate::trial::grid_by;
 use crate::trial::place_by;
-use formulas::node::is_connective;
+use formulas::node::is_back;
+use formulas::node::is_forward;
 use halves::step::Move;
 use labels::label::Label;
 use labels::label::Labels;
 use labels::label::Partner;
 ghost use mathlib.Core.Path.{_≡_};
 ghost use Prim.Native.Nat.{ℕ, _+_, _-_, _*_, _≤_};
-ghost use mathlib.Core.Bool.{true, false};
+ghost use mathlib.Core.Bool.{true, false, _||_};
 ghost use lib.ListN.{getD, take, drop, set};
 ghost use Rattle.hml.specs.Lists.{present};
 ghost use Rattle.hml.specs.System.{_▸_};
@@ -26,356 +29,360 @@ ghost use Rattle.hml.specs.Formula.{fwd};
 ghost use Rattle.labels.specs.Labels.{pairing};
 ghost use Rattle.halves.specs.Runs.{stepOf};
 ghost use Rattle.machines.specs.Joints.{jointOf};
-ghost use Rattle.formulas.specs.Operators.{isModality, isConnective};
-ghost use Rattle.formulas.specs.Working.{treeOf};
+ghost use Rattle.formulas.specs.Operators.{isConnective, isForward, isBack};
 ghost use Rattle.verdict.specs.Working.{
-  Grids,
+  TwoGrids,
+  Inside,
+  Placed,
   Ready,
   Shown,
-  Within,
-  judged,
+  judgedBy,
+  treeAt,
+  operatorIn,
+  leftIn,
+  rightIn,
   pairsIn,
   gridOf,
-  gridBy,
   tried,
   shaken,
-  placeOf,
   targetsOf,
 };
 
-// Does the first tree of f hold on the run in the first len bytes? "And" and "or" stop as soon as they can, and go on
-// with their second operand here, as "not" does with its only one.
-pub(crate) fn holds<'a>(
+// Does the tree at `at` hold on the run in the first len bytes? "And" and "or" stop as soon as they can, and go on with
+// their second operand here, as "not" does with its only one, and a back modality on the shorter run.
+pub(crate) fn holds(
     labels: Labels,
-    left: &'a [u8; 1088],
-    right: &'a [u8; 1088],
-    sizes: &[usize; 4096],
+    grids: &[u8; 2176],
+    code: &[u16; 4097],
     run: &mut [u8; 614],
     len: usize,
-    f: &[u8],
+    at: usize,
 ) -> bool
-    requires { ⌜ Grids (now left) (now right) ⌝ }
-    requires { ⌜ Ready labels (now sizes) (now run) len 0 (now f) ⌝ }
-    ensures { λ r. ⌜ r ≡ judged labels (now (left .entry)) (now (right .entry))
-        (treeOf (now (f .entry))) (jointOf (take len (now (run .entry)))) ⌝ }
+    requires { ⌜ TwoGrids (now grids) ⌝ }
+    requires { ⌜ Ready labels (now code) (now run) len 0 at ⌝ }
+    ensures { λ r. ⌜ r ≡ judgedBy labels (now (grids .entry)) (treeAt (now (code .entry)) at)
+        (jointOf (take len (now (run .entry)))) ⌝ }
     ensures { λ r. ⌜ now (run .exit) ≡ now (run .entry) ⌝ }
 {
-    let mut rest = f;
+    let mut len = len;
+    let mut at = at;
     // Does "not" stand an even number of times before what is left?
     let mut even = true;
-    while is_connective(rest[0]) {
-        let operator = rest[0];
+    while goes_on(operator_in(code[at])) {
+        let word = code[at];
+        let operator = operator_in(word);
         if operator == 2 {
             even = !even;
-            rest = &rest[2..];
+            at -= 1;
             continue;
         }
-        let first = holds(labels, left, right, sizes, run, len, &rest[2..]);
+        if is_back(operator) {
+            if !steps_back(run, len, operator, label_in(word)) {
+                return !even;
+            }
+            len -= 3;
+            at -= 1;
+            continue;
+        }
+        let first = operand(labels, grids, code, run, len, at - 1);
         if first == (operator == 4) {
             return first == even;
         }
         // The second operand begins where the first one ends.
-        let n = sizes[rest.len() / 2 - 2];
-        rest = &rest[2 * n + 2..];
+        at = at - 1 - size_in(word);
     }
-    let last = judge(labels, left, right, sizes, run, len, rest);
+    let last = judge(labels, grids, code, run, len, at);
     last == even
 }
 
-// The same for true, false and the modalities.
-fn judge<'a>(
+// The same for an operand: true, false and the forward modalities need no loop.
+fn operand(
     labels: Labels,
-    left: &'a [u8; 1088],
-    right: &'a [u8; 1088],
-    sizes: &[usize; 4096],
+    grids: &[u8; 2176],
+    code: &[u16; 4097],
     run: &mut [u8; 614],
     len: usize,
-    f: &[u8],
+    at: usize,
 ) -> bool
-    requires { ⌜ Grids (now left) (now right) ⌝ }
-    requires { ⌜ Ready labels (now sizes) (now run) len 0 (now f) ⌝ }
-    requires { ⌜ isConnective (getD (now f) 0 0) ≡ false ⌝ }
-    ensures { λ r. ⌜ r ≡ judged labels (now (left .entry)) (now (right .entry))
-        (treeOf (now (f .entry))) (jointOf (take len (now (run .entry)))) ⌝ }
+    requires { ⌜ TwoGrids (now grids) ⌝ }
+    requires { ⌜ Ready labels (now code) (now run) len 0 at ⌝ }
+    ensures { λ r. ⌜ r ≡ judgedBy labels (now (grids .entry)) (treeAt (now (code .entry)) at)
+        (jointOf (take len (now (run .entry)))) ⌝ }
     ensures { λ r. ⌜ now (run .exit) ≡ now (run .entry) ⌝ }
 {
-    let operator = f[0];
+    let operator = operator_in(code[at]);
     if operator == 0 {
         return true;
     }
     if operator == 1 {
         return false;
     }
-    modal(labels, left, right, sizes, run, len, f)
+    if is_forward(operator) {
+        return ahead(labels, grids, code, run, len, at);
+    }
+    holds(labels, grids, code, run, len, at)
 }
 
-// The same for a modality.
-fn modal<'a>(
+// The same for true, false and the forward modalities alone.
+fn judge(
     labels: Labels,
-    left: &'a [u8; 1088],
-    right: &'a [u8; 1088],
-    sizes: &[usize; 4096],
+    grids: &[u8; 2176],
+    code: &[u16; 4097],
     run: &mut [u8; 614],
     len: usize,
-    f: &[u8],
+    at: usize,
 ) -> bool
-    requires { ⌜ Grids (now left) (now right) ⌝ }
-    requires { ⌜ Ready labels (now sizes) (now run) len 0 (now f) ⌝ }
-    requires { ⌜ isModality (getD (now f) 0 0) ≡ true ⌝ }
-    ensures { λ r. ⌜ r ≡ judged labels (now (left .entry)) (now (right .entry))
-        (treeOf (now (f .entry))) (jointOf (take len (now (run .entry)))) ⌝ }
+    requires { ⌜ TwoGrids (now grids) ⌝ }
+    requires { ⌜ Ready labels (now code) (now run) len 0 at ⌝ }
+    requires { ⌜ (isConnective (operatorIn (getD (now code) at 0)) || isBack (operatorIn (getD (now code) at 0)))
+        ≡ false ⌝ }
+    ensures { λ r. ⌜ r ≡ judgedBy labels (now (grids .entry)) (treeAt (now (code .entry)) at)
+        (jointOf (take len (now (run .entry)))) ⌝ }
     ensures { λ r. ⌜ now (run .exit) ≡ now (run .entry) ⌝ }
 {
-    let operator = f[0];
-    let body = &f[2..];
-    if operator == 5 {
-        return forward(labels, left, right, sizes, run, len, Label(f[1]), body);
+    let operator = operator_in(code[at]);
+    if operator == 0 {
+        return true;
     }
-    if operator == 7 {
-        return stay(labels, left, right, sizes, run, len, body);
-    }
-    if len < 5 {
-        return false;
-    }
-    // False held at no point before.
-    let first = body[0];
-    if first == 1 {
-        return false;
-    }
-    if !back_fits(operator, f[1], last_step(run, len)) {
-        return false;
-    }
-    holds(labels, left, right, sizes, run, len - 3, body)
-}
-
-// Does f hold after one of the real steps of this label: the left alone, the right alone, or a handshake?
-fn forward<'a>(
-    labels: Labels,
-    left: &'a [u8; 1088],
-    right: &'a [u8; 1088],
-    sizes: &[usize; 4096],
-    run: &mut [u8; 614],
-    len: usize,
-    label: Label,
-    f: &[u8],
-) -> bool
-    requires { ⌜ Grids (now left) (now right) ⌝ }
-    requires { ⌜ Ready labels (now sizes) (now run) len 1 (now f) ⌝ }
-    requires { ⌜ Shown (label .0) ⌝ }
-    ensures { λ r. ⌜ r ≡ judged labels (now (left .entry)) (now (right .entry))
-        (fwd (label .0) (treeOf (now (f .entry)))) (jointOf (take len (now (run .entry)))) ⌝ }
-    ensures { λ r. ⌜ now (run .exit) ≡ now (run .entry) ⌝ }
-{
-    // False holds after no step.
-    let operator = f[0];
     if operator == 1 {
         return false;
     }
-    if try_left(labels, left, right, sizes, run, len, label, f) {
+    ahead(labels, grids, code, run, len, at)
+}
+
+// The same for a forward modality.
+fn ahead(
+    labels: Labels,
+    grids: &[u8; 2176],
+    code: &[u16; 4097],
+    run: &mut [u8; 614],
+    len: usize,
+    at: usize,
+) -> bool
+    requires { ⌜ TwoGrids (now grids) ⌝ }
+    requires { ⌜ Ready labels (now code) (now run) len 0 at ⌝ }
+    requires { ⌜ isForward (operatorIn (getD (now code) at 0)) ≡ true ⌝ }
+    ensures { λ r. ⌜ r ≡ judgedBy labels (now (grids .entry)) (treeAt (now (code .entry)) at)
+        (jointOf (take len (now (run .entry)))) ⌝ }
+    ensures { λ r. ⌜ now (run .exit) ≡ now (run .entry) ⌝ }
+{
+    let word = code[at];
+    if operator_in(word) == 7 {
+        return stay(labels, grids, code, run, len, at - 1);
+    }
+    forward(labels, grids, code, run, len, Label(label_in(word)), at - 1)
+}
+
+// Does the tree at `at` hold after one of the real steps of this label: left alone, right alone, or a handshake?
+fn forward(
+    labels: Labels,
+    grids: &[u8; 2176],
+    code: &[u16; 4097],
+    run: &mut [u8; 614],
+    len: usize,
+    label: Label,
+    at: usize,
+) -> bool
+    requires { ⌜ TwoGrids (now grids) ⌝ }
+    requires { ⌜ Ready labels (now code) (now run) len 1 at ⌝ }
+    requires { ⌜ Shown (label .0) ⌝ }
+    ensures { λ r. ⌜ r ≡ judgedBy labels (now (grids .entry)) (fwd (label .0) (treeAt (now (code .entry)) at))
+        (jointOf (take len (now (run .entry)))) ⌝ }
+    ensures { λ r. ⌜ now (run .exit) ≡ now (run .entry) ⌝ }
+{
+    // What fails everywhere holds after no step.
+    if fails_everywhere(code, at) {
+        return false;
+    }
+    if try_left(labels, grids, code, run, len, label, at) {
         return true;
     }
-    if try_right(labels, left, right, sizes, run, len, label, f) {
+    if try_right(labels, grids, code, run, len, label, at) {
         return true;
     }
     if !label.is_silent() {
         return false;
     }
-    try_both(labels, left, right, sizes, run, len, f)
+    try_both(labels, grids, code, run, len, at)
 }
 
-// Does f hold after one of the left's steps alone of this label?
-fn try_left<'a>(
+// Does it hold after one of the left's steps alone of this label?
+fn try_left(
     labels: Labels,
-    left: &'a [u8; 1088],
-    right: &'a [u8; 1088],
-    sizes: &[usize; 4096],
+    grids: &[u8; 2176],
+    code: &[u16; 4097],
     run: &mut [u8; 614],
     len: usize,
     label: Label,
-    f: &[u8],
+    at: usize,
 ) -> bool
-    requires { ⌜ Grids (now left) (now right) ⌝ }
-    requires { ⌜ Ready labels (now sizes) (now run) len 1 (now f) ⌝ }
+    requires { ⌜ TwoGrids (now grids) ⌝ }
+    requires { ⌜ Ready labels (now code) (now run) len 1 at ⌝ }
     requires { ⌜ Shown (label .0) ⌝ }
-    ensures { λ r. ⌜ r ≡ tried (λ (p : ℕ).
-        judged labels (now (left .entry)) (now (right .entry)) (treeOf (now (f .entry)))
+    ensures { λ r. ⌜ r ≡ tried (λ (p : ℕ). judgedBy labels (now (grids .entry)) (treeAt (now (code .entry)) at)
         (jointOf (take len (now (run .entry))) ▸ stepOf (label .0) (p, getD (now (run .entry)) (len - 1) 0)))
-        (label .0) (gridOf (now (left .entry)) (getD (now (run .entry)) (len - 2) 0)) ⌝ }
+        (label .0) (gridOf (leftIn (now (grids .entry))) (getD (now (run .entry)) (len - 2) 0)) ⌝ }
     ensures { λ r. ⌜ now (run .exit) ≡ now (run .entry) ⌝ }
 {
-    let rows = rows_from(left, run[len - 2]);
-    let moves = Moves {
+    let rows = rows_from(grids, Mover::Left, run[len - 2]);
+    let trial = Trial {
         rows,
         wanted: label,
         mover: Mover::Left,
-    };
-    let trial = Trial {
-        moves,
         shown: label,
         other: run[len - 1],
     };
-    try_moves(labels, left, right, sizes, run, len, trial, f)
+    try_moves(labels, grids, code, run, len, trial, at)
 }
 
-// Does f hold after one of the right's steps alone of this label?
-fn try_right<'a>(
+// Does it hold after one of the right's steps alone of this label?
+fn try_right(
     labels: Labels,
-    left: &'a [u8; 1088],
-    right: &'a [u8; 1088],
-    sizes: &[usize; 4096],
+    grids: &[u8; 2176],
+    code: &[u16; 4097],
     run: &mut [u8; 614],
     len: usize,
     label: Label,
-    f: &[u8],
+    at: usize,
 ) -> bool
-    requires { ⌜ Grids (now left) (now right) ⌝ }
-    requires { ⌜ Ready labels (now sizes) (now run) len 1 (now f) ⌝ }
+    requires { ⌜ TwoGrids (now grids) ⌝ }
+    requires { ⌜ Ready labels (now code) (now run) len 1 at ⌝ }
     requires { ⌜ Shown (label .0) ⌝ }
-    ensures { λ r. ⌜ r ≡ tried (λ (q : ℕ).
-        judged labels (now (left .entry)) (now (right .entry)) (treeOf (now (f .entry)))
+    ensures { λ r. ⌜ r ≡ tried (λ (q : ℕ). judgedBy labels (now (grids .entry)) (treeAt (now (code .entry)) at)
         (jointOf (take len (now (run .entry))) ▸ stepOf (label .0) (getD (now (run .entry)) (len - 2) 0, q)))
-        (label .0) (gridOf (now (right .entry)) (getD (now (run .entry)) (len - 1) 0)) ⌝ }
+        (label .0) (gridOf (rightIn (now (grids .entry))) (getD (now (run .entry)) (len - 1) 0)) ⌝ }
     ensures { λ r. ⌜ now (run .exit) ≡ now (run .entry) ⌝ }
 {
-    let rows = rows_from(right, run[len - 1]);
-    let moves = Moves {
+    let rows = rows_from(grids, Mover::Right, run[len - 1]);
+    let trial = Trial {
         rows,
         wanted: label,
         mover: Mover::Right,
-    };
-    let trial = Trial {
-        moves,
         shown: label,
         other: run[len - 2],
     };
-    try_moves(labels, left, right, sizes, run, len, trial, f)
+    try_moves(labels, grids, code, run, len, trial, at)
 }
 
-// Does f hold after one of the handshakes from the last states?
-fn try_both<'a>(
+// Does it hold after one of the handshakes from the last states?
+fn try_both(
     labels: Labels,
-    left: &'a [u8; 1088],
-    right: &'a [u8; 1088],
-    sizes: &[usize; 4096],
+    grids: &[u8; 2176],
+    code: &[u16; 4097],
     run: &mut [u8; 614],
     len: usize,
-    f: &[u8],
+    at: usize,
 ) -> bool
-    requires { ⌜ Grids (now left) (now right) ⌝ }
-    requires { ⌜ Ready labels (now sizes) (now run) len 1 (now f) ⌝ }
+    requires { ⌜ TwoGrids (now grids) ⌝ }
+    requires { ⌜ Ready labels (now code) (now run) len 1 at ⌝ }
     ensures { λ r. ⌜ r ≡ shaken (pairing labels) (λ (p q : ℕ).
-        judged labels (now (left .entry)) (now (right .entry)) (treeOf (now (f .entry)))
+        judgedBy labels (now (grids .entry)) (treeAt (now (code .entry)) at)
         (jointOf (take len (now (run .entry))) ▸ stepOf 0 (p, q)))
-        (gridOf (now (left .entry)) (getD (now (run .entry)) (len - 2) 0))
-        (gridOf (now (right .entry)) (getD (now (run .entry)) (len - 1) 0)) ⌝ }
+        (gridOf (leftIn (now (grids .entry))) (getD (now (run .entry)) (len - 2) 0))
+        (gridOf (rightIn (now (grids .entry))) (getD (now (run .entry)) (len - 1) 0)) ⌝ }
     ensures { λ r. ⌜ now (run .exit) ≡ now (run .entry) ⌝ }
 {
-    let rows = rows_from(left, run[len - 2]);
-    try_handshakes(labels, left, right, sizes, run, len, rows, f)
+    let rows = rows_from(grids, Mover::Left, run[len - 2]);
+    try_handshakes(labels, grids, code, run, len, rows, at)
 }
 
-// Does f hold after one of the handshakes of these rows of the left?
-fn try_handshakes<'a>(
+// Does it hold after one of the handshakes of these rows of the left?
+fn try_handshakes(
     labels: Labels,
-    left: &'a [u8; 1088],
-    right: &'a [u8; 1088],
-    sizes: &[usize; 4096],
+    grids: &[u8; 2176],
+    code: &[u16; 4097],
     run: &mut [u8; 614],
     len: usize,
     rows: Rows,
-    f: &[u8],
+    at: usize,
 ) -> bool
-    requires { ⌜ Grids (now left) (now right) ⌝ }
-    requires { ⌜ Ready labels (now sizes) (now run) len 1 (now f) ⌝ }
-    requires { ⌜ Within (rows .at) (rows .count) ⌝ }
+    requires { ⌜ TwoGrids (now grids) ⌝ }
+    requires { ⌜ Ready labels (now code) (now run) len 1 at ⌝ }
+    requires { ⌜ Inside (rows .at) (rows .count) ⌝ }
     ensures { λ r. ⌜ r ≡ shaken (pairing labels) (λ (p q : ℕ).
-        judged labels (now (left .entry)) (now (right .entry)) (treeOf (now (f .entry)))
+        judgedBy labels (now (grids .entry)) (treeAt (now (code .entry)) at)
         (jointOf (take len (now (run .entry))) ▸ stepOf 0 (p, q)))
-        (pairsIn (rows .count) (drop (rows .at) (now (left .entry))))
-        (gridOf (now (right .entry)) (getD (now (run .entry)) (len - 1) 0)) ⌝ }
+        (pairsIn (rows .count) (drop (rows .at) (now (grids .entry))))
+        (gridOf (rightIn (now (grids .entry))) (getD (now (run .entry)) (len - 1) 0)) ⌝ }
     ensures { λ r. ⌜ now (run .exit) ≡ now (run .entry) ⌝ }
 {
     if rows.count == 0 {
         return false;
     }
-    let at = rows.at;
+    let row = rows.at;
     let first = Move {
-        label: Label(left[at]),
-        target: left[at + 1],
+        label: Label(grids[row]),
+        target: grids[row + 1],
     };
-    if try_partner(labels, left, right, sizes, run, len, first, f) {
+    if try_partner(labels, grids, code, run, len, first, at) {
         return true;
     }
     let rest = Rows {
-        at: at + 2,
+        at: row + 2,
         count: rows.count - 1,
     };
-    try_handshakes(labels, left, right, sizes, run, len, rest, f)
+    try_handshakes(labels, grids, code, run, len, rest, at)
 }
 
-// Does f hold after one of the handshakes of this move of the left?
-fn try_partner<'a>(
+// Does it hold after one of the handshakes of this move of the left?
+fn try_partner(
     labels: Labels,
-    left: &'a [u8; 1088],
-    right: &'a [u8; 1088],
-    sizes: &[usize; 4096],
+    grids: &[u8; 2176],
+    code: &[u16; 4097],
     run: &mut [u8; 614],
     len: usize,
     first: Move,
-    f: &[u8],
+    at: usize,
 ) -> bool
-    requires { ⌜ Grids (now left) (now right) ⌝ }
-    requires { ⌜ Ready labels (now sizes) (now run) len 1 (now f) ⌝ }
+    requires { ⌜ TwoGrids (now grids) ⌝ }
+    requires { ⌜ Ready labels (now code) (now run) len 1 at ⌝ }
     ensures { λ r. ⌜ r ≡ present (λ (b : ℕ). tried (λ (q : ℕ).
-        judged labels (now (left .entry)) (now (right .entry)) (treeOf (now (f .entry)))
+        judgedBy labels (now (grids .entry)) (treeAt (now (code .entry)) at)
         (jointOf (take len (now (run .entry))) ▸ stepOf 0 (first .target, q)))
-        b (gridOf (now (right .entry)) (getD (now (run .entry)) (len - 1) 0)))
+        b (gridOf (rightIn (now (grids .entry))) (getD (now (run .entry)) (len - 1) 0)))
         (pairing labels .partner (first .label .0)) ⌝ }
     ensures { λ r. ⌜ now (run .exit) ≡ now (run .entry) ⌝ }
 {
     match labels.partner(first.label) {
         Partner::Label(partner) => {
-            let rows = rows_from(right, run[len - 1]);
-            let moves = Moves {
+            let rows = rows_from(grids, Mover::Right, run[len - 1]);
+            let trial = Trial {
                 rows,
                 wanted: partner,
                 mover: Mover::Right,
-            };
-            let trial = Trial {
-                moves,
                 shown: Label::SILENT,
                 other: first.target,
             };
-            try_moves(labels, left, right, sizes, run, len, trial, f)
+            try_moves(labels, grids, code, run, len, trial, at)
         }
         Partner::Nobody => false,
     }
 }
 
-// Does f hold after one of the steps of a trial? What they have in common is written once. The buffer is as before
-// when this returns.
-fn try_moves<'a>(
+// Does it hold after one of the steps of a trial? What they have in common is written once, and only if there is one.
+// The buffer is as before when this returns.
+fn try_moves(
     labels: Labels,
-    left: &'a [u8; 1088],
-    right: &'a [u8; 1088],
-    sizes: &[usize; 4096],
+    grids: &[u8; 2176],
+    code: &[u16; 4097],
     run: &mut [u8; 614],
     len: usize,
     trial: Trial,
-    f: &[u8],
+    at: usize,
 ) -> bool
-    requires { ⌜ Grids (now left) (now right) ⌝ }
-    requires { ⌜ Ready labels (now sizes) (now run) len 1 (now f) ⌝ }
-    requires { ⌜ Within (trial .moves .rows .at) (trial .moves .rows .count)
-        × (trial .moves .rows .count ≤ 8) × Shown (trial .shown .0) ⌝ }
-    ensures { λ r. ⌜ r ≡ tried (λ (to : ℕ).
-        judged labels (now (left .entry)) (now (right .entry)) (treeOf (now (f .entry)))
+    requires { ⌜ TwoGrids (now grids) ⌝ }
+    requires { ⌜ Ready labels (now code) (now run) len 1 at ⌝ }
+    requires { ⌜ Inside (trial .rows .at) (trial .rows .count) × (trial .rows .count ≤ 8) × Shown (trial .shown .0) ⌝ }
+    ensures { λ r. ⌜ r ≡ tried (λ (to : ℕ). judgedBy labels (now (grids .entry)) (treeAt (now (code .entry)) at)
         (jointOf (take len (now (run .entry)))
-        ▸ stepOf (trial .shown .0) (targetsOf (trial .moves .mover) to (trial .other))))
-        (trial .moves .wanted .0) (pairsIn (trial .moves .rows .count) (drop (trial .moves .rows .at)
-        (gridBy (trial .moves .mover) (now (left .entry)) (now (right .entry))))) ⌝ }
+        ▸ stepOf (trial .shown .0) (targetsOf (trial .mover) to (trial .other))))
+        (trial .wanted .0) (pairsIn (trial .rows .count) (drop (trial .rows .at) (now (grids .entry)))) ⌝ }
     ensures { λ r. ⌜ now (run .exit) ≡ now (run .entry) ⌝ }
 {
+    let rows = wanted_rows(grids, trial.rows, trial.wanted);
+    if rows.count == 0 {
+        return false;
+    }
     let a = run[len];
     let b = run[len + 1];
     let c = run[len + 2];
@@ -383,77 +390,69 @@ fn try_moves<'a>(
     run[len] = shown.0;
     run[len + 1] = trial.other;
     run[len + 2] = trial.other;
-    let held = try_rows(labels, left, right, sizes, run, len, trial.moves, f);
+    let mover = trial.mover;
+    let place = place_by(mover, len);
+    let held = try_rows(labels, grids, code, run, len, rows, trial.wanted, place, at);
     run[len] = a;
     run[len + 1] = b;
     run[len + 2] = c;
     held
 }
 
-// Does f hold after one of these moves? All of the step but the mover's state stands behind the run.
-fn try_rows<'a>(
+// Does it hold after one of these moves, the first of which has the wanted label? All of the step but the mover's state
+// stands behind the run; that one is written at `place`.
+fn try_rows(
     labels: Labels,
-    left: &'a [u8; 1088],
-    right: &'a [u8; 1088],
-    sizes: &[usize; 4096],
+    grids: &[u8; 2176],
+    code: &[u16; 4097],
     run: &mut [u8; 614],
     len: usize,
-    moves: Moves,
-    f: &[u8],
+    rows: Rows,
+    wanted: Label,
+    place: usize,
+    at: usize,
 ) -> bool
-    requires { ⌜ Grids (now left) (now right) ⌝ }
-    requires { ⌜ Ready labels (now sizes) (now run) len 1 (now f) ⌝ }
-    requires { ⌜ Within (moves .rows .at) (moves .rows .count)
-        × (moves .rows .count ≤ 8) × Shown (getD (now run) len 0) ⌝ }
-    ensures { λ r. ⌜ r ≡ tried (λ (to : ℕ).
-        judged labels (now (left .entry)) (now (right .entry)) (treeOf (now (f .entry)))
-        (jointOf (take (len + 3) (set (now (run .entry)) (placeOf (moves .mover) len) to))))
-        (moves .wanted .0) (pairsIn (moves .rows .count) (drop (moves .rows .at)
-        (gridBy (moves .mover) (now (left .entry)) (now (right .entry))))) ⌝ }
+    requires { ⌜ TwoGrids (now grids) ⌝ }
+    requires { ⌜ Ready labels (now code) (now run) len 1 at ⌝ }
+    requires { ⌜ Inside (rows .at) (rows .count) × (1 ≤ rows .count) × (rows .count ≤ 8)
+        × (getD (now grids) (rows .at) 0 ≡ wanted .0) ⌝ }
+    requires { ⌜ Placed place len × Shown (getD (now run) len 0) ⌝ }
+    ensures { λ r. ⌜ r ≡ tried (λ (to : ℕ). judgedBy labels (now (grids .entry)) (treeAt (now (code .entry)) at)
+        (jointOf (take (len + 3) (set (now (run .entry)) place to))))
+        (wanted .0) (pairsIn (rows .count) (drop (rows .at) (now (grids .entry)))) ⌝ }
     ensures { λ r. ⌜ now (run .exit) ≡ now (run .entry) ⌝ }
 {
-    let mover = moves.mover;
-    let rows = moves.rows;
-    let wanted = moves.wanted;
-    let grid = grid_by(left, right, mover);
-    let before = rows_before(grid, rows, wanted);
-    if rows.count <= before {
-        return false;
-    }
-    let here = rows.at + 2 * before;
-    let place = place_by(mover, len);
+    let row = rows.at;
     let kept = run[place];
-    run[place] = grid[here + 1];
-    let held = holds(labels, left, right, sizes, run, len + 3, f);
+    run[place] = grids[row + 1];
+    let held = operand(labels, grids, code, run, len + 3, at);
     run[place] = kept;
     if held {
         return true;
     }
-    let rows = Rows {
-        at: here + 2,
-        count: rows.count - before - 1,
+    let behind = Rows {
+        at: row + 2,
+        count: rows.count - 1,
     };
-    let rest = Moves {
-        rows,
-        wanted,
-        mover,
-    };
-    try_rows(labels, left, right, sizes, run, len, rest, f)
+    let rest = wanted_rows(grids, behind, wanted);
+    if rest.count == 0 {
+        return false;
+    }
+    try_rows(labels, grids, code, run, len, rest, wanted, place, at)
 }
 
-// Does f hold on the run with an idle more? The buffer is as before when this returns.
-fn stay<'a>(
+// Does it hold on the run with an idle more? The buffer is as before when this returns.
+fn stay(
     labels: Labels,
-    left: &'a [u8; 1088],
-    right: &'a [u8; 1088],
-    sizes: &[usize; 4096],
+    grids: &[u8; 2176],
+    code: &[u16; 4097],
     run: &mut [u8; 614],
     len: usize,
-    f: &[u8],
+    at: usize,
 ) -> bool
-    requires { ⌜ Grids (now left) (now right) ⌝ }
-    requires { ⌜ Ready labels (now sizes) (now run) len 1 (now f) ⌝ }
-    ensures { λ r. ⌜ r ≡ judged labels (now (left .entry)) (now (right .entry)) (treeOf (now (f .entry)))
+    requires { ⌜ TwoGrids (now grids) ⌝ }
+    requires { ⌜ Ready labels (now code) (now run) len 1 at ⌝ }
+    ensures { λ r. ⌜ r ≡ judgedBy labels (now (grids .entry)) (treeAt (now (code .entry)) at)
         (jointOf (take len (now (run .entry)))
         ▸ stepOf 255 (getD (now (run .entry)) (len - 2) 0, getD (now (run .entry)) (len - 1) 0)) ⌝ }
     ensures { λ r. ⌜ now (run .exit) ≡ now (run .entry) ⌝ }
@@ -466,7 +465,7 @@ fn stay<'a>(
     run[len] = Label::IDLE.0;
     run[len + 1] = p;
     run[len + 2] = q;
-    let held = holds(labels, left, right, sizes, run, len + 3, f);
+    let held = holds(labels, grids, code, run, len + 3, at);
     run[len] = x;
     run[len + 1] = y;
     run[len + 2] = z;

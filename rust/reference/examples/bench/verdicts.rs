@@ -98,7 +98,8 @@ fn dense_pair(left: [u8; 8], right: [u8; 8]) -> Pair {
     Pair::new(4, &left, &right, &run)
 }
 
-/// Nested forward modalities on machines of 64 states and 512 rows each; the operand fails, so all is searched.
+/// Nested forward modalities on machines of 64 states and 512 rows each. Over false, or true under "not", the innermost
+/// one fails at once; over what looks back, all is searched.
 fn ahead_joint() -> Vec<Bench> {
     let two_pairs = [1, 1, 1, 1, 2, 2, 2, 2];
     let mut over_all = TRUE.to_vec();
@@ -130,6 +131,21 @@ fn ahead_joint() -> Vec<Bench> {
         dense_pair([1; 8], [1; 8]).bench(
             "4 nested not forward by 1 not, over true, 16 rows from each state",
             &over_all,
+            0,
+        ),
+        dense_pair([1; 8], [1; 8]).bench(
+            "4 nested forward by 1 over back by 2 over true, 16 rows from each state",
+            &times(4, [5, 1], &[6, 2, 0, 0]),
+            0,
+        ),
+        dense_pair([1; 8], [1; 8]).bench(
+            "4 nested not forward by 1 not, over back by 1 over true, 16 rows from each state",
+            &[&over_all[..over_all.len() - 2], &[6, 1, 0, 0]].concat(),
+            0,
+        ),
+        dense_pair([1; 8], [1; 8]).bench(
+            "3 nested forward by 1 over back by 1, true, and forward by 2, true, 16 rows from each state",
+            &times(3, [5, 1], &[3, 0, 6, 1, 0, 0, 5, 2, 0, 0]),
             0,
         ),
         dense_pair(eight, eight).bench(
@@ -173,6 +189,11 @@ fn ahead_half() -> Vec<Bench> {
         single([1; 8]).bench(
             "4 nested forward by 1 over false, 8 rows from each state",
             &times(4, [5, 1], &FALSE),
+            0,
+        ),
+        single([1; 8]).bench(
+            "4 nested forward by 1 over back by 2 over true, 8 rows from each state",
+            &times(4, [5, 1], &[6, 2, 0, 0]),
             0,
         ),
         single([0; 8]).bench(

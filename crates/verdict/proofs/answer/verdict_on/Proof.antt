@@ -1,60 +1,48 @@
--- The rows of each state and the sizes of the trees, then the verdict.
+-- The formula's words, the rows of each state, then the verdict.
 use borrow.Author.Needs.{needs}
 use Rattle.verdict.proofs.answer.verdict_on.Statement.{statement}
 use Rattle.verdict.proofs.answer.verdict_on.Tie as tie
-use mathlib.Core.Path.{refl}
-use Rattle.verdict.proofs.Calls.{legal-ready, legal-holds, legal-fails}
+use Prim.Native.Nat.{ℕ}
+use lib.ListN.{length-replicate}
+use Rattle.verdict.proofs.Calls.{legal-whole, legal-ready, legal-holds, legal-fails}
 
-rows-by-state-requires : tie.Need-rows-by-state-requires
-rows-by-state-requires c κs = search needs
+coded-requires : tie.Need-coded-requires
+coded-requires c κs =
+    let s = c .before .before .before .before in (legal-whole _ _ (s .pre .1 .1), length-replicate {A = ℕ} 4097 0)
 
-rows-by-state-requires-2 : tie.Need-rows-by-state-requires-2
-rows-by-state-requires-2 c κs = search needs
-
-slice-aggregate-tree-sizes : tie.Need-slice-aggregate-tree-sizes
-slice-aggregate-tree-sizes c = search needs
-
-tree-sizes-requires : tie.Need-tree-sizes-requires
-tree-sizes-requires c κs = search needs
+look-up-requires : tie.Need-look-up-requires
+look-up-requires c κs = search needs
 
 holds-requires : tie.Need-holds-requires
 holds-requires c κs =
-    let t = c .before .before .before .before .before in
-    let r = t .before .before in
-    let l = r .before .before in
-    let s = l .before .before .before .before .before in
-    let run = s .pre .1 .0 in
-    let ready = legal-ready _ _ (s .pre .1 .1) _ _ _ refl (run .2) (run .0) (run .1) in (
-      record { left = l .rows-by-state .ensures .0; right = r .rows-by-state2 .ensures .0 },
-      rw (t .tree-sizes .ensures) ready,
+    let u = c .before .before .before in
+    let w = u .before .before in
+    let s = w .before .before .before .before .before in
+    let run = s .pre .1 .0 in (
+      u .look-up .ensures .0,
+      legal-ready _ _ (s .pre .1 .1) _ _ _ (w .coded .ensures .0) (run .2) (run .0) (run .1),
     )
 
 returns : tie.Need-returns
 returns c =
     let h = c .before in
-    let r = h .before .before .before .before .before .before .before .before in
-    let l = r .before .before in
-    let s = l .before .before .before .before .before in
-    legal-holds _ _ (s .pre .1 .1) _ _ _ _ _ (l .rows-by-state .ensures .1) (r .rows-by-state2 .ensures .1) _ _
+    let u = h .before .before .before .before in
+    let w = u .before .before in
+    let s = w .before .before .before .before .before in
+    let same = rw (w .coded .ensures .1) at (u .look-up .ensures .1) in
+    legal-holds _ _ (s .pre .1 .1) _ _ _ (u .look-up .last .1 .1 .1 .1 .0) _ (w .coded .ensures .0) same _ _
     (h .holds .ensures .0) (c .if1 .taken)
 
 returns-2 : tie.Need-returns-2
 returns-2 c =
     let h = c .before in
-    let r = h .before .before .before .before .before .before .before .before in
-    let l = r .before .before in
-    let s = l .before .before .before .before .before in
-    legal-fails _ _ (s .pre .1 .1) _ _ _ _ _ (l .rows-by-state .ensures .1) (r .rows-by-state2 .ensures .1) _ _
+    let u = h .before .before .before .before in
+    let w = u .before .before in
+    let s = w .before .before .before .before .before in
+    let same = rw (w .coded .ensures .1) at (u .look-up .ensures .1) in
+    legal-fails _ _ (s .pre .1 .1) _ _ _ (u .look-up .last .1 .1 .1 .1 .0) _ (w .coded .ensures .0) same _ _
     (h .holds .ensures .0) (c .if1 .left)
 
 pub verdict-on-spec : {M : Type 1} → statement M
 verdict-on-spec =
-    tie.close
-    (tie.spec
-    rows-by-state-requires
-    rows-by-state-requires-2
-    slice-aggregate-tree-sizes
-    tree-sizes-requires
-    holds-requires
-    returns
-    returns-2)
+    tie.close (tie.spec coded-requires look-up-requires holds-requires returns returns-2)

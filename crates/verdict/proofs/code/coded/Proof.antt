@@ -1,0 +1,16 @@
+-- The sizes are there when the words are written.
+use borrow.Author.Needs.{needs}
+use Rattle.verdict.proofs.code.coded.Statement.{statement}
+use Rattle.verdict.proofs.code.coded.Tie as tie
+
+write-sizes-requires : tie.Need-write-sizes-requires
+write-sizes-requires c κs = search needs
+
+write-words-requires : tie.Need-write-words-requires
+write-words-requires c κs = (c .before .before .before .before .pre .0, c .before .write-sizes .ensures .0)
+
+returns : tie.Need-returns
+returns c = search needs
+
+pub coded-spec : {M : Type 1} → statement M
+coded-spec = tie.close (tie.spec write-sizes-requires write-words-requires returns)
