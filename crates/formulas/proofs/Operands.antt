@@ -9,7 +9,7 @@ use native.Mathlib.Omega.{arith}
 use lib.ListN.{length, getD, drop, length-drop}
 use lib.Seq.{drop-drop}
 use lib.Dec.{eqb, ltb, leb}
-use borrow.Author.Tests.{ne-eqb, le-ltb}
+use borrow.Author.Tests.{le-ltb}
 use Rattle.hml.proofs.Tests.{both-true, decides, decided-or, decided-same}
 use Rattle.hml.specs.Lists.{present}
 use Rattle.labels.specs.Labels.{count}
@@ -21,7 +21,7 @@ use Rattle.formulas.specs.Operators.{isConnective}
 use Rattle.formulas.specs.Working.{nodeBy, nodeOf, Tree, treeOf, Part, treeSize, sizesOver}
 use Rattle.formulas.specs.Formulas.{Legal}
 use Rattle.formulas.proofs.Measures.{size-some}
-use Rattle.formulas.proofs.OperatorTable.{forward-numbers, connective-numbers, operator-numbers}
+use Rattle.formulas.proofs.OperatorTable.{connective-numbers, operator-numbers}
 use Rattle.formulas.proofs.Operators.{Unary, Binary, at, tree-spell, node-room, ForwardTree, BackTree}
 use Rattle.formulas.proofs.Operators.{forward-label, forward-idle, back-label, back-idle}
 use Rattle.formulas.proofs.Operators.{forward-tree, back-tree}
@@ -183,10 +183,6 @@ module _ (f : List ℕ) (t : Tree f) where
 pub back-operator : (o : ℕ) → isModality o ≡ true → isForward o ≡ false → isBack o ≡ true
 unfolding isModality
 back-operator o e n = rw n at e
-
--- an operator that is neither of the two that look forward
-pub no-forward : (o : ℕ) → (o ≡ 5 → ⊥) → (o ≡ 7 → ⊥) → isForward o ≡ false
-no-forward o a b = forward-numbers o ∙ rw (ne-eqb o 5 a, ne-eqb o 7 b)
 
 -- a connective is "not", or has two operands
 pub connectives : (o : ℕ) → isConnective o ≡ true → (o ≡ 2) ⊎ AndOr o

@@ -23,6 +23,8 @@ pub mod NewestSteps
 pub mod Line
 -- a machine beside one that never moves: the verdict on its run is the joint one
 pub mod Alone
+-- formulas that look at no longer run
+pub mod Past
 -- formulas as bytes
 pub mod Spelling
 -- the published case that stops an edit which no theorem here stops

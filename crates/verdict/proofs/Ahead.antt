@@ -1,12 +1,12 @@
 -- A forward modality by a label: the rows of the left, the rows of the right, and for label 0 each handshake.
-use Prim.Native.Nat.{ℕ, zero, suc, _+_, _-_, _*_, _≤_, _<_}
+use Prim.Native.Nat.{ℕ, zero, suc, _+_, _-_}
 use mathlib.Core.Path.{_≡_, refl, sym, _∙_, ap, ap₂}
-use mathlib.Core.Bool.{Bool, true, false, cond, _&&_, _||_, and-false}
-use mathlib.Core.List.{List, [], _∷_}
+use mathlib.Core.Bool.{Bool, true, false, _&&_, _||_, and-false}
+use mathlib.Core.List.{List}
 use mathlib.Core.Option.{Option, none, some}
 use native.Mathlib.Omega.{arith}
 use native.Mathlib.Nat.{add-zero}
-use lib.ListN.{length, getD, drop}
+use lib.ListN.{getD, drop}
 use lib.Seq.{getD-drop, drop-drop}
 use borrow.Author.Tests.{eq-eqb, ne-eqb, eqb-true}
 use Rattle.hml.specs.Lists.{same, any, present}
@@ -17,7 +17,6 @@ use Rattle.hml.specs.Formula.{Formula, fwd, holds}
 use Rattle.hml.specs.Compose.{shakes, beside}
 use Rattle.hml.proofs.Composition.{decided-shakes, beside-composed, Composed}
 use Rattle.labels.specs.Labels.{partnerFound, pairing}
-use Rattle.labels.specs.declared.label.Label.{Label}
 use Rattle.labels.specs.declared.label.Labels.{Labels}
 use Rattle.labels.specs.declared.label.Partner.the-variants as partner
 use Rattle.labels.proofs.Labels.{found-some, found-none}
@@ -89,6 +88,17 @@ shown-step : (a : ℕ) (u : ℕ × ℕ) → Shown a → stepOf a u ≡ move a u
 unfolding stepOf
 shown-step a u n = rw (ne-eqb a 255 n)
 
+-- what holds nowhere holds after no step
+pub forward-none : (labels : Labels) (l r : List ℕ) (φ : Formula) (j : Run (ℕ × ℕ)) (a : ℕ)
+    → ((i : Run (ℕ × ℕ)) → false ≡ judged labels l r φ i) → false ≡ judged labels l r (fwd a φ) j
+unfolding judged holds
+forward-none labels l r φ j a never =
+    let steps = beside (pairing labels) (gridOf l) (gridOf r) (last j) in
+    sym (any-cong (λ (m : ℕ × (ℕ × ℕ)). fails (m .0) (m .1)) steps ∙ any-false steps)
+  where
+    fails : (c : ℕ) (u : ℕ × ℕ) → (same c a && judged labels l r φ (j ▸ move c u)) ≡ false
+    fails c u = ap (same c a &&_) (sym (never (j ▸ move c u))) ∙ and-false (same c a)
+
 module _
     (labels : Labels) (l r : List ℕ) (φ : Formula) (j : Run (ℕ × ℕ)) (a p q : ℕ)
     (shown : Shown a) (ends : last j ≡ (p, q)) where
@@ -135,16 +145,6 @@ module _
       ∙ beside-composed (pairing labels) (gridOf l) (gridOf r) here p q
       ∙ ap₂ (λ x y. x || y) (alone-tried (λ x. (x, q)) (gridOf l p))
       (ap₂ (λ x y. x || y) (alone-tried (λ y. (p, y)) (gridOf r q)) handshakes-shaken)
-
-  -- what holds after no step
-  pub forward-none : ((i : Run (ℕ × ℕ)) → false ≡ judged labels l r φ i) → false ≡ judged labels l r (fwd a φ) j
-  unfolding judged holds
-  forward-none never =
-      let steps = beside (pairing labels) (gridOf l) (gridOf r) (last j) in
-      sym (any-cong (λ (m : ℕ × (ℕ × ℕ)). fails (m .0) (m .1)) steps ∙ any-false steps)
-    where
-      fails : (c : ℕ) (u : ℕ × ℕ) → (same c a && judged labels l r φ (j ▸ move c u)) ≡ false
-      fails c u = ap (same c a &&_) (sym (never (j ▸ move c u))) ∙ and-false (same c a)
 
   -- the cases of the search
   module _ (x : Bool) (px : x ≡ tried (λ s. after a s q) a (gridOf l p)) where

@@ -1,6 +1,6 @@
 -- What the checks of a call let through, and that its answer is then the verdict.
-use Prim.Native.Nat.{ℕ, _+_, _-_, _*_, _/_, _%_, _≤_, _<_}
-use mathlib.Core.Path.{_≡_, refl, sym, _∙_, ap, ap₂, fun-ext}
+use Prim.Native.Nat.{ℕ, _+_, _*_, _/_, _%_, _≤_, _<_}
+use mathlib.Core.Path.{_≡_, refl, sym, _∙_, ap, fun-ext}
 use mathlib.Core.Bool.{Bool, true, false, not}
 use mathlib.Core.List.{List, [], _∷_, _++_}
 use native.Mathlib.Omega.{arith}
@@ -12,14 +12,13 @@ use Rattle.hml.specs.Lists.{present}
 use Rattle.hml.specs.System.{Run, last, steps, stop}
 use Rattle.hml.specs.Formula.{Formula, size, nesting, holds}
 use Rattle.hml.specs.Machine.{machine}
-use Rattle.hml.specs.Compose.{beside}
 use Rattle.hml.proofs.Alone.{holds-alone}
 use Rattle.hml.proofs.Tests.{apart}
 use Rattle.labels.specs.Refusals.{thenOf, firstOf, refusedIf}
 use Rattle.labels.specs.Labels.{checkLabels, pairing}
 use Rattle.labels.specs.declared.label.Labels.{Labels}
 use Rattle.labels.specs.declared.refusal.Refusal.{Refusal}
-use Rattle.labels.specs.declared.refusal.Refusal.the-variants.{PointBeyond, NotARun}
+use Rattle.labels.specs.declared.refusal.Refusal.the-variants.{PointBeyond}
 use Rattle.labels.specs.declared.refusal.Check.{Check}
 use Rattle.labels.specs.declared.refusal.Check.the-variants.{Sound, Refused}
 use Rattle.labels.proofs.Slices.{copied}
@@ -40,8 +39,7 @@ use Rattle.formulas.proofs.ForwardCount.{nesting-forwards}
 use Rattle.formulas.proofs.Operands.{legal-nesting, legal-labels}
 use Rattle.verdict.specs.Verdicts.{jointHolds, halfHolds, checkJointCall, checkHalfCall, verdictOf, answered}
 use Rattle.verdict.specs.Verdicts.{jointVerdict, halfVerdict}
-use Rattle.verdict.specs.Working.{Ready, Coded, Whole, leftIn, rightIn, judged, judgedBy, treeAt, tablesHold}
-use Rattle.verdict.specs.Working.{besideStill}
+use Rattle.verdict.specs.Working.{Ready, Coded, Whole, judgedBy, treeAt, tablesHold, besideStill}
 use Rattle.verdict.specs.declared.answer.Verdict.{Verdict}
 use Rattle.verdict.specs.declared.answer.Verdict.the-variants as verdict
 use Rattle.verdict.proofs.Still.{still-read, still-length, still-take, still-ends}
@@ -74,7 +72,7 @@ module _ (k : Labels) (f : List ℕ) (legal : Legal k quotientLimit f) where
   unfolding Legal Tree
   one-tree = let (φ, e, s, l, d) = legal in (φ, [], e)
 
-  pub legal-few : length f / 2 ≤ 4096
+  legal-few : length f / 2 ≤ 4096
   unfolding Legal
   legal-few = let (φ, e, s, l, d) = legal in omega (arith, formula-length f φ e, s)
 
@@ -93,7 +91,7 @@ module _ (k : Labels) (f : List ℕ) (legal : Legal k quotientLimit f) where
   -- the verdict by grids is the tables' verdict, if it is for every formula that nests so many forward modalities
   module _ (labels : Labels) (l r g ws : List ℕ) (c : Coded ws f)
       (same : (φ : Formula) → nesting φ ≤ forwardsIn f → (j : Run (ℕ × ℕ))
-      → judged labels (leftIn g) (rightIn g) φ j ≡ tablesHold labels l r φ j)
+      → judgedBy labels g φ j ≡ tablesHold labels l r φ j)
       (j : Run (ℕ × ℕ)) (b : Bool) (p : b ≡ judgedBy labels g (treeAt ws (length f / 2)) j) where
     tables-judged : b ≡ present (λ φ. tablesHold labels l r φ j) (formulaOf f)
     tables-judged =
@@ -138,7 +136,7 @@ module _ (k : Labels) (l r s f : List ℕ) where
     pub real : isJointRun k l r s ≡ true
     pub legal : Legal k quotientLimit f
 
-  pub joint-parts : jointParts ≡ Sound → JointCall
+  joint-parts : jointParts ≡ Sound → JointCall
   unfolding checkTablesAndJoint checkJoint firstOf
   joint-parts e =
       let (labels, a) = both-sound (checkLabels k)
@@ -216,9 +214,6 @@ pub labels-sound : (c d e : Check) → c ≡ Sound → d ≡ e → thenOf c d �
 labels-sound c d e p q = rw p q
 
 -- a check that refuses is not sound, and its refusal is the answer
-pub not-sound : (c : Check) (x : Refusal) → c ≡ Refused x → c ≡ Sound → ⊥
-not-sound c x e f = apart cc
-
 pub answer-refused : (c : Check) (x : Refusal) (b : Bool) → c ≡ Refused x → verdict.Refused x ≡ answered c b
 unfolding answered
 answer-refused c x b e = rw e
@@ -310,33 +305,43 @@ module _ (k : Labels) (t s f : List ℕ) where
           (holds-alone (pairing k) (tableOf t) (tableOf still) 0 nothing-leaves φ (halfOf (take (2 * p + 1) s))) in
           w ∙ ap verdictOf (ap (λ F. present F (formulaOf f)) (fun-ext same)) ∙ rw c
 
-  -- the cases of the check
-  pub half-refused : (p : ℕ) (x : Refusal) → halfParts ≡ Refused x → Refused x ≡ checkHalfCall k t s f p
-  half-refused p x e = rw (half-regroup p, e)
+  -- the cases of the check: labels that are refused
+  pub half-unlabelled : (p : ℕ) (x : Refusal) → checkLabels k ≡ Refused x → Refused x ≡ checkHalfCall k t s f p
+  half-unlabelled p x e = rw (half-regroup p, e)
 
-  pub half-beyond : (p : ℕ) → halfParts ≡ Sound → beyond s p ≡ true → Refused PointBeyond ≡ checkHalfCall k t s f p
-  half-beyond p e b = rw (half-regroup p, e, b)
+  -- the table and the half judged first: nothing of them is refused, or it comes last
+  module _ (labels : checkLabels k ≡ Sound) (p : ℕ) where
+    abbrev behind : Check
+    behind = thenOf (checkFormula k quotientLimit f) (refusedIf (beyond s p) PointBeyond)
 
-  -- the parts, where the table and the half are judged first and not refused
-  pub half-parts-judged : checkLabels k ≡ Sound → checkTableAndHalf k t s ≡ Sound → (c : Check)
-      → checkFormula k quotientLimit f ≡ c → halfParts ≡ c
-  unfolding checkTableAndHalf firstOf
-  half-parts-judged labels h c e = rw (labels, both-sound (checkTable k t) _ h .0) e
+    pub half-sound : checkTableAndHalf k t s ≡ Sound → behind ≡ checkHalfCall k t s f p
+    unfolding checkHalfCall checkTableAndHalf firstOf
+    half-sound e =
+        rw labels
+        (go (checkTable k t) (checkFormula k quotientLimit f) (refusedIf (beyond s p) PointBeyond) (checkHalf t s) e)
+      where
+        go : (t f b h : Check) → thenOf t (thenOf h Sound) ≡ Sound
+            → thenOf f b ≡ thenOf t (thenOf f (thenOf b (thenOf h Sound)))
+        go (Refused x) f b h e = absurd (apart cc)
+        go Sound f b (Refused x) e = absurd (apart cc)
+        go Sound (Refused x) b Sound e = refl
+        go Sound Sound (Refused x) Sound e = refl
+        go Sound Sound Sound Sound e = refl
 
-  pub half-judged : (p : ℕ) → halfParts ≡ Sound → beyond s p ≡ false → (c : Check) → c ≡ checkTableAndHalf k t s
-      → c ≡ checkHalfCall k t s f p
-  unfolding checkTableAndHalf firstOf
-  half-judged p e b c h = rw (half-regroup p, e, b) (h ∙ rw (half-parts e .0) (then-sound (checkHalf t s)))
-
-  -- a half that is refused where its table is not
-  pub half-unfit : (p : ℕ) → halfParts ≡ Sound → beyond s p ≡ false → (checkTableAndHalf k t s ≡ Sound → ⊥)
-      → Refused NotARun ≡ checkHalfCall k t s f p
-  unfolding checkTableAndHalf checkHalf firstOf
-  half-unfit p e b n = half-judged p e b (Refused NotARun) (go (isHalfRun t s) refl)
-    where
-      go : (r : Bool) → isHalfRun t s ≡ r → Refused NotARun ≡ checkTableAndHalf k t s
-      go true q = absurd (n (rw (half-parts e .0, q)))
-      go false q = rw (half-parts e .0, q)
+    pub half-refused : (x : Refusal) → checkTableAndHalf k t s ≡ Refused x
+        → thenOf (thenOf (checkTable k t) behind) (Refused x) ≡ checkHalfCall k t s f p
+    unfolding checkHalfCall checkTableAndHalf firstOf
+    half-refused x e =
+        rw labels
+        (go (checkTable k t) (checkFormula k quotientLimit f) (refusedIf (beyond s p) PointBeyond) (checkHalf t s) e)
+      where
+        go : (t f b h : Check) → thenOf t (thenOf h Sound) ≡ Refused x
+            → thenOf (thenOf t (thenOf f b)) (Refused x) ≡ thenOf t (thenOf f (thenOf b (thenOf h Sound)))
+        go (Refused y) f b h e = refl
+        go Sound f b Sound e = absurd (apart cc)
+        go Sound (Refused y) b (Refused z) e = refl
+        go Sound Sound (Refused y) (Refused z) e = refl
+        go Sound Sound Sound (Refused z) e = sym e
 
   pub half-call : (p : ℕ) → checkHalfCall k t s f p ≡ Sound → HalfCall × (beyond s p ≡ false)
   unfolding checkHalf

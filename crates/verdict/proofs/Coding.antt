@@ -11,7 +11,7 @@ use lib.Dec.{eqb, leb}
 use borrow.Author.Tests.{eqb-true, eqb-false}
 use Rattle.formulas.specs.Operators.{isForward}
 use Rattle.formulas.specs.Working.{treeSize, forwardsIn}
-use Rattle.verdict.specs.Working.{operatorIn, sizeIn, hasTwo, labelIn, textOf, Skips, Coded, Whole}
+use Rattle.verdict.specs.Working.{operatorIn, firstSizeIn, hasTwo, labelIn, textOf, Skips, Coded, Whole}
 use Rattle.verdict.specs.Working.{lastNodes, SizesIn, sizeBy, wordOf}
 use Rattle.verdict.proofs.Nodes.{Node, no-size, first-node, last-length, last-from, last-none, last-drop}
 use Rattle.verdict.proofs.Nodes.{whole-nodes, last-fits, here-few, here-node, here-operator, here-label}
@@ -160,13 +160,13 @@ module _ (f : List ℕ) (whole : Whole f) (ws : List ℕ) where
 pub record Word (w : ℕ) (f : List ℕ) : Type 0 where
   pub operator : operatorIn w ≡ getD f 0 0
   pub label : labelIn w ≡ getD f 1 0
-  pub skip : hasTwo (operatorIn w) ≡ true → sizeIn w ≡ treeSize (drop 2 f)
+  pub skip : hasTwo (operatorIn w) ≡ true → firstSizeIn w ≡ treeSize (drop 2 f)
 
 -- the word of a node says that
 word-says : (f : List ℕ) (first : ℕ) → Node f → getD f 1 0 < 256
     → (hasTwo (getD f 0 0) ≡ true → (first ≡ treeSize (drop 2 f)) × (first < 4096))
     → Word (wordOf (getD f 0 0) (getD f 1 0) first) f
-unfolding operatorIn labelIn sizeIn wordOf
+unfolding operatorIn labelIn firstSizeIn wordOf
 word-says f first node byte known = go (hasTwo (getD f 0 0)) refl
   where
     go : (b : Bool) → hasTwo (getD f 0 0) ≡ b → Word (wordOf (getD f 0 0) (getD f 1 0) first) f

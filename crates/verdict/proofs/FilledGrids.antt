@@ -22,7 +22,7 @@ use Rattle.tables.proofs.SoundTables.{moves-few}
 use Rattle.verdict.specs.Working.{pairsIn, gridOf, Grid}
 
 -- as many pairs are read as are asked for
-pub pairs-length : (n : ℕ) (bs : List ℕ) → length (pairsIn n bs) ≡ n
+pairs-length : (n : ℕ) (bs : List ℕ) → length (pairsIn n bs) ≡ n
 unfolding pairsIn
 pairs-length zero bs = refl
 pairs-length (suc n) bs = ap suc (pairs-length n (drop 2 bs))
@@ -51,7 +51,7 @@ pairs-more (suc n) bs =
     (ap ((getD bs 0 0, getD bs 1 0) ∷_) (pairs-more n (drop 2 bs)))
 
 -- the count that stands in a grid is how many moves are read
-pub grid-count : (g : List ℕ) (p : ℕ) → length (gridOf g p) ≡ getD g (17 * p) 0
+grid-count : (g : List ℕ) (p : ℕ) → length (gridOf g p) ≡ getD g (17 * p) 0
 unfolding gridOf
 grid-count g p = pairs-length (getD g (17 * p) 0) (drop (17 * p + 1) g)
 
@@ -178,7 +178,7 @@ filling-start t g e = record {
 
 module _ {k : Labels} {t : List ℕ} (s : SoundTable k t) (g : List ℕ) (i : ℕ) (f : Filling t g i) where
   -- at most 8 rows stand at a state
-  pub filling-few : (p : ℕ) → getD g (17 * p) 0 ≤ 8
+  filling-few : (p : ℕ) → getD g (17 * p) 0 ≤ 8
   unfolding tableOf
   filling-few p = omega (arith, grid-count g p, ap length (f .reads p), machine-part (rowsOf t) i p, moves-few s p)
 

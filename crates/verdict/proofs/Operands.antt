@@ -1,5 +1,6 @@
--- The operators: what a call for an operand may rely on, and the verdict from those of the operands.
-use Prim.Native.Nat.{ℕ, zero, suc, _+_, _-_, _*_, _%_, _≤_, _<_, max}
+-- The operators: what a call for an operand may rely on, the verdict from those of the operands, and the loops that go
+-- on with one of them (`Going`, `Turning`).
+use Prim.Native.Nat.{ℕ, _+_, _-_, _*_, _%_, _≤_, _<_, max}
 use mathlib.Core.Path.{_≡_, refl, sym, _∙_, ap}
 use mathlib.Core.Logic.{⊎-elim}
 use mathlib.Core.Bool.{Bool, true, false, cond, _&&_, _||_, not as negate, or-false, false≢true, Bool·beq}
@@ -19,13 +20,13 @@ use Rattle.machines.specs.Joints.{jointOf}
 use Rattle.machines.proofs.Buffers.{held-empty, held-shorter, held-step}
 use Rattle.machines.specs.Working.{Held}
 use Rattle.formulas.specs.Operators.{isForward, isBack, isConnective, isModality}
-use Rattle.formulas.specs.Working.{Tree, treeOf, treeSize}
+use Rattle.formulas.specs.Working.{Tree, treeOf}
 use Rattle.formulas.proofs.OperatorTable.{forward-numbers}
 use Rattle.formulas.proofs.Operators.{Unary, Binary, at, node-room, BackTree, back-label, back-idle, back-tree}
 use Rattle.formulas.proofs.Operands.{AndOr, connected, tree-size, back-operand, and-or, modality-operator, two-up}
 use Rattle.formulas.proofs.Operands.{nesting-connected, labelled-connected}
-use Rattle.verdict.specs.Working.{Ready, Shown, Never, Skips, goesBack, judged, treeAt, textOf, operatorIn, sizeIn}
-use Rattle.verdict.specs.Working.{hasTwo}
+use Rattle.verdict.specs.Working.{Ready, Shown, Never, Skips, goesOn, stepsBack, hasTwo, judged, treeAt, textOf}
+use Rattle.verdict.specs.Working.{operatorIn, firstSizeIn}
 use Rattle.verdict.proofs.Words.{text-length, text-drop, text-behind, text-operator, text-label}
 use Rattle.verdict.proofs.Words.{skips-fewer, skips-first}
 
@@ -34,12 +35,13 @@ neither : (a b : Bool) → (a || b) ≡ false → (a ≡ false) × (b ≡ false)
 neither true b e = absurd (false≢true (sym e))
 neither false b e = (refl, e)
 
-pub two-operands : (o : ℕ) → (isConnective o || isBack o) ≡ true → (o ≡ 2 → ⊥) → isBack o ≡ false → AndOr o
+pub two-operands : (o : ℕ) → goesOn o ≡ true → (o ≡ 2 → ⊥) → isBack o ≡ false → AndOr o
+unfolding goesOn
 two-operands o e n b = and-or o (sym (or-false _) ∙ (rw b at e)) n
 
 pub looks-forward : (f : List ℕ) → Tree f → (o : ℕ) → getD f 0 0 ≡ o → (o ≡ 0 → ⊥) → (o ≡ 1 → ⊥)
-    → (isConnective o || isBack o) ≡ false → isForward o ≡ true
-unfolding isModality
+    → goesOn o ≡ false → isForward o ≡ true
+unfolding goesOn isModality
 looks-forward f t o e a b n =
     let (c, d) = neither (isConnective o) (isBack o) n in
     let m = modality-operator f t (rw e (two-up o a b)) (rw e c) in
@@ -89,26 +91,26 @@ module _ (ws : List ℕ) (i : ℕ) (t : Tree (textOf ws i)) where
     first-tree : Tree (textOf ws (i - 1))
     first-tree = let e = two .first in rw (text-behind ws i some-node) at e
 
-    first-size : sizeIn (getD ws i 0) ≡ size (treeAt ws (i - 1))
+    first-size : firstSizeIn (getD ws i 0) ≡ size (treeAt ws (i - 1))
     first-size = skips-first ws i some-node s (has-two _ o) ∙ tree-size (textOf ws (i - 1)) first-tree
 
-    pub second-begins : 2 + sizeIn (getD ws i 0) ≤ i
+    pub second-begins : 2 + firstSizeIn (getD ws i 0) ≤ i
     second-begins =
         let e = two .room in
         let room = rw (text-behind ws i some-node) at e in
         omega (arith, room, first-size, text-length ws i)
 
     second-text : drop (2 * size (treeOf (drop 2 (textOf ws i)))) (drop 2 (textOf ws i))
-        ≡ textOf ws (i - 1 - sizeIn (getD ws i 0))
+        ≡ textOf ws (i - 1 - firstSizeIn (getD ws i 0))
     second-text =
         rw (text-behind ws i some-node, ← first-size)
-        (text-drop ws (sizeIn (getD ws i 0)) (i - 1) (omega (arith, second-begins)))
+        (text-drop ws (firstSizeIn (getD ws i 0)) (i - 1) (omega (arith, second-begins)))
 
-    second-tree : Tree (textOf ws (i - 1 - sizeIn (getD ws i 0)))
+    second-tree : Tree (textOf ws (i - 1 - firstSizeIn (getD ws i 0)))
     second-tree = let e = two .second in rw second-text at e
 
     operands-are : treeAt ws i
-        ≡ connected (operatorIn (getD ws i 0)) (treeAt ws (i - 1)) (treeAt ws (i - 1 - sizeIn (getD ws i 0)))
+        ≡ connected (operatorIn (getD ws i 0)) (treeAt ws (i - 1)) (treeAt ws (i - 1 - firstSizeIn (getD ws i 0)))
     operands-are = let e = two .is in rw (second-text, text-behind ws i some-node) at e
 
 -- what a call for an operand may rely on
@@ -137,7 +139,7 @@ module _ (k : Labels) (ws xs : List ℕ) (n i : ℕ) (y : Ready k ws xs n 0 i) w
   abbrev here : (o : ℕ) → operatorIn w ≡ o → getD (textOf ws i) 0 0 ≡ o
   here o e = operator-read ws i (y .tree) ∙ e
 
-  pub not-ready : operatorIn w ≡ 2 → Ready k ws xs n 0 (i - 1)
+  not-ready : operatorIn w ≡ 2 → Ready k ws xs n 0 (i - 1)
   unfolding labelled nesting
   not-ready e = operand-ready not (at (textOf ws i) (y .tree) 2 (here 2 e)) n 0 (y .held) (λ l. l) (omega arith)
 
@@ -165,7 +167,7 @@ module _ (k : Labels) (ws xs : List ℕ) (n i : ℕ) (y : Ready k ws xs n 0 i) w
   unfolding labelled nesting
   idle-ready e = operand-ready fwdIdle (at (textOf ws i) (y .tree) 7 (here 7 e)) n 1 (y .held) (λ l. l) (omega arith)
 
-  pub back-ready : isBack (operatorIn w) ≡ true → 5 ≤ n → Ready k ws xs (n - 3) 0 (i - 1)
+  back-ready : isBack (operatorIn w) ≡ true → 5 ≤ n → Ready k ws xs (n - 3) 0 (i - 1)
   back-ready o l =
       let x = back-operand (textOf ws i) (y .tree) (rw (operator-read ws i (y .tree)) o) in
       operand-ready (x .over) (x .tree) (n - 3) 0 (held-shorter xs n (y .held) l) (x .ranged (count k) _)
@@ -173,15 +175,15 @@ module _ (k : Labels) (ws xs : List ℕ) (n i : ℕ) (y : Ready k ws xs n 0 i) w
 
   -- the operands of "and" and "or"
   module _ (o : AndOr (operatorIn w)) where
-    both : treeAt ws i ≡ connected (operatorIn w) (treeAt ws (i - 1)) (treeAt ws (i - 1 - sizeIn w))
+    both : treeAt ws i ≡ connected (operatorIn w) (treeAt ws (i - 1)) (treeAt ws (i - 1 - firstSizeIn w))
     both = operands-are ws i (y .tree) (y .skips) o
 
     both-ranged : (labelled (count k) (treeAt ws (i - 1)) ≡ true)
-        × (labelled (count k) (treeAt ws (i - 1 - sizeIn w)) ≡ true)
+        × (labelled (count k) (treeAt ws (i - 1 - firstSizeIn w)) ≡ true)
     both-ranged =
         both-true (sym (ap (labelled (count k)) both ∙ labelled-connected (count k) (operatorIn w) _ _) ∙ y .ranged)
 
-    both-room : n + 3 * max (nesting (treeAt ws (i - 1))) (nesting (treeAt ws (i - 1 - sizeIn w))) ≤ length xs
+    both-room : n + 3 * max (nesting (treeAt ws (i - 1))) (nesting (treeAt ws (i - 1 - firstSizeIn w))) ≤ length xs
     both-room = omega (arith, y .room, ap nesting both ∙ nesting-connected (operatorIn w) _ _)
 
     pub first-ready : Ready k ws xs n 0 (i - 1)
@@ -195,11 +197,11 @@ module _ (k : Labels) (ws xs : List ℕ) (n i : ℕ) (y : Ready k ws xs n 0 i) w
       few = omega (arith, y .few);
     }
 
-    pub second-ready : Ready k ws xs n 0 (i - 1 - sizeIn w)
+    second-ready : Ready k ws xs n 0 (i - 1 - firstSizeIn w)
     second-ready = record {
       tree = second-tree ws i (y .tree) (y .skips) o;
       ranged = both-ranged .1;
-      skips = skips-fewer ws i (i - 1 - sizeIn w) (omega arith) (y .skips);
+      skips = skips-fewer ws i (i - 1 - firstSizeIn w) (omega arith) (y .skips);
       held = y .held;
       room = omega (arith, both-room);
       size = y .size;
@@ -219,7 +221,7 @@ module _ (labels : Labels) (l r ws : List ℕ) (i : ℕ) (j : Run (ℕ × ℕ)) 
   unfolding judged holds
   judged-bottom e = rw (at (textOf ws i) t 1 (it 1 e))
 
-  pub judged-not : (b : Bool) → operatorIn (getD ws i 0) ≡ 2 → b ≡ judged labels l r (treeAt ws (i - 1)) j
+  judged-not : (b : Bool) → operatorIn (getD ws i 0) ≡ 2 → b ≡ judged labels l r (treeAt ws (i - 1)) j
       → negate b ≡ judged labels l r (treeAt ws i) j
   unfolding judged holds
   judged-not b e p = rw (operand-is ws i t not (at (textOf ws i) t 2 (it 2 e))) (ap negate p)
@@ -243,7 +245,7 @@ module _ (labels : Labels) (l r ws : List ℕ) (i : ℕ) (j : Run (ℕ × ℕ)) 
     first-judged : a ≡ judged labels l r (treeOf (drop 2 (textOf ws i))) j
     first-judged = rw (text-behind ws i (some-node ws i t)) p
 
-    pub judged-settled : Bool·beq a (eqb (operatorIn (getD ws i 0)) 4) ≡ true → a ≡ judged labels l r (treeAt ws i) j
+    judged-settled : Bool·beq a (eqb (operatorIn (getD ws i 0)) 4) ≡ true → a ≡ judged labels l r (treeAt ws i) j
     unfolding judged holds
     judged-settled q = ⊎-elim
         (λ e. rw (at (textOf ws i) t 3 (it 3 e) .is, ← first-judged) (settled a _ (rw e at q)))
@@ -257,8 +259,8 @@ module _ (labels : Labels) (l r ws : List ℕ) (i : ℕ) (j : Run (ℕ × ℕ)) 
         settled-or true c s = refl
         settled-or false c s = absurd (false≢true s)
 
-    pub judged-second : Bool·beq a (eqb (operatorIn (getD ws i 0)) 4) ≡ false
-        → judged labels l r (treeAt ws (i - 1 - sizeIn (getD ws i 0))) j ≡ judged labels l r (treeAt ws i) j
+    judged-second : Bool·beq a (eqb (operatorIn (getD ws i 0)) 4) ≡ false
+        → judged labels l r (treeAt ws (i - 1 - firstSizeIn (getD ws i 0))) j ≡ judged labels l r (treeAt ws i) j
     unfolding judged holds
     judged-second q = ⊎-elim
         (λ z. rw (operands-are ws i t s o, z, ← p, open-and a (rw z at q)))
@@ -273,7 +275,7 @@ module _ (labels : Labels) (l r ws : List ℕ) (i : ℕ) (j : Run (ℕ × ℕ)) 
         open-or false s = refl
 
 -- a back modality, on the run in the first n bytes of xs
-module _ (k labels : Labels) (l r ws xs : List ℕ) (n i : ℕ) (y : Ready k ws xs n 0 i)
+module _ (k : Labels) (l r ws xs : List ℕ) (n i : ℕ) (y : Ready k ws xs n 0 i)
     (o : isBack (operatorIn (getD ws i 0)) ≡ true) where
   abbrev f : List ℕ
   f = textOf ws i
@@ -282,11 +284,11 @@ module _ (k labels : Labels) (l r ws xs : List ℕ) (n i : ℕ) (y : Ready k ws 
   back-one = back-tree f (y .tree) (rw (operator-read ws i (y .tree)) o)
 
   -- on the empty run it fails
-  back-empty : n < 5 → false ≡ judged labels l r (treeOf f) (jointOf (take n xs))
+  back-empty : n < 5 → false ≡ judged k l r (treeOf f) (jointOf (take n xs))
   unfolding judged holds
   back-empty s = go back-one
     where
-      go : BackTree f → false ≡ judged labels l r (treeOf f) (jointOf (take n xs))
+      go : BackTree f → false ≡ judged k l r (treeOf f) (jointOf (take n xs))
       go (back-label e u) = rw (u .is, held-empty xs n (y .held) s)
       go (back-idle e u) = rw (u .is, held-empty xs n (y .held) s)
 
@@ -295,23 +297,23 @@ module _ (k labels : Labels) (l r ws xs : List ℕ) (n i : ℕ) (y : Ready k ws 
   fits a = cond (eqb (operatorIn (getD ws i 0)) 8) (eqb a 255) (eqb a (getD ws i 0 % 256))
 
   back-step : (a : ℕ) (u : ℕ × ℕ) (j : Run (ℕ × ℕ))
-      → judged labels l r (treeOf f) (j ▸ stepOf a u) ≡ (fits a && judged labels l r (treeAt ws (i - 1)) j)
+      → judged k l r (treeOf f) (j ▸ stepOf a u) ≡ (fits a && judged k l r (treeAt ws (i - 1)) j)
   unfolding judged holds stepOf labelled hasTwo
   back-step a u j = go (eqb a 255) refl back-one
     where
       go : (b : Bool) → eqb a 255 ≡ b → BackTree f
-          → judged labels l r (treeOf f) (j ▸ cond b idle (move a u))
-          ≡ (fits a && judged labels l r (treeAt ws (i - 1)) j)
+          → judged k l r (treeOf f) (j ▸ cond b idle (move a u))
+          ≡ (fits a && judged k l r (treeAt ws (i - 1)) j)
       go b q (back-idle e x) = idles b q
         where
-          six : operatorIn (getD ws i 0) ≡ 8
-          six = sym (operator-read ws i (y .tree)) ∙ e
+          eight : operatorIn (getD ws i 0) ≡ 8
+          eight = sym (operator-read ws i (y .tree)) ∙ e
 
           idles : (b : Bool) → eqb a 255 ≡ b
-              → judged labels l r (treeOf f) (j ▸ cond b idle (move a u))
-              ≡ (fits a && judged labels l r (treeAt ws (i - 1)) j)
-          idles true q = rw (operand-is ws i (y .tree) backIdle x, six, q)
-          idles false q = rw (operand-is ws i (y .tree) backIdle x, six, q)
+              → judged k l r (treeOf f) (j ▸ cond b idle (move a u))
+              ≡ (fits a && judged k l r (treeAt ws (i - 1)) j)
+          idles true q = rw (operand-is ws i (y .tree) backIdle x, eight, q)
+          idles false q = rw (operand-is ws i (y .tree) backIdle x, eight, q)
       go b q (back-label e x) = moves b q
         where
           six : operatorIn (getD ws i 0) ≡ 6
@@ -324,8 +326,8 @@ module _ (k labels : Labels) (l r ws xs : List ℕ) (n i : ℕ) (y : Ready k ws 
           low = label-low k ws xs n i y back (λ a φ. refl) x
 
           moves : (b : Bool) → eqb a 255 ≡ b
-              → judged labels l r (treeOf f) (j ▸ cond b idle (move a u))
-              ≡ (fits a && judged labels l r (treeAt ws (i - 1)) j)
+              → judged k l r (treeOf f) (j ▸ cond b idle (move a u))
+              ≡ (fits a && judged k l r (treeAt ws (i - 1)) j)
           moves true q =
               rw (
                 operand-is ws i (y .tree) (back (getD f 1 0)) x,
@@ -334,34 +336,34 @@ module _ (k labels : Labels) (l r ws xs : List ℕ) (n i : ℕ) (y : Ready k ws 
               )
           moves false q = rw (operand-is ws i (y .tree) (back (getD f 1 0)) x, six, read)
 
-  back-judged : 5 ≤ n → judged labels l r (treeOf f) (jointOf (take n xs))
-      ≡ (fits (getD xs (n - 3) 0) && judged labels l r (treeAt ws (i - 1)) (jointOf (take (n - 3) xs)))
+  back-judged : 5 ≤ n → judged k l r (treeOf f) (jointOf (take n xs))
+      ≡ (fits (getD xs (n - 3) 0) && judged k l r (treeAt ws (i - 1)) (jointOf (take (n - 3) xs)))
   back-judged s = rw (held-step xs n (y .held) s) (back-step (getD xs (n - 3) 0) _ (jointOf (take (n - 3) xs)))
 
   -- as the code asks: a run too short, or another last step
-  module _ (b : Bool) (g : b ≡ goesBack (operatorIn (getD ws i 0)) (getD ws i 0 % 256) xs n) where
-    pub back-other : b ≡ false → false ≡ judged labels l r (treeAt ws i) (jointOf (take n xs))
-    unfolding goesBack
+  module _ (b : Bool) (g : b ≡ stepsBack (operatorIn (getD ws i 0)) (getD ws i 0 % 256) xs n) where
+    back-other : b ≡ false → false ≡ judged k l r (treeAt ws i) (jointOf (take n xs))
+    unfolding stepsBack
     back-other e = go (ltb n 5) refl
       where
-        go : (t : Bool) → ltb n 5 ≡ t → false ≡ judged labels l r (treeAt ws i) (jointOf (take n xs))
+        go : (t : Bool) → ltb n 5 ≡ t → false ≡ judged k l r (treeAt ws i) (jointOf (take n xs))
         go true q = back-empty (ltb-true n 5 q)
         go false q =
             let unfit : fits (getD xs (n - 3) 0) ≡ false = sym (g ∙ rw q) ∙ e in
             rw (back-judged (ltb-false n 5 q), unfit)
 
-    pub back-long : b ≡ true → 5 ≤ n
-    unfolding goesBack
+    back-long : b ≡ true → 5 ≤ n
+    unfolding stepsBack
     back-long e = go (ltb n 5) refl
       where
         go : (t : Bool) → ltb n 5 ≡ t → 5 ≤ n
         go true q = absurd (false≢true (sym (g ∙ rw q) ∙ e))
         go false q = ltb-false n 5 q
 
-    pub back-same : b ≡ true
-        → judged labels l r (treeAt ws (i - 1)) (jointOf (take (n - 3) xs))
-        ≡ judged labels l r (treeAt ws i) (jointOf (take n xs))
-    unfolding goesBack
+    back-same : b ≡ true
+        → judged k l r (treeAt ws (i - 1)) (jointOf (take (n - 3) xs))
+        ≡ judged k l r (treeAt ws i) (jointOf (take n xs))
+    unfolding stepsBack
     back-same e =
         let long = back-long e in
         let fit : fits (getD xs (n - 3) 0) ≡ true = sym (g ∙ rw (le-ltb n 5 long)) ∙ e in
@@ -416,18 +418,18 @@ module _
 
   -- a back modality
   module _ (o : isBack (operatorIn (getD ws i 0)) ≡ true) (b : Bool)
-      (q : b ≡ goesBack (operatorIn (getD ws i 0)) (getD ws i 0 % 256) xs n) where
+      (q : b ≡ stepsBack (operatorIn (getD ws i 0)) (getD ws i 0 % 256) xs n) where
     pub going-nowhere : b ≡ false → negate even ≡ whole
-    going-nowhere e = failing even ∙ going-end false (back-other labels labels l r ws xs n i (g .ready) o b q e)
+    going-nowhere e = failing even ∙ going-end false (back-other labels l r ws xs n i (g .ready) o b q e)
 
     pub going-long : b ≡ true → 5 ≤ n
-    going-long e = back-long labels labels l r ws xs n i (g .ready) o b q e
+    going-long e = back-long labels l r ws xs n i (g .ready) o b q e
 
     pub going-back : b ≡ true → Going labels l r ws xs n₀ i₀ (n - 3) (i - 1) even
     going-back e = record {
       ready = back-ready labels ws xs n i (g .ready) o (going-long e);
       shorter = omega (arith, g .shorter);
-      same = going-end _ (back-same labels labels l r ws xs n i (g .ready) o b q e);
+      same = going-end _ (back-same labels l r ws xs n i (g .ready) o b q e);
     }
 
   -- "and" and "or"
@@ -436,7 +438,7 @@ module _
     going-settled s = going-end a (judged-settled labels l r ws i run (g .ready .tree) (g .ready .skips) o a p s)
 
     pub going-on : Bool·beq a (eqb (operatorIn (getD ws i 0)) 4) ≡ false
-        → Going labels l r ws xs n₀ i₀ n (i - 1 - sizeIn (getD ws i 0)) even
+        → Going labels l r ws xs n₀ i₀ n (i - 1 - firstSizeIn (getD ws i 0)) even
     going-on s = record {
       ready = second-ready labels ws xs n i (g .ready) o;
       shorter = omega (arith, g .shorter);

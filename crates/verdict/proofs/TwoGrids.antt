@@ -1,7 +1,7 @@
 -- Both tables' grids in one list: how they get there, whose verdicts they give, and the rows in them.
 use Prim.Native.Nat.{ℕ, suc, _+_, _-_, _*_, _≤_, _<_}
 use mathlib.Core.Path.{_≡_, refl, sym, _∙_, ap, ap₂, fun-ext}
-use mathlib.Core.Bool.{Bool, true, false, _&&_, _||_, not as negate}
+use mathlib.Core.Bool.{Bool, true, false}
 use mathlib.Core.List.{List, [], _∷_, _++_, append-nil}
 use native.Mathlib.Omega.{arith}
 use native.Mathlib.Nat.{add-zero}
@@ -9,9 +9,9 @@ use lib.ListN.{length, getD, take, drop, replicate, length-append, length-drop, 
 use lib.Seq.{getD-take, getD-drop, take-at, drop-at, drop-drop, drop-length}
 use borrow.Author.Tests.{eq-eqb, ne-eqb}
 use borrow.Rule.Slice.PartMut.{putMid, postOf, post-is}
-use Rattle.hml.specs.Lists.{same}
-use Rattle.hml.specs.System.{System, move, idle, Run, start, _▸_}
-use Rattle.hml.specs.Formula.{Formula, top, bottom, not, and, or, fwd, back, fwdIdle, backIdle, nesting, holds}
+use Rattle.hml.specs.System.{Run}
+use Rattle.hml.specs.Formula.{Formula, nesting, holds}
+use Rattle.hml.proofs.Past.{holds-past}
 use Rattle.hml.specs.Compose.{beside}
 use Rattle.labels.specs.Labels.{pairing}
 use Rattle.labels.specs.declared.label.Labels.{Labels}
@@ -23,26 +23,7 @@ use Rattle.verdict.specs.declared.trial.Mover.{Mover}
 use Rattle.verdict.specs.declared.trial.Mover.the-variants as mover
 use Rattle.verdict.proofs.FilledGrids.{pairs-same, zeros-at}
 
--- a formula with no forward modality has the same verdict in every system
-pub holds-past : {S : Type 0} (A B : System S) (φ : Formula) (r : Run S) → nesting φ ≡ 0 → holds A φ r ≡ holds B φ r
-unfolding nesting holds
-holds-past A B top r e = refl
-holds-past A B bottom r e = refl
-holds-past A B (not φ) r e = ap negate (holds-past A B φ r e)
-holds-past A B (and φ ψ) r e =
-    ap₂ _&&_ (holds-past A B φ r (omega (arith, e))) (holds-past A B ψ r (omega (arith, e)))
-holds-past A B (or φ ψ) r e =
-    ap₂ _||_ (holds-past A B φ r (omega (arith, e))) (holds-past A B ψ r (omega (arith, e)))
-holds-past A B (fwd a φ) r e = absurd (omega (arith, e))
-holds-past A B (back a φ) (start p) e = refl
-holds-past A B (back a φ) (r ▸ move b p) e = ap (same b a &&_) (holds-past A B φ r e)
-holds-past A B (back a φ) (r ▸ idle) e = refl
-holds-past A B (fwdIdle φ) r e = absurd (omega (arith, e))
-holds-past A B (backIdle φ) (start p) e = refl
-holds-past A B (backIdle φ) (r ▸ move b p) e = refl
-holds-past A B (backIdle φ) (r ▸ idle) e = holds-past A B φ r e
-
--- the verdict of grids is that of tables: where no formula of the call looks at rows, and where the grids have them
+-- the verdict of grids is that of tables: where the formula looks at no rows, and where the grids have them
 module _ (k : Labels) (l r gl gr : List ℕ) (φ : Formula) (j : Run (ℕ × ℕ)) where
   pub unread-judged : nesting φ ≡ 0 → judged k gl gr φ j ≡ tablesHold k l r φ j
   unfolding judged tablesHold

@@ -1,4 +1,4 @@
--- What words say of a formula's text: the bytes of its last n nodes, their parts, and the nodes that stand in front.
+-- What words say of a formula's text: the bytes of its last n nodes, their parts, and the first of these nodes.
 use Prim.Native.Nat.{ℕ, zero, suc, _-_, _*_, _%_, _≤_}
 use mathlib.Core.Path.{_≡_, refl}
 use mathlib.Core.Bool.{true, false}
@@ -6,7 +6,7 @@ use mathlib.Core.List.{List}
 use native.Mathlib.Omega.{arith}
 use lib.ListN.{length, getD, drop}
 use Rattle.formulas.specs.Working.{treeSize}
-use Rattle.verdict.specs.Working.{operatorIn, sizeIn, hasTwo, labelIn, textOf, Skips}
+use Rattle.verdict.specs.Working.{operatorIn, firstSizeIn, hasTwo, labelIn, textOf, Skips}
 
 module _ (ws : List ℕ) where
   -- two bytes a node
@@ -48,7 +48,7 @@ module _ (ws : List ℕ) where
 
   -- the first node is "and" or "or": it has the size of its first operand, which begins behind it
   pub skips-first : (n : ℕ) → 1 ≤ n → Skips ws n → hasTwo (operatorIn (getD ws n 0)) ≡ true
-      → sizeIn (getD ws n 0) ≡ treeSize (textOf ws (n - 1))
+      → firstSizeIn (getD ws n 0) ≡ treeSize (textOf ws (n - 1))
   unfolding Skips
   skips-first zero h s e = absurd (omega arith)
   skips-first (suc n) h s e =

@@ -10,11 +10,11 @@ use Rattle.hml.specs.System.{System, Run, Pairing}
 use Rattle.hml.specs.Formula.{Formula, holds, size, nesting, labelled}
 use Rattle.hml.specs.Spell.{spell}
 use Rattle.hml.specs.Compose.{beside}
-use Rattle.labels.specs.Labels.{count}
-use Rattle.labels.specs.Labels.{pairing}
+use Rattle.labels.specs.Labels.{count, pairing}
 use Rattle.labels.specs.declared.label.Labels.{Labels}
 use Rattle.tables.specs.Tables.{tableOf}
 use Rattle.machines.specs.Working.{Held}
+use Rattle.formulas.specs.Operators.{isBack, isConnective}
 use Rattle.formulas.specs.Working.{Tree, treeOf, treeSize}
 use Rattle.verdict.specs.declared.trial.Mover.{Mover}
 use Rattle.verdict.specs.declared.trial.Mover.the-variants as mover
@@ -80,14 +80,15 @@ unfoldable pub besideStill : List ℕ → List ℕ
 besideStill [] = []
 besideStill (p ∷ bytes) = p ∷ 0 ∷ widened bytes
 
--- A formula as words, one a node, from its last node on: word n is that of the node with n nodes from it on, itself
--- among them. The operator stands above the low 12 bits; in these stands the size of the first operand of "and" and
--- "or", of any other node its label.
+-- A formula as words, one a node, from its last node on: word n is that of the first of its last n nodes, and there is
+-- no word 0. The operator stands above the low 12 bits; in these stands the size of the first operand of "and" and "or",
+-- of any other node its label.
 unfoldable pub operatorIn : ℕ → ℕ
 operatorIn w = w / 4096
 
-unfoldable pub sizeIn : ℕ → ℕ
-sizeIn w = w % 4096
+-- of "and" and "or": the size of the first operand
+unfoldable pub firstSizeIn : ℕ → ℕ
+firstSizeIn w = w % 4096
 
 -- "and" and "or"
 unfoldable pub hasTwo : ℕ → Bool
@@ -105,7 +106,7 @@ textOf ws (suc n) = operatorIn (getD ws (suc n) 0) ∷ labelIn (getD ws (suc n) 
 -- each "and" and "or" among the last n nodes has the size of its first operand, so its second one is found
 unfoldable pub Skips : List ℕ → ℕ → Type 0
 Skips ws n = (i : ℕ) → i < n → hasTwo (operatorIn (getD ws (suc i) 0)) ≡ true
-    → sizeIn (getD ws (suc i) 0) ≡ treeSize (textOf ws i)
+    → firstSizeIn (getD ws (suc i) 0) ≡ treeSize (textOf ws i)
 
 -- the words of a formula's bytes
 pub record Coded (ws f : List ℕ) : Type 0 where
@@ -120,7 +121,7 @@ Whole f = (φ : Formula) × (f ≡ spell φ []) × (size φ ≤ 4096)
 unfoldable pub lastNodes : List ℕ → ℕ → List ℕ
 lastNodes f n = drop (length f - 2 * n) f
 
--- what stands in place n before the word does: the size of the tree that begins with n nodes from it on
+-- what stands in each place up to n before its word does: the size of the tree that the last so many nodes begin with
 unfoldable pub SizesIn : List ℕ → List ℕ → ℕ → Type 0
 SizesIn ws f n = (i : ℕ) → 1 ≤ i → i ≤ n → getD ws i 0 ≡ treeSize (lastNodes f i)
 
@@ -154,11 +155,11 @@ unfoldable pub startOf : Mover → ℕ
 startOf mover.Left = 0
 startOf mover.Right = 1088
 
--- the verdict by both grids
+-- the same where both grids stand in one list
 abbrev pub judgedBy : Labels → List ℕ → Formula → Run (ℕ × ℕ) → Bool
 judgedBy labels g φ j = judged labels (leftIn g) (rightIn g) φ j
 
--- the tree that begins with n nodes from its first one on
+-- the tree that the last n nodes begin with
 abbrev pub treeAt : List ℕ → ℕ → Formula
 treeAt ws n = treeOf (textOf ws n)
 
@@ -166,22 +167,26 @@ treeAt ws n = treeOf (textOf ws n)
 unfoldable pub Never : List ℕ → ℕ → Type 0
 Never ws n = (k : Labels) (l r : List ℕ) (j : Run (ℕ × ℕ)) → false ≡ judged k l r (treeAt ws n) j
 
+-- the operators whose operands are judged on the run at hand or on the one without its last step
+unfoldable pub goesOn : ℕ → Bool
+goesOn o = isConnective o || isBack o
+
 -- does a back modality fit the last step of the run in the first n bytes, by its label: 8 an idle, 6 a move of its own?
-unfoldable pub goesBack : ℕ → ℕ → List ℕ → ℕ → Bool
-goesBack o a xs n =
+unfoldable pub stepsBack : ℕ → ℕ → List ℕ → ℕ → Bool
+stepsBack o a xs n =
     cond (ltb n 5) false (cond (eqb o 8) (eqb (getD xs (n - 3) 0) 255) (eqb (getD xs (n - 3) 0) a))
 
 -- a place where the next step of the run in the first n bytes has the state of the side that moves
 abbrev pub Placed : ℕ → ℕ → Type 0
 Placed place n = (m : Mover) × (place ≡ placeOf m n)
 
--- the first n bytes of xs are a run, with room behind it for `more` steps and those that the tree at `at` looks ahead;
--- ws are the words of its formula
-pub record Ready (k : Labels) (ws xs : List ℕ) (n more at : ℕ) : Type 0 where
-  pub tree : Tree (textOf ws at)
-  pub ranged : labelled (count k) (treeAt ws at) ≡ true
-  pub skips : Skips ws at
+-- the first n bytes of xs are a run, with room behind it for `more` steps and those that a tree looks ahead: the one
+-- that the last i nodes of the formula begin with, whose words are ws
+pub record Ready (k : Labels) (ws xs : List ℕ) (n more i : ℕ) : Type 0 where
+  pub tree : Tree (textOf ws i)
+  pub ranged : labelled (count k) (treeAt ws i) ≡ true
+  pub skips : Skips ws i
   pub held : Held xs n
-  pub room : n + 3 * (more + nesting (treeAt ws at)) ≤ length xs
+  pub room : n + 3 * (more + nesting (treeAt ws i)) ≤ length xs
   pub size : length xs ≡ 614
-  pub few : at ≤ 4096
+  pub few : i ≤ 4096

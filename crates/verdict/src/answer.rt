@@ -1,5 +1,5 @@
 // The answer of a verdict, and how both calls come to it.
-use crate::code::coded;
+use crate::code::write_code;
 use crate::grids::look_up;
 use crate::search::holds;
 use labels::label::Labels;
@@ -21,8 +21,8 @@ pub enum Verdict {
 }
 
 // The verdict on the run in the first len bytes of a buffer that has room for four steps more. The formula's words, and
-// the rows of each state if it looks ahead, are found once, so that no rows are searched for and no operand is read to
-// find the one behind it.
+// the rows of each state if it looks ahead, are found once, so that no state's rows are searched for and no operand is
+// read to find the one behind it.
 pub(crate) fn verdict_on(
     labels: Labels,
     left: &[u8],
@@ -39,7 +39,7 @@ pub(crate) fn verdict_on(
         (formulaOf (now (formula .entry)))) ⌝ }
 {
     let mut code = [0u16; 4097];
-    let forwards = coded(formula, &mut code);
+    let forwards = write_code(formula, &mut code);
     let mut grids = [0u8; 2176];
     look_up(labels, left, right, forwards, &mut grids);
     if holds(labels, &grids, &code, run, len, formula.len() / 2) {

@@ -7,7 +7,7 @@ ghost use Prim.Native.Nat.{_-_, _/_, _%_, _≤_, _<_};
 ghost use lib.ListN.{length, getD};
 ghost use Rattle.formulas.specs.Operators.{isForward};
 ghost use Rattle.formulas.specs.Working.{forwardsIn};
-ghost use Rattle.verdict.specs.Working.{operatorIn, sizeIn, hasTwo, Coded, Whole, SizesIn, sizeBy, wordOf};
+ghost use Rattle.verdict.specs.Working.{operatorIn, firstSizeIn, hasTwo, Coded, Whole, SizesIn, sizeBy, wordOf};
 
 // The operator of a word's node.
 pub(crate) fn operator_in(word: u16) -> u8
@@ -23,15 +23,16 @@ pub(crate) fn label_in(word: u16) -> u8
     (word % 256) as u8
 }
 
-// The size of the first operand, where it is one of these.
-pub(crate) fn size_in(word: u16) -> usize
-    ensures { λ r. ⌜ r ≡ sizeIn word ⌝ }
+// The size of the first operand, where the operator is "and" or "or".
+pub(crate) fn first_size_in(word: u16) -> usize
+    ensures { λ r. ⌜ r ≡ firstSizeIn word ⌝ }
 {
     (word % 4096) as usize
 }
 
-// The words of a formula: word n is that of the node with n nodes from it on. Returns how many of them look forward.
-pub(crate) fn coded(f: &[u8], code: &mut [u16; 4097]) -> usize
+// The words of a formula: word n is that of the first of its last n nodes, so there is none in place 0. Returns how
+// many nodes look forward.
+pub(crate) fn write_code(f: &[u8], code: &mut [u16; 4097]) -> usize
     requires { ⌜ Whole (now f) ⌝ }
     requires { ⌜ length (now code) ≡ 4097 ⌝ }
     ensures words { λ r. ⌜ Coded (now (code .exit)) (now (f .entry)) ⌝ }
@@ -66,7 +67,8 @@ fn write_sizes(f: &[u8], code: &mut [u16; 4097]) -> usize
     forwards
 }
 
-// The size of a tree with n nodes behind its first one, by its operator and the size of the tree behind it.
+// The size of a tree, by its operator and the size of the tree behind its first node, where n nodes of the formula
+// stand behind that one.
 fn size(code: &[u16; 4097], n: usize, operator: u8, first: u16) -> u16
     requires { ⌜ (first ≤ n) × (n ≤ 4096) ⌝ }
     requires { ⌜ (hasTwo operator ≡ true → getD (now code) (n - first) 0 ≤ 4096) ⌝ }
@@ -91,7 +93,8 @@ fn forward_of(operator: u8) -> usize
     0
 }
 
-// From the first node on each size gives way to its node's word: the size below, its first operand's, is still there.
+// From the first node on each size gives way to its node's word: the size in the place below, its first operand's, is
+// still there. Of the last node, which has none, place 0 is read and not used.
 fn write_words(f: &[u8], code: &mut [u16; 4097])
     requires { ⌜ Whole (now f) ⌝ }
     requires { ⌜ SizesIn (now code) (now f) (length (now f) / 2) × (length (now code) ≡ 4097) ⌝ }

@@ -5,14 +5,14 @@ use labels::label::Label;
 use labels::label::Labels;
 ghost use mathlib.Core.Path.{_≡_};
 ghost use mathlib.Core.Bool.{Bool};
-ghost use Prim.Native.Nat.{ℕ, _+_, _*_, _≤_};
+ghost use Prim.Native.Nat.{ℕ, _≤_};
 ghost use lib.ListN.{drop, getD, replicate};
 ghost use Rattle.hml.specs.System.{Run};
 ghost use Rattle.hml.specs.Formula.{Formula, nesting};
 ghost use Rattle.tables.specs.Tables.{tableOf, SoundTable};
 ghost use Rattle.machines.specs.Working.{Tables};
 ghost use Rattle.verdict.specs.Working.{Grid, TwoGrids, Inside, pairsIn, gridOf, gridBy, startOf};
-ghost use Rattle.verdict.specs.Working.{leftIn, rightIn, tried, judged, tablesHold};
+ghost use Rattle.verdict.specs.Working.{leftIn, rightIn, tried, judgedBy, tablesHold};
 
 // The rows of both tables by the state that they leave, written into empty grids, if a formula with so many forward
 // modalities looks at them at all.
@@ -27,7 +27,7 @@ pub(crate) fn look_up(
     requires { ⌜ now grids ≡ replicate 2176 0 ⌝ }
     ensures grids { λ r. ⌜ TwoGrids (now (grids .exit)) ⌝ }
     ensures same { λ r. ⌜ ((φ : Formula) → nesting φ ≤ forwards → (j : Run (ℕ × ℕ))
-        → judged labels (leftIn (now (grids .exit))) (rightIn (now (grids .exit))) φ j
+        → judgedBy labels (now (grids .exit)) φ j
         ≡ tablesHold labels (now (left .entry)) (now (right .entry)) φ j) ⌝ }
 {
     if forwards == 0 {

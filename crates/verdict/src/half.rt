@@ -10,8 +10,9 @@ use labels::refusal::Refusal;
 use tables::check::check_table;
 ghost use mathlib.Core.Path.{_≡_};
 ghost use Rattle.labels.specs.Labels.{checkLabels};
+ghost use Rattle.labels.specs.Refusals.{refusedIf};
 ghost use Rattle.labels.specs.declared.refusal.Check.the-variants.{Sound};
-ghost use Rattle.halves.specs.Halves.{checkTableAndHalf};
+ghost use Rattle.labels.specs.declared.refusal.Refusal.the-variants.{PointBeyond};
 ghost use Rattle.halves.specs.Cuts.{beyond};
 ghost use Rattle.verdict.specs.Verdicts.{halfVerdict, checkHalfCall};
 
@@ -44,52 +45,34 @@ fn judged_half(labels: Labels, table: &[u8], half: &[u8], formula: &[u8], point:
     verdict_on(labels, table, &still, &mut buffer, 3 * point + 2, formula)
 }
 
-// What a half call judges after its labels. The half's check judges the table too, so that a call of which nothing is
-// refused has it judged once.
+// What a half call judges after its labels. The half's check judges the table too; only where it refuses are table,
+// formula and point judged in the call's order before it.
 fn check_half_call(labels: Labels, table: &[u8], half: &[u8], formula: &[u8], point: usize) -> Check
     requires { ⌜ checkLabels labels ≡ Sound ⌝ }
     ensures { λ r. ⌜ r ≡ checkHalfCall labels
         (now (table .entry)) (now (half .entry)) (now (formula .entry)) point ⌝ }
 {
+    let rest = check_formula(labels, 4096, formula).then(check_point(half, point));
     match check_half(labels, table, half) {
-        Check::Sound => {}
-        Check::Refused(_) => return refused_half_call(labels, table, half, formula, point),
+        Check::Sound => rest,
+        Check::Refused(refusal) => {
+            let before = check_table(labels, table).then(rest);
+            before.then(Check::Refused(refusal))
+        }
     }
-    match check_formula(labels, 4096, formula) {
-        Check::Sound => {}
-        Check::Refused(refusal) => return Check::Refused(refusal),
-    }
+}
+
+// 12: a half of even length has no points.
+fn check_point(half: &[u8], point: usize) -> Check
+    ensures { λ r. ⌜ r ≡ refusedIf (beyond (now (half .entry)) point) PointBeyond ⌝ }
+{
     if is_beyond(half, point) {
         return Check::Refused(Refusal::PointBeyond);
     }
     Check::Sound
 }
 
-// The number of a half call whose table or half is refused: the first in the order of the call.
-fn refused_half_call(
-    labels: Labels,
-    table: &[u8],
-    half: &[u8],
-    formula: &[u8],
-    point: usize,
-) -> Check
-    requires { ⌜ checkLabels labels ≡ Sound ⌝ }
-    requires { ⌜ (checkTableAndHalf labels (now table) (now half) ≡ Sound → ⊥) ⌝ }
-    ensures { λ r. ⌜ r ≡ checkHalfCall labels
-        (now (table .entry)) (now (half .entry)) (now (formula .entry)) point ⌝ }
-{
-    let parts = check_table(labels, table).then(check_formula(labels, 4096, formula));
-    match parts {
-        Check::Sound => {}
-        Check::Refused(refusal) => return Check::Refused(refusal),
-    }
-    if is_beyond(half, point) {
-        return Check::Refused(Refusal::PointBeyond);
-    }
-    Check::Refused(Refusal::NotARun)
-}
-
-// 12: a half of even length has no points.
+// Is the point beyond the half?
 fn is_beyond(half: &[u8], point: usize) -> bool
     ensures { λ r. ⌜ r ≡ beyond (now (half .entry)) point ⌝ }
 {

@@ -1,11 +1,12 @@
 // The verdict of a formula on a joint run that stands in a buffer. A look ahead writes one step behind the run, judges
-// the longer run, and puts back what stood there: after a back modality these are steps of the log. All is passed as
-// numbers and references to arrays, so that trying one row after the other is a loop in the compiled code.
+// the longer run, and puts back what stood there: after a back modality these are steps of the log. A tree is named by
+// the number of the formula's nodes from its first one on. What `try_rows` hands on are numbers, references to arrays
+// and structs of one or two fields, so that trying one row after the other is a loop in the compiled code.
 use crate::back::goes_on;
 use crate::back::steps_back;
+use crate::code::first_size_in;
 use crate::code::label_in;
 use crate::code::operator_in;
-use crate::code::size_in;
 use crate::grids::Rows;
 use crate::grids::rows_from;
 use crate::grids::wanted_rows;
@@ -20,8 +21,8 @@ use labels::label::Label;
 use labels::label::Labels;
 use labels::label::Partner;
 ghost use mathlib.Core.Path.{_≡_};
-ghost use Prim.Native.Nat.{ℕ, _+_, _-_, _*_, _≤_};
-ghost use mathlib.Core.Bool.{true, false, _||_};
+ghost use Prim.Native.Nat.{ℕ, _+_, _-_, _≤_};
+ghost use mathlib.Core.Bool.{true, false};
 ghost use lib.ListN.{getD, take, drop, set};
 ghost use Rattle.hml.specs.Lists.{present};
 ghost use Rattle.hml.specs.System.{_▸_};
@@ -29,7 +30,7 @@ ghost use Rattle.hml.specs.Formula.{fwd};
 ghost use Rattle.labels.specs.Labels.{pairing};
 ghost use Rattle.halves.specs.Runs.{stepOf};
 ghost use Rattle.machines.specs.Joints.{jointOf};
-ghost use Rattle.formulas.specs.Operators.{isConnective, isForward, isBack};
+ghost use Rattle.formulas.specs.Operators.{isForward};
 ghost use Rattle.verdict.specs.Working.{
   TwoGrids,
   Inside,
@@ -38,6 +39,7 @@ ghost use Rattle.verdict.specs.Working.{
   Shown,
   judgedBy,
   treeAt,
+  goesOn,
   operatorIn,
   leftIn,
   rightIn,
@@ -48,32 +50,33 @@ ghost use Rattle.verdict.specs.Working.{
   targetsOf,
 };
 
-// Does the tree at `at` hold on the run in the first len bytes? "And" and "or" stop as soon as they can, and go on with
-// their second operand here, as "not" does with its only one, and a back modality on the shorter run.
+// Does the tree that the formula's last `nodes` nodes begin with hold on the run in the first len bytes? "And" and "or"
+// stop as soon as they can, and go on with their second operand here, as "not" does with its only one, and a back
+// modality on the shorter run.
 pub(crate) fn holds(
     labels: Labels,
     grids: &[u8; 2176],
     code: &[u16; 4097],
     run: &mut [u8; 614],
     len: usize,
-    at: usize,
+    nodes: usize,
 ) -> bool
     requires { ⌜ TwoGrids (now grids) ⌝ }
-    requires { ⌜ Ready labels (now code) (now run) len 0 at ⌝ }
-    ensures { λ r. ⌜ r ≡ judgedBy labels (now (grids .entry)) (treeAt (now (code .entry)) at)
+    requires { ⌜ Ready labels (now code) (now run) len 0 nodes ⌝ }
+    ensures { λ r. ⌜ r ≡ judgedBy labels (now (grids .entry)) (treeAt (now (code .entry)) nodes)
         (jointOf (take len (now (run .entry)))) ⌝ }
     ensures { λ r. ⌜ now (run .exit) ≡ now (run .entry) ⌝ }
 {
     let mut len = len;
-    let mut at = at;
+    let mut nodes = nodes;
     // Does "not" stand an even number of times before what is left?
     let mut even = true;
-    while goes_on(operator_in(code[at])) {
-        let word = code[at];
+    while goes_on(operator_in(code[nodes])) {
+        let word = code[nodes];
         let operator = operator_in(word);
         if operator == 2 {
             even = !even;
-            at -= 1;
+            nodes -= 1;
             continue;
         }
         if is_back(operator) {
@@ -81,17 +84,17 @@ pub(crate) fn holds(
                 return !even;
             }
             len -= 3;
-            at -= 1;
+            nodes -= 1;
             continue;
         }
-        let first = operand(labels, grids, code, run, len, at - 1);
+        let first = operand(labels, grids, code, run, len, nodes - 1);
         if first == (operator == 4) {
             return first == even;
         }
         // The second operand begins where the first one ends.
-        at = at - 1 - size_in(word);
+        nodes = nodes - 1 - first_size_in(word);
     }
-    let last = judge(labels, grids, code, run, len, at);
+    let last = judge(labels, grids, code, run, len, nodes);
     last == even
 }
 
@@ -102,15 +105,15 @@ fn operand(
     code: &[u16; 4097],
     run: &mut [u8; 614],
     len: usize,
-    at: usize,
+    nodes: usize,
 ) -> bool
     requires { ⌜ TwoGrids (now grids) ⌝ }
-    requires { ⌜ Ready labels (now code) (now run) len 0 at ⌝ }
-    ensures { λ r. ⌜ r ≡ judgedBy labels (now (grids .entry)) (treeAt (now (code .entry)) at)
+    requires { ⌜ Ready labels (now code) (now run) len 0 nodes ⌝ }
+    ensures { λ r. ⌜ r ≡ judgedBy labels (now (grids .entry)) (treeAt (now (code .entry)) nodes)
         (jointOf (take len (now (run .entry)))) ⌝ }
     ensures { λ r. ⌜ now (run .exit) ≡ now (run .entry) ⌝ }
 {
-    let operator = operator_in(code[at]);
+    let operator = operator_in(code[nodes]);
     if operator == 0 {
         return true;
     }
@@ -118,9 +121,9 @@ fn operand(
         return false;
     }
     if is_forward(operator) {
-        return ahead(labels, grids, code, run, len, at);
+        return ahead(labels, grids, code, run, len, nodes);
     }
-    holds(labels, grids, code, run, len, at)
+    holds(labels, grids, code, run, len, nodes)
 }
 
 // The same for true, false and the forward modalities alone.
@@ -130,24 +133,23 @@ fn judge(
     code: &[u16; 4097],
     run: &mut [u8; 614],
     len: usize,
-    at: usize,
+    nodes: usize,
 ) -> bool
     requires { ⌜ TwoGrids (now grids) ⌝ }
-    requires { ⌜ Ready labels (now code) (now run) len 0 at ⌝ }
-    requires { ⌜ (isConnective (operatorIn (getD (now code) at 0)) || isBack (operatorIn (getD (now code) at 0)))
-        ≡ false ⌝ }
-    ensures { λ r. ⌜ r ≡ judgedBy labels (now (grids .entry)) (treeAt (now (code .entry)) at)
+    requires { ⌜ Ready labels (now code) (now run) len 0 nodes ⌝ }
+    requires { ⌜ goesOn (operatorIn (getD (now code) nodes 0)) ≡ false ⌝ }
+    ensures { λ r. ⌜ r ≡ judgedBy labels (now (grids .entry)) (treeAt (now (code .entry)) nodes)
         (jointOf (take len (now (run .entry)))) ⌝ }
     ensures { λ r. ⌜ now (run .exit) ≡ now (run .entry) ⌝ }
 {
-    let operator = operator_in(code[at]);
+    let operator = operator_in(code[nodes]);
     if operator == 0 {
         return true;
     }
     if operator == 1 {
         return false;
     }
-    ahead(labels, grids, code, run, len, at)
+    ahead(labels, grids, code, run, len, nodes)
 }
 
 // The same for a forward modality.
@@ -157,23 +159,31 @@ fn ahead(
     code: &[u16; 4097],
     run: &mut [u8; 614],
     len: usize,
-    at: usize,
+    nodes: usize,
 ) -> bool
     requires { ⌜ TwoGrids (now grids) ⌝ }
-    requires { ⌜ Ready labels (now code) (now run) len 0 at ⌝ }
-    requires { ⌜ isForward (operatorIn (getD (now code) at 0)) ≡ true ⌝ }
-    ensures { λ r. ⌜ r ≡ judgedBy labels (now (grids .entry)) (treeAt (now (code .entry)) at)
+    requires { ⌜ Ready labels (now code) (now run) len 0 nodes ⌝ }
+    requires { ⌜ isForward (operatorIn (getD (now code) nodes 0)) ≡ true ⌝ }
+    ensures { λ r. ⌜ r ≡ judgedBy labels (now (grids .entry)) (treeAt (now (code .entry)) nodes)
         (jointOf (take len (now (run .entry)))) ⌝ }
     ensures { λ r. ⌜ now (run .exit) ≡ now (run .entry) ⌝ }
 {
-    let word = code[at];
+    let word = code[nodes];
     if operator_in(word) == 7 {
-        return stay(labels, grids, code, run, len, at - 1);
+        return stay(labels, grids, code, run, len, nodes - 1);
     }
-    forward(labels, grids, code, run, len, Label(label_in(word)), at - 1)
+    forward(
+        labels,
+        grids,
+        code,
+        run,
+        len,
+        Label(label_in(word)),
+        nodes - 1,
+    )
 }
 
-// Does the tree at `at` hold after one of the real steps of this label: left alone, right alone, or a handshake?
+// Does the tree hold after one of the real steps of this label: the left alone, the right alone, or a handshake?
 fn forward(
     labels: Labels,
     grids: &[u8; 2176],
@@ -181,29 +191,29 @@ fn forward(
     run: &mut [u8; 614],
     len: usize,
     label: Label,
-    at: usize,
+    nodes: usize,
 ) -> bool
     requires { ⌜ TwoGrids (now grids) ⌝ }
-    requires { ⌜ Ready labels (now code) (now run) len 1 at ⌝ }
+    requires { ⌜ Ready labels (now code) (now run) len 1 nodes ⌝ }
     requires { ⌜ Shown (label .0) ⌝ }
-    ensures { λ r. ⌜ r ≡ judgedBy labels (now (grids .entry)) (fwd (label .0) (treeAt (now (code .entry)) at))
+    ensures { λ r. ⌜ r ≡ judgedBy labels (now (grids .entry)) (fwd (label .0) (treeAt (now (code .entry)) nodes))
         (jointOf (take len (now (run .entry)))) ⌝ }
     ensures { λ r. ⌜ now (run .exit) ≡ now (run .entry) ⌝ }
 {
     // What fails everywhere holds after no step.
-    if fails_everywhere(code, at) {
+    if fails_everywhere(code, nodes) {
         return false;
     }
-    if try_left(labels, grids, code, run, len, label, at) {
+    if try_left(labels, grids, code, run, len, label, nodes) {
         return true;
     }
-    if try_right(labels, grids, code, run, len, label, at) {
+    if try_right(labels, grids, code, run, len, label, nodes) {
         return true;
     }
     if !label.is_silent() {
         return false;
     }
-    try_both(labels, grids, code, run, len, at)
+    try_both(labels, grids, code, run, len, nodes)
 }
 
 // Does it hold after one of the left's steps alone of this label?
@@ -214,12 +224,12 @@ fn try_left(
     run: &mut [u8; 614],
     len: usize,
     label: Label,
-    at: usize,
+    nodes: usize,
 ) -> bool
     requires { ⌜ TwoGrids (now grids) ⌝ }
-    requires { ⌜ Ready labels (now code) (now run) len 1 at ⌝ }
+    requires { ⌜ Ready labels (now code) (now run) len 1 nodes ⌝ }
     requires { ⌜ Shown (label .0) ⌝ }
-    ensures { λ r. ⌜ r ≡ tried (λ (p : ℕ). judgedBy labels (now (grids .entry)) (treeAt (now (code .entry)) at)
+    ensures { λ r. ⌜ r ≡ tried (λ (p : ℕ). judgedBy labels (now (grids .entry)) (treeAt (now (code .entry)) nodes)
         (jointOf (take len (now (run .entry))) ▸ stepOf (label .0) (p, getD (now (run .entry)) (len - 1) 0)))
         (label .0) (gridOf (leftIn (now (grids .entry))) (getD (now (run .entry)) (len - 2) 0)) ⌝ }
     ensures { λ r. ⌜ now (run .exit) ≡ now (run .entry) ⌝ }
@@ -232,7 +242,7 @@ fn try_left(
         shown: label,
         other: run[len - 1],
     };
-    try_moves(labels, grids, code, run, len, trial, at)
+    try_moves(labels, grids, code, run, len, trial, nodes)
 }
 
 // Does it hold after one of the right's steps alone of this label?
@@ -243,12 +253,12 @@ fn try_right(
     run: &mut [u8; 614],
     len: usize,
     label: Label,
-    at: usize,
+    nodes: usize,
 ) -> bool
     requires { ⌜ TwoGrids (now grids) ⌝ }
-    requires { ⌜ Ready labels (now code) (now run) len 1 at ⌝ }
+    requires { ⌜ Ready labels (now code) (now run) len 1 nodes ⌝ }
     requires { ⌜ Shown (label .0) ⌝ }
-    ensures { λ r. ⌜ r ≡ tried (λ (q : ℕ). judgedBy labels (now (grids .entry)) (treeAt (now (code .entry)) at)
+    ensures { λ r. ⌜ r ≡ tried (λ (q : ℕ). judgedBy labels (now (grids .entry)) (treeAt (now (code .entry)) nodes)
         (jointOf (take len (now (run .entry))) ▸ stepOf (label .0) (getD (now (run .entry)) (len - 2) 0, q)))
         (label .0) (gridOf (rightIn (now (grids .entry))) (getD (now (run .entry)) (len - 1) 0)) ⌝ }
     ensures { λ r. ⌜ now (run .exit) ≡ now (run .entry) ⌝ }
@@ -261,7 +271,7 @@ fn try_right(
         shown: label,
         other: run[len - 2],
     };
-    try_moves(labels, grids, code, run, len, trial, at)
+    try_moves(labels, grids, code, run, len, trial, nodes)
 }
 
 // Does it hold after one of the handshakes from the last states?
@@ -271,19 +281,19 @@ fn try_both(
     code: &[u16; 4097],
     run: &mut [u8; 614],
     len: usize,
-    at: usize,
+    nodes: usize,
 ) -> bool
     requires { ⌜ TwoGrids (now grids) ⌝ }
-    requires { ⌜ Ready labels (now code) (now run) len 1 at ⌝ }
+    requires { ⌜ Ready labels (now code) (now run) len 1 nodes ⌝ }
     ensures { λ r. ⌜ r ≡ shaken (pairing labels) (λ (p q : ℕ).
-        judgedBy labels (now (grids .entry)) (treeAt (now (code .entry)) at)
+        judgedBy labels (now (grids .entry)) (treeAt (now (code .entry)) nodes)
         (jointOf (take len (now (run .entry))) ▸ stepOf 0 (p, q)))
         (gridOf (leftIn (now (grids .entry))) (getD (now (run .entry)) (len - 2) 0))
         (gridOf (rightIn (now (grids .entry))) (getD (now (run .entry)) (len - 1) 0)) ⌝ }
     ensures { λ r. ⌜ now (run .exit) ≡ now (run .entry) ⌝ }
 {
     let rows = rows_from(grids, Mover::Left, run[len - 2]);
-    try_handshakes(labels, grids, code, run, len, rows, at)
+    try_handshakes(labels, grids, code, run, len, rows, nodes)
 }
 
 // Does it hold after one of the handshakes of these rows of the left?
@@ -294,13 +304,13 @@ fn try_handshakes(
     run: &mut [u8; 614],
     len: usize,
     rows: Rows,
-    at: usize,
+    nodes: usize,
 ) -> bool
     requires { ⌜ TwoGrids (now grids) ⌝ }
-    requires { ⌜ Ready labels (now code) (now run) len 1 at ⌝ }
+    requires { ⌜ Ready labels (now code) (now run) len 1 nodes ⌝ }
     requires { ⌜ Inside (rows .at) (rows .count) ⌝ }
     ensures { λ r. ⌜ r ≡ shaken (pairing labels) (λ (p q : ℕ).
-        judgedBy labels (now (grids .entry)) (treeAt (now (code .entry)) at)
+        judgedBy labels (now (grids .entry)) (treeAt (now (code .entry)) nodes)
         (jointOf (take len (now (run .entry))) ▸ stepOf 0 (p, q)))
         (pairsIn (rows .count) (drop (rows .at) (now (grids .entry))))
         (gridOf (rightIn (now (grids .entry))) (getD (now (run .entry)) (len - 1) 0)) ⌝ }
@@ -314,14 +324,14 @@ fn try_handshakes(
         label: Label(grids[row]),
         target: grids[row + 1],
     };
-    if try_partner(labels, grids, code, run, len, first, at) {
+    if try_partner(labels, grids, code, run, len, first, nodes) {
         return true;
     }
     let rest = Rows {
         at: row + 2,
         count: rows.count - 1,
     };
-    try_handshakes(labels, grids, code, run, len, rest, at)
+    try_handshakes(labels, grids, code, run, len, rest, nodes)
 }
 
 // Does it hold after one of the handshakes of this move of the left?
@@ -332,12 +342,12 @@ fn try_partner(
     run: &mut [u8; 614],
     len: usize,
     first: Move,
-    at: usize,
+    nodes: usize,
 ) -> bool
     requires { ⌜ TwoGrids (now grids) ⌝ }
-    requires { ⌜ Ready labels (now code) (now run) len 1 at ⌝ }
+    requires { ⌜ Ready labels (now code) (now run) len 1 nodes ⌝ }
     ensures { λ r. ⌜ r ≡ present (λ (b : ℕ). tried (λ (q : ℕ).
-        judgedBy labels (now (grids .entry)) (treeAt (now (code .entry)) at)
+        judgedBy labels (now (grids .entry)) (treeAt (now (code .entry)) nodes)
         (jointOf (take len (now (run .entry))) ▸ stepOf 0 (first .target, q)))
         b (gridOf (rightIn (now (grids .entry))) (getD (now (run .entry)) (len - 1) 0)))
         (pairing labels .partner (first .label .0)) ⌝ }
@@ -353,7 +363,7 @@ fn try_partner(
                 shown: Label::SILENT,
                 other: first.target,
             };
-            try_moves(labels, grids, code, run, len, trial, at)
+            try_moves(labels, grids, code, run, len, trial, nodes)
         }
         Partner::Nobody => false,
     }
@@ -368,12 +378,12 @@ fn try_moves(
     run: &mut [u8; 614],
     len: usize,
     trial: Trial,
-    at: usize,
+    nodes: usize,
 ) -> bool
     requires { ⌜ TwoGrids (now grids) ⌝ }
-    requires { ⌜ Ready labels (now code) (now run) len 1 at ⌝ }
+    requires { ⌜ Ready labels (now code) (now run) len 1 nodes ⌝ }
     requires { ⌜ Inside (trial .rows .at) (trial .rows .count) × (trial .rows .count ≤ 8) × Shown (trial .shown .0) ⌝ }
-    ensures { λ r. ⌜ r ≡ tried (λ (to : ℕ). judgedBy labels (now (grids .entry)) (treeAt (now (code .entry)) at)
+    ensures { λ r. ⌜ r ≡ tried (λ (to : ℕ). judgedBy labels (now (grids .entry)) (treeAt (now (code .entry)) nodes)
         (jointOf (take len (now (run .entry)))
         ▸ stepOf (trial .shown .0) (targetsOf (trial .mover) to (trial .other))))
         (trial .wanted .0) (pairsIn (trial .rows .count) (drop (trial .rows .at) (now (grids .entry)))) ⌝ }
@@ -392,15 +402,25 @@ fn try_moves(
     run[len + 2] = trial.other;
     let mover = trial.mover;
     let place = place_by(mover, len);
-    let held = try_rows(labels, grids, code, run, len, rows, trial.wanted, place, at);
+    let held = try_rows(
+        labels,
+        grids,
+        code,
+        run,
+        len,
+        rows,
+        trial.wanted,
+        place,
+        nodes,
+    );
     run[len] = a;
     run[len + 1] = b;
     run[len + 2] = c;
     held
 }
 
-// Does it hold after one of these moves, the first of which has the wanted label? All of the step but the mover's state
-// stands behind the run; that one is written at `place`.
+// Does it hold after one of those moves of these rows that have the wanted label, as the first one has? All of the step
+// but the mover's state stands behind the run; that one is written at `place`.
 fn try_rows(
     labels: Labels,
     grids: &[u8; 2176],
@@ -410,14 +430,14 @@ fn try_rows(
     rows: Rows,
     wanted: Label,
     place: usize,
-    at: usize,
+    nodes: usize,
 ) -> bool
     requires { ⌜ TwoGrids (now grids) ⌝ }
-    requires { ⌜ Ready labels (now code) (now run) len 1 at ⌝ }
+    requires { ⌜ Ready labels (now code) (now run) len 1 nodes ⌝ }
     requires { ⌜ Inside (rows .at) (rows .count) × (1 ≤ rows .count) × (rows .count ≤ 8)
         × (getD (now grids) (rows .at) 0 ≡ wanted .0) ⌝ }
     requires { ⌜ Placed place len × Shown (getD (now run) len 0) ⌝ }
-    ensures { λ r. ⌜ r ≡ tried (λ (to : ℕ). judgedBy labels (now (grids .entry)) (treeAt (now (code .entry)) at)
+    ensures { λ r. ⌜ r ≡ tried (λ (to : ℕ). judgedBy labels (now (grids .entry)) (treeAt (now (code .entry)) nodes)
         (jointOf (take (len + 3) (set (now (run .entry)) place to))))
         (wanted .0) (pairsIn (rows .count) (drop (rows .at) (now (grids .entry)))) ⌝ }
     ensures { λ r. ⌜ now (run .exit) ≡ now (run .entry) ⌝ }
@@ -425,7 +445,7 @@ fn try_rows(
     let row = rows.at;
     let kept = run[place];
     run[place] = grids[row + 1];
-    let held = operand(labels, grids, code, run, len + 3, at);
+    let held = operand(labels, grids, code, run, len + 3, nodes);
     run[place] = kept;
     if held {
         return true;
@@ -438,7 +458,7 @@ fn try_rows(
     if rest.count == 0 {
         return false;
     }
-    try_rows(labels, grids, code, run, len, rest, wanted, place, at)
+    try_rows(labels, grids, code, run, len, rest, wanted, place, nodes)
 }
 
 // Does it hold on the run with an idle more? The buffer is as before when this returns.
@@ -448,11 +468,11 @@ fn stay(
     code: &[u16; 4097],
     run: &mut [u8; 614],
     len: usize,
-    at: usize,
+    nodes: usize,
 ) -> bool
     requires { ⌜ TwoGrids (now grids) ⌝ }
-    requires { ⌜ Ready labels (now code) (now run) len 1 at ⌝ }
-    ensures { λ r. ⌜ r ≡ judgedBy labels (now (grids .entry)) (treeAt (now (code .entry)) at)
+    requires { ⌜ Ready labels (now code) (now run) len 1 nodes ⌝ }
+    ensures { λ r. ⌜ r ≡ judgedBy labels (now (grids .entry)) (treeAt (now (code .entry)) nodes)
         (jointOf (take len (now (run .entry)))
         ▸ stepOf 255 (getD (now (run .entry)) (len - 2) 0, getD (now (run .entry)) (len - 1) 0)) ⌝ }
     ensures { λ r. ⌜ now (run .exit) ≡ now (run .entry) ⌝ }
@@ -465,7 +485,7 @@ fn stay(
     run[len] = Label::IDLE.0;
     run[len + 1] = p;
     run[len + 2] = q;
-    let held = holds(labels, grids, code, run, len + 3, at);
+    let held = holds(labels, grids, code, run, len + 3, nodes);
     run[len] = x;
     run[len + 1] = y;
     run[len + 2] = z;

@@ -11,8 +11,8 @@ pub(crate) enum Mover {
     Right,
 }
 
-// What a forward modality tries: those rows that have the wanted label, the side that moves by them, the label that
-// their steps show, and the state of the other side after them.
+// What a forward modality tries: the rows of a state, of them those with the wanted label, the side that moves by them,
+// the label that their steps show, and the state of the other side after them.
 pub(crate) struct Trial {
     pub rows: Rows,
     pub wanted: Label,

@@ -6,8 +6,8 @@ use Prim.Native.Nat.{ℕ}
 use lib.ListN.{length-replicate}
 use Rattle.verdict.proofs.Calls.{legal-whole, legal-ready, legal-holds, legal-fails}
 
-coded-requires : tie.Need-coded-requires
-coded-requires c κs =
+write-code-requires : tie.Need-write-code-requires
+write-code-requires c κs =
     let s = c .before .before .before .before in (legal-whole _ _ (s .pre .1 .1), length-replicate {A = ℕ} 4097 0)
 
 look-up-requires : tie.Need-look-up-requires
@@ -20,7 +20,7 @@ holds-requires c κs =
     let s = w .before .before .before .before .before in
     let run = s .pre .1 .0 in (
       u .look-up .ensures .0,
-      legal-ready _ _ (s .pre .1 .1) _ _ _ (w .coded .ensures .0) (run .2) (run .0) (run .1),
+      legal-ready _ _ (s .pre .1 .1) _ _ _ (w .write-code .ensures .0) (run .2) (run .0) (run .1),
     )
 
 returns : tie.Need-returns
@@ -29,8 +29,8 @@ returns c =
     let u = h .before .before .before .before in
     let w = u .before .before in
     let s = w .before .before .before .before .before in
-    let same = rw (w .coded .ensures .1) at (u .look-up .ensures .1) in
-    legal-holds _ _ (s .pre .1 .1) _ _ _ (u .look-up .last .1 .1 .1 .1 .0) _ (w .coded .ensures .0) same _ _
+    let same = rw (w .write-code .ensures .1) at (u .look-up .ensures .1) in
+    legal-holds _ _ (s .pre .1 .1) _ _ _ (u .look-up .last .1 .1 .1 .1 .0) _ (w .write-code .ensures .0) same _ _
     (h .holds .ensures .0) (c .if1 .taken)
 
 returns-2 : tie.Need-returns-2
@@ -39,10 +39,10 @@ returns-2 c =
     let u = h .before .before .before .before in
     let w = u .before .before in
     let s = w .before .before .before .before .before in
-    let same = rw (w .coded .ensures .1) at (u .look-up .ensures .1) in
-    legal-fails _ _ (s .pre .1 .1) _ _ _ (u .look-up .last .1 .1 .1 .1 .0) _ (w .coded .ensures .0) same _ _
+    let same = rw (w .write-code .ensures .1) at (u .look-up .ensures .1) in
+    legal-fails _ _ (s .pre .1 .1) _ _ _ (u .look-up .last .1 .1 .1 .1 .0) _ (w .write-code .ensures .0) same _ _
     (h .holds .ensures .0) (c .if1 .left)
 
 pub verdict-on-spec : {M : Type 1} → statement M
 verdict-on-spec =
-    tie.close (tie.spec coded-requires look-up-requires holds-requires returns returns-2)
+    tie.close (tie.spec write-code-requires look-up-requires holds-requires returns returns-2)

@@ -1,9 +1,18 @@
--- The table and the half, the formula, then the point.
+-- Table and half at once; where they are refused, what comes before the half.
 use borrow.Author.Needs.{needs}
 use Rattle.verdict.proofs.half.check_half_call.Statement.{statement}
 use Rattle.verdict.proofs.half.check_half_call.Tie as tie
 use mathlib.Core.Path.{sym, _∙_}
-use Rattle.verdict.proofs.Calls.{half-refused, half-beyond, half-judged, half-parts-judged, not-sound}
+use Rattle.verdict.proofs.Calls.{half-sound, half-refused}
+
+check-formula-requires : tie.Need-check-formula-requires
+check-formula-requires c κs = search needs
+
+check-point-requires : tie.Need-check-point-requires
+check-point-requires c κs = search needs
+
+then-requires : tie.Need-then-requires
+then-requires c κs = search needs
 
 check-half-requires : tie.Need-check-half-requires
 check-half-requires c κs = search needs
@@ -11,79 +20,55 @@ check-half-requires c κs = search needs
 enum-told : tie.Need-enum-told
 enum-told c = search needs
 
-enum-told-2 : tie.Need-enum-told-2
-enum-told-2 c = search needs
-
-refused-half-call-requires : tie.Need-refused-half-call-requires
-refused-half-call-requires c κs =
-    let h = c .before .before in
-    let s = h .before .before .before .before in
-    (s .pre, not-sound _ _ (sym (h .check-half .ensures) ∙ c .enum-told2 .given .1))
-
-returns : tie.Need-returns
-returns c = search needs
-
-check-formula-requires : tie.Need-check-formula-requires
-check-formula-requires c κs = search needs
-
-enum-told-3 : tie.Need-enum-told-3
-enum-told-3 c = search needs
-
 enum-known-refusal : tie.Need-enum-known-refusal
 enum-known-refusal c = search needs
+
+check-table-requires : tie.Need-check-table-requires
+check-table-requires c κs = search needs
+
+then-requires-2 : tie.Need-then-requires-2
+then-requires-2 c κs = search needs
+
+then-requires-3 : tie.Need-then-requires-3
+then-requires-3 c κs = search needs
+
+returns : tie.Need-returns
+returns c =
+    let h = c .before .before in
+    let r = h .before in
+    let p = r .before in
+    let f = p .before in
+    let s = f .before .before .before .before in
+    let rest = rw (f .check-formula .ensures, p .check-point .ensures) at (r .then .ensures) in
+    rest ∙ half-sound _ _ _ _ (s .pre) _ (sym (h .check-half .ensures) ∙ c .enum-told .given .1)
 
 returns-2 : tie.Need-returns-2
 returns-2 c =
     let b = c .before in
-    let f = b .before .before in
-    let e = f .before in
-    let h = e .before .before in
-    let s = h .before .before .before .before in
-    let half = sym (h .check-half .ensures) ∙ e .enum-told .given .1 in
-    let formula = sym (f .check-formula .ensures) ∙ b .refusal .given .1 in
-    let judged = half-parts-judged _ _ _ _ (s .pre) half _ formula in
-    half-refused _ _ _ _ _ _ judged
-
-is-beyond-requires : tie.Need-is-beyond-requires
-is-beyond-requires c κs = search needs
-
-returns-3 : tie.Need-returns-3
-returns-3 c =
-    let b = c .before .before in
-    let f = b .before .before in
-    let e = f .before in
-    let h = e .before .before in
-    let s = h .before .before .before .before in
-    let half = sym (h .check-half .ensures) ∙ e .enum-told .given .1 in
-    let formula = sym (f .check-formula .ensures) ∙ b .enum-told3 .given .1 in
-    let judged = half-parts-judged _ _ _ _ (s .pre) half _ formula in
-    half-beyond _ _ _ _ _ judged (sym (c .before .is-beyond .ensures) ∙ c .if1 .taken)
-
-returns-4 : tie.Need-returns-4
-returns-4 c =
-    let b = c .before .before in
-    let f = b .before .before in
-    let e = f .before in
-    let h = e .before .before in
-    let s = h .before .before .before .before in
-    let half = sym (h .check-half .ensures) ∙ e .enum-told .given .1 in
-    let formula = sym (f .check-formula .ensures) ∙ b .enum-told3 .given .1 in
-    let judged = half-parts-judged _ _ _ _ (s .pre) half _ formula in
-    half-judged _ _ _ _ _ judged (sym (c .before .is-beyond .ensures) ∙ c .if1 .left) _ (sym half)
+    let t = b .before in
+    let x = t .before .before in
+    let h = x .before .before in
+    let r = h .before in
+    let p = r .before in
+    let f = p .before in
+    let s = f .before .before .before .before in
+    let rest = rw (f .check-formula .ensures, p .check-point .ensures) at (r .then .ensures) in
+    let before = rw (t .check-table .ensures, rest) at (b .then2 .ensures) in
+    (rw before at (c .then3 .ensures))
+    ∙ half-refused _ _ _ _ (s .pre) _ _ (sym (h .check-half .ensures) ∙ x .refusal .given .1)
 
 pub check-half-call-spec : {M : Type 1} → statement M
 check-half-call-spec =
     tie.close
     (tie.spec
+    check-formula-requires
+    check-point-requires
+    then-requires
     check-half-requires
     enum-told
-    enum-told-2
-    refused-half-call-requires
-    returns
-    check-formula-requires
-    enum-told-3
     enum-known-refusal
-    returns-2
-    is-beyond-requires
-    returns-3
-    returns-4)
+    check-table-requires
+    then-requires-2
+    then-requires-3
+    returns
+    returns-2)

@@ -4,7 +4,7 @@ use Rattle.verdict.proofs.half.half.Statement.{statement}
 use Rattle.verdict.proofs.half.half.Tie as tie
 use mathlib.Core.Path.{sym, _∙_}
 use Rattle.verdict.specs.Verdicts.{halfVerdict}
-use Rattle.verdict.proofs.Calls.{half-refused, labels-refused, answer-refused}
+use Rattle.verdict.proofs.Calls.{half-unlabelled, answer-refused}
 
 check-requires : tie.Need-check-requires
 check-requires c κs = search needs
@@ -19,7 +19,7 @@ returns : tie.Need-returns
 unfolding halfVerdict
 returns c =
     let labels = sym (c .before .before .before .check .ensures) ∙ c .before .refusal .given .1 in
-    answer-refused _ _ _ (sym (half-refused _ _ _ _ _ _ (labels-refused _ _ _ labels)))
+    answer-refused _ _ _ (sym (half-unlabelled _ _ _ _ _ _ labels))
 
 judged-half-requires : tie.Need-judged-half-requires
 judged-half-requires c κs = sym (c .before .before .check .ensures) ∙ c .enum-told .given .1

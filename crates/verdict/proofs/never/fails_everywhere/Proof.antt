@@ -7,10 +7,10 @@ use mathlib.Core.Bool.{false≢true}
 use Rattle.verdict.proofs.Operands.{Turning, turning-start, turning-on, turning-top, turning-bottom, some-node}
 
 abbrev Inv-loop : tie.InvT-loop
-Inv-loop code at at₀ even₀ at' even = Turning code at at' even
+Inv-loop code nodes nodes₀ even₀ nodes' even = Turning code nodes nodes' even
 
 abbrev μ-loop : tie.MeasureT-loop
-μ-loop code at at₀ even₀ at' even = at'
+μ-loop code nodes nodes₀ even₀ nodes' even = nodes'
 
 loop-holds : tie.Need-loop-holds Inv-loop μ-loop
 loop-holds c = turning-start _ _ (c .pre .0)
@@ -24,8 +24,8 @@ element-copy-out-operator-in c = omega (arith, c .loop .inv .shorter, c .before 
 operator-in-requires : tie.Need-operator-in-requires Inv-loop μ-loop
 operator-in-requires c κs = tt
 
-sub-at : tie.Need-sub-at Inv-loop μ-loop
-sub-at c = some-node _ _ (c .before .before .before .loop .inv .tree)
+sub-nodes : tie.Need-sub-nodes Inv-loop μ-loop
+sub-nodes c = some-node _ _ (c .before .before .before .loop .inv .tree)
 
 loop-less : tie.Need-loop-less Inv-loop μ-loop
 loop-less c = omega (arith, some-node _ _ (c .before .before .before .loop .inv .tree))
@@ -71,7 +71,7 @@ fails-everywhere-spec =
     mul-operator-in
     element-copy-out-operator-in
     operator-in-requires
-    sub-at
+    sub-nodes
     loop-less
     loop-again
     mul-operator-in-2

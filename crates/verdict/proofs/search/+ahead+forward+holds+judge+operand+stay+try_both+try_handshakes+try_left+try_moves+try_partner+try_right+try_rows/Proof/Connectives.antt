@@ -21,11 +21,11 @@ use Rattle.verdict.proofs.search.+ahead+forward+holds+judge+operand+sta
 }
 
 abbrev pub holds-Inv-loop : holds-lts.InvT-loop
-holds-Inv-loop labels grids code run₀ len at len₀ at₀ even₀ run len' at' even =
-    (run ≡ run₀) × operands.Going labels (leftIn grids) (rightIn grids) code run₀ len at len' at' even
+holds-Inv-loop labels grids code run₀ len nodes len₀ nodes₀ even₀ run len' nodes' even =
+    (run ≡ run₀) × operands.Going labels (leftIn grids) (rightIn grids) code run₀ len nodes len' nodes' even
 
 abbrev pub holds-μ-loop : holds-lts.MeasureT-loop
-holds-μ-loop labels grids code run₀ len at len₀ at₀ even₀ run len' at' even = at'
+holds-μ-loop labels grids code run₀ len nodes len₀ nodes₀ even₀ run len' nodes' even = nodes'
 
 pub holds-loop-holds : (t : ℕ)
     → holds-lts.Need-loop-holds (holds-claims t) (holds-at t) holds-reads.Post
@@ -67,10 +67,10 @@ pub holds-operator-in-requires-2 : (t : ℕ)
     holds-Inv-loop holds-μ-loop
 holds-operator-in-requires-2 t c κs = tt
 
-pub holds-sub-at : (t : ℕ)
-    → holds-lts.Need-sub-at (holds-claims t) (holds-at t) holds-reads.Post
+pub holds-sub-nodes : (t : ℕ)
+    → holds-lts.Need-sub-nodes (holds-claims t) (holds-at t) holds-reads.Post
     holds-Inv-loop holds-μ-loop
-holds-sub-at t c =
+holds-sub-nodes t c =
     let lp = c .before .before .before .before .before .before .before in
     operands.some-node _ _ (lp .loop .inv .1 .ready .tree)
 
@@ -135,10 +135,10 @@ holds-sub-len t c =
     let q = rw (op2 .operator-in2 .ensures, li .label-in .ensures, l .loop .inv .0) at (sb .steps-back .ensures) in
     omega (arith, operands.going-long _ _ _ _ _ _ _ _ _ _ (l .loop .inv .1) o _ q (not-false _ (c .if4 .left)))
 
-pub holds-sub-at-2 : (t : ℕ)
-    → holds-lts.Need-sub-at-2 (holds-claims t) (holds-at t) holds-reads.Post
+pub holds-sub-nodes-2 : (t : ℕ)
+    → holds-lts.Need-sub-nodes-2 (holds-claims t) (holds-at t) holds-reads.Post
     holds-Inv-loop holds-μ-loop
-holds-sub-at-2 t c =
+holds-sub-nodes-2 t c =
     let far = c .before .before .before .before .before .before .before .before in
     let lp = far .before .before .before .before .before in
     operands.some-node _ _ (lp .loop .inv .1 .ready .tree)
@@ -215,22 +215,22 @@ holds-returns-2 t c =
       od .operand .ensures .1 ∙ l .loop .inv .0,
     )
 
-pub holds-sub-at-3 : (t : ℕ)
-    → holds-lts.Need-sub-at-3 (holds-claims t) (holds-at t) holds-reads.Post
+pub holds-sub-nodes-3 : (t : ℕ)
+    → holds-lts.Need-sub-nodes-3 (holds-claims t) (holds-at t) holds-reads.Post
     holds-Inv-loop holds-μ-loop
-holds-sub-at-3 t c =
+holds-sub-nodes-3 t c =
     let lp = c .before .before .before .before .before .before .before .before .before .before .before .before in
     operands.some-node _ _ (lp .loop .inv .1 .ready .tree)
 
-pub holds-size-in-requires : (t : ℕ)
-    → holds-lts.Need-size-in-requires (holds-claims t) (holds-at t) holds-reads.Post
+pub holds-first-size-in-requires : (t : ℕ)
+    → holds-lts.Need-first-size-in-requires (holds-claims t) (holds-at t) holds-reads.Post
     holds-Inv-loop holds-μ-loop
-holds-size-in-requires t c κs = tt
+holds-first-size-in-requires t c κs = tt
 
-pub holds-sub-at-4 : (t : ℕ)
-    → holds-lts.Need-sub-at-4 (holds-claims t) (holds-at t) holds-reads.Post
+pub holds-sub-nodes-4 : (t : ℕ)
+    → holds-lts.Need-sub-nodes-4 (holds-claims t) (holds-at t) holds-reads.Post
     holds-Inv-loop holds-μ-loop
-holds-sub-at-4 t c =
+holds-sub-nodes-4 t c =
     let i3 = c .before .before .before .before in
     let ib = i3 .before in
     let i2 = ib .before in
@@ -243,7 +243,7 @@ holds-sub-at-4 t c =
     let on = rw (op .operator-in .ensures) at (sym (go .goes-on .ensures) ∙ i1 .if1 .taken) in
     let other = rw (op2 .operator-in2 .ensures) at (sym (ib .is-back .ensures) ∙ i3 .if3 .left) in
     let o = operands.two-operands _ on (λ z. i2 .if2 .left (op2 .operator-in2 .ensures ∙ z)) other in
-    omega (arith, operands.second-begins _ _ (g .ready .tree) (g .ready .skips) o, c .size-in .ensures)
+    omega (arith, operands.second-begins _ _ (g .ready .tree) (g .ready .skips) o, c .first-size-in .ensures)
 
 pub holds-loop-less-3 : (t : ℕ)
     → holds-lts.Need-loop-less-3 (holds-claims t) (holds-at t) holds-reads.Post
@@ -273,7 +273,7 @@ holds-loop-again-3 t c =
     let o = operands.two-operands _ on (λ z. i2 .if2 .left (op2 .operator-in2 .ensures ∙ z)) other in
     let first = rw (l .loop .inv .0) at (od .operand .ensures .0) in (
       od .operand .ensures .1 ∙ l .loop .inv .0,
-      rw (c .size-in .ensures)
+      rw (c .first-size-in .ensures)
           (operands.going-on _ _ _ _ _ _ _ _ _ _ g o _ first (rw (op2 .operator-in2 .ensures) at (i5 .if5 .left))),
     )
 
@@ -347,7 +347,6 @@ pub operand-holds-requires : (t : ℕ)
     → operand-lts.Need-holds-requires (operand-claims t) (operand-at t) operand-reads.Post
 operand-holds-requires t c κs =
     let s = c .before .before .before .before .before .before .before in
-    let s = s in
     (omega (arith, s .pre .0), s .pre .1)
 
 pub operand-returns-4 : (t : ℕ)

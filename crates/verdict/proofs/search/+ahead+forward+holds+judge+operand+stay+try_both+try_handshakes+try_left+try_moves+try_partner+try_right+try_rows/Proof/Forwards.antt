@@ -106,10 +106,8 @@ pub forward-returns : (t : ℕ)
     → forward-lts.Need-returns (forward-claims t) (forward-at t) forward-reads.Post
 unfolding Never
 forward-returns t c =
-    let s = c .before .before in
-    let y = s .pre .1 .1 .0 in
     let never = c .before .fails-everywhere .ensures (c .if1 .taken) in
-    (ahead.forward-none _ _ _ _ _ _ _ _ (s .pre .1 .1 .1) (held-last _ _ (y .held)) (λ i. never _ _ _ i), refl)
+    (ahead.forward-none _ _ _ _ _ _ (λ i. never _ _ _ i), refl)
 
 pub forward-try-left-requires : (t : ℕ)
     → forward-lts.Need-try-left-requires (forward-claims t) (forward-at t) forward-reads.Post

@@ -21,7 +21,6 @@ pub try-handshakes-returns : (t : ℕ)
     → try-handshakes-lts.Need-returns (try-handshakes-claims t) (try-handshakes-at t) try-handshakes-reads.Post
 try-handshakes-returns t c =
     let s = c .before .before in
-    let s = s in
     (ahead.shaken-none _ _ _ (s .args .grids .now) (s .args .rows .at) (s .args .rows .count) (c .if1 .taken), refl)
 
 pub try-handshakes-element-copy-out-t14 : (t : ℕ)
@@ -46,7 +45,6 @@ pub try-handshakes-try-partner-requires : (t : ℕ)
     (try-handshakes-claims t) (try-handshakes-at t) try-handshakes-reads.Post
 try-handshakes-try-partner-requires t c κs =
     let s = c .before .before .before .before .before in
-    let s = s in
     (omega (arith, s .pre .0), (s .pre .1 .0, s .pre .1 .1 .0))
 
 pub try-handshakes-returns-2 : (t : ℕ)

@@ -1,5 +1,5 @@
--- What falls from call to call: the nodes of the tree, then the rows left; and what each function of the cycle may rely
--- on.
+-- What falls from call to call: the formula's nodes left, then the rows left; and what each function of the cycle may
+-- rely on.
 use Prim.Native.Nat.{ℕ, _<_, _+_, _*_}
 use borrow.Fn.Kinds.{In}
 use borrow.Fn.PlainCycle.{Measures, is, falls, and}
@@ -48,15 +48,15 @@ use Rattle.labels.proofs.label.Label.is_silent.Reads as is-silent-reads
 use Rattle.labels.proofs.label.Labels.partner.Reads as partner-reads
 use Rattle.verdict.proofs.back.goes_on.Reads as goes-on-reads
 use Rattle.verdict.proofs.back.steps_back.Reads as steps-back-reads
+use Rattle.verdict.proofs.code.first_size_in.Reads as first-size-in-reads
 use Rattle.verdict.proofs.code.label_in.Reads as label-in-reads
 use Rattle.verdict.proofs.code.operator_in.Reads as operator-in-reads
-use Rattle.verdict.proofs.code.size_in.Reads as size-in-reads
 use Rattle.verdict.proofs.grids.rows_from.Reads as rows-from-reads
 use Rattle.verdict.proofs.grids.wanted_rows.Reads as wanted-rows-reads
 use Rattle.verdict.proofs.never.fails_everywhere.Reads as fails-everywhere-reads
 use Rattle.verdict.proofs.trial.place_by.Reads as place-by-reads
 
--- at one size of the tree there are fewer steps down than this: at most eight rows leave a state
+-- at one number of nodes there are fewer steps down than this: at most eight rows leave a state
 abbrev pub K : ℕ
 K = 100
 
@@ -235,8 +235,8 @@ holds-claims t = (
   steps-back-reads.Learnt,
   operand-below t,
   operand.Post,
-  size-in-reads.Asked,
-  size-in-reads.Learnt,
+  first-size-in-reads.Asked,
+  first-size-in-reads.Learnt,
   judge-below t,
   judge.Post,
 )

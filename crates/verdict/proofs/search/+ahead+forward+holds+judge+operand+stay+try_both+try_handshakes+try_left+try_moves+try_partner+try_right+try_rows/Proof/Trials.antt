@@ -5,9 +5,9 @@ use Rattle.verdict.proofs.search.try_rows.Reads as try-rows-reads
 use Rattle.verdict.proofs.search.+ahead+forward+holds+judge+operand+stay+try_both+try_handshakes+try_left+try_moves+try_partner+try_right+try_rows.Lts-try_rows as try-rows-lts
 use Rattle.verdict.proofs.search.stay.Reads as stay-reads
 use Rattle.verdict.proofs.search.+ahead+forward+holds+judge+operand+stay+try_both+try_handshakes+try_left+try_moves+try_partner+try_right+try_rows.Lts-stay as stay-lts
-use Prim.Native.Nat.{ℕ, _+_, _-_, _≤_}
+use Prim.Native.Nat.{ℕ, _-_}
 use native.Mathlib.Omega.{arith}
-use mathlib.Core.Path.{_≡_, refl, sym, ap, _∙_}
+use mathlib.Core.Path.{refl, sym, ap, _∙_}
 use lib.ListN.{getD}
 use Rattle.hml.specs.Labels.{positive}
 use Rattle.machines.proofs.Buffers.{put-back, length-put, longer-run, held-longer}
