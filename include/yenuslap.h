@@ -24,7 +24,7 @@
  * output must not overlap an input or another output; inputs may overlap each other. A pointer must not be
  * null, also where the length is 0: lend the address of some byte of yours then, none is read or written.
  *
- * The stack. Each call works on the stack of its thread alone. The most that was measured, on x86-64, is 0.7 MiB
+ * The stack. Each call works on the stack of its thread alone. The most that was measured, on x86-64, is 0.6 MiB
  * for a verdict on a formula of 4,096 nodes, and 1.1 MiB for yenuslap_sheet_lines. yenuslap_aldebaran_read takes
  * under 200 KiB, however long the text is.
  *

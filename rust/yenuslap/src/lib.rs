@@ -68,7 +68,7 @@
 //! [`bare`] has the same calls with the engine's numbers as they come.
 //!
 //! A call works on the stack of its thread. The most that was measured, on x86-64, is 1.1 MiB for [`sheet_lines`] and
-//! 0.7 MiB for a verdict on a formula of 4,096 nodes; [`read_aldebaran`] takes under 200 KiB.
+//! 0.6 MiB for a verdict on a formula of 4,096 nodes; [`read_aldebaran`] takes under 200 KiB.
 
 #![warn(missing_docs)]
 

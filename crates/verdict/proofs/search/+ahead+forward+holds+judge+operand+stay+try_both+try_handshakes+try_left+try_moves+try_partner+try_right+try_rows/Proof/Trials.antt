@@ -179,10 +179,9 @@ try-moves-returns-2 t c =
 pub try-rows-element-copy-out-kept : (t : ℕ)
     → try-rows-lts.Need-element-copy-out-kept (try-rows-claims t) (try-rows-at t) try-rows-reads.Post
 try-rows-element-copy-out-kept t c =
-    let s = c in
-    let y = s .pre .1 .1 .0 in
-    let placed = s .pre .1 .1 .1 .1 .0 in
-    omega (arith, y .room, y .size, placed .1, written.place-within (placed .0) (s .args .len))
+    let y = c .pre .1 .1 .0 in
+    let placed = c .pre .1 .1 .1 .1 .0 in
+    omega (arith, y .room, y .size, placed .1, written.place-within (placed .0) (c .args .len))
 
 pub try-rows-add-run : (t : ℕ)
     → try-rows-lts.Need-add-run (try-rows-claims t) (try-rows-at t) try-rows-reads.Post
