@@ -65,7 +65,7 @@ module _ (f : List ℕ) where
       go (treeless e h) = e
 
   -- and no size is more than there are nodes
-  size-room : 2 * treeSize f ≤ length f
+  pub size-room : 2 * treeSize f ≤ length f
   size-room = go (found f)
     where
       go : Found f → 2 * treeSize f ≤ length f
@@ -83,7 +83,7 @@ first f = nodeOf (getD f 0 0) (getD f 1 0)
 
 module _ (f : List ℕ) (room : 2 ≤ length f) where
   -- the two bytes of the first node, and those behind it
-  split : f ≡ getD f 0 0 ∷ getD f 1 0 ∷ drop 2 f
+  pub split : f ≡ getD f 0 0 ∷ getD f 1 0 ∷ drop 2 f
   split = go f room
     where
       go : (f : List ℕ) → 2 ≤ length f → f ≡ getD f 0 0 ∷ getD f 1 0 ∷ drop 2 f
@@ -228,7 +228,7 @@ size-at f n h =
     ∙ (rw (sizes-part f n, less) at last)
 
 -- fewer bytes than a node has begin no tree
-short-size : (f : List ℕ) → length f < 2 → treeSize f ≡ 0
+pub short-size : (f : List ℕ) → length f < 2 → treeSize f ≡ 0
 unfolding treeSize sizeIn parse trees
 short-size [] h = refl
 short-size (o ∷ []) h = refl

@@ -1,13 +1,10 @@
 -- A forward modality by a label: the rows of the left, the rows of the right, and for label 0 each handshake.
-use Prim.Native.Nat.{ℕ, zero, suc, _+_, _-_}
+use Prim.Native.Nat.{ℕ, _+_, _-_}
 use mathlib.Core.Path.{_≡_, refl, sym, _∙_, ap, ap₂}
 use mathlib.Core.Bool.{Bool, true, false, _&&_, _||_, and-false}
 use mathlib.Core.List.{List}
 use mathlib.Core.Option.{Option, none, some}
-use native.Mathlib.Omega.{arith}
-use native.Mathlib.Nat.{add-zero}
 use lib.ListN.{getD, drop}
-use lib.Seq.{getD-drop, drop-drop}
 use borrow.Author.Tests.{eq-eqb, ne-eqb, eqb-true}
 use Rattle.hml.specs.Lists.{same, any, present}
 use Rattle.hml.proofs.Tests.{apart, denied, decided-same, decided-alike, and-cong}
@@ -21,6 +18,8 @@ use Rattle.labels.specs.declared.label.Labels.{Labels}
 use Rattle.labels.specs.declared.label.Partner.the-variants as partner
 use Rattle.labels.proofs.Labels.{found-some, found-none}
 use Rattle.halves.specs.Runs.{stepOf}
+use Rattle.hml.specs.Labels.{positive}
+use Rattle.verdict.proofs.TwoGrids.{first-pair}
 use Rattle.verdict.specs.Working.{Shown, pairsIn, gridOf, judged, tried, shaken}
 
 -- the handshakes, by the rows of the left
@@ -35,15 +34,8 @@ module _ (P : Pairing) (F : ℕ → ℕ → Bool) (rights : List (ℕ × ℕ)) (
   module _ (n : rows ≡ 0 → ⊥) where
     shaken-first : shaken P F (pairsIn rows (drop at g)) rights
         ≡ (shakesAt || shaken P F (pairsIn (rows - 1) (drop (at + 2) g)) rights)
-    unfolding shaken pairsIn
-    shaken-first = go rows n
-      where
-        go : (rows : ℕ) → (rows ≡ 0 → ⊥) → shaken P F (pairsIn rows (drop at g)) rights
-            ≡ (shakesAt || shaken P F (pairsIn (rows - 1) (drop (at + 2) g)) rights)
-        go zero n = absurd (n refl)
-        go (suc m) n =
-            let z : suc m - 1 ≡ m = omega arith in
-            rw (z, getD-drop at g 0 0, getD-drop at g 1 0, drop-drop 2 at g, add-zero at)
+    unfolding shaken
+    shaken-first = rw (first-pair g at rows (positive rows n))
 
     pub shaken-hit : true ≡ shakesAt → true ≡ shaken P F (pairsIn rows (drop at g)) rights
     shaken-hit p = rw (shaken-first, ← p)

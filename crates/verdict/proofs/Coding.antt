@@ -11,9 +11,10 @@ use lib.Dec.{eqb, leb}
 use borrow.Author.Tests.{eqb-true, eqb-false}
 use Rattle.formulas.specs.Operators.{isForward}
 use Rattle.formulas.specs.Working.{treeSize, forwardsIn}
+use Rattle.formulas.proofs.TreeSizes.{split, short-size}
 use Rattle.verdict.specs.Working.{operatorIn, firstSizeIn, hasTwo, labelIn, textOf, Skips, Coded, Whole}
 use Rattle.verdict.specs.Working.{lastNodes, SizesIn, sizeBy, wordOf}
-use Rattle.verdict.proofs.Nodes.{Node, no-size, first-node, last-length, last-from, last-none, last-drop}
+use Rattle.verdict.proofs.Nodes.{Node, last-length, last-from, last-none, last-drop}
 use Rattle.verdict.proofs.Nodes.{whole-nodes, last-fits, here-few, here-node, here-operator, here-label}
 use Rattle.verdict.proofs.Nodes.{here-behind, here-room}
 
@@ -74,7 +75,7 @@ module _ (f : List ℕ) (whole : Whole f) (ws : List ℕ) where
   unfolding SizesIn forwardsIn
   sizing-start s = record {
     nodes = omega arith;
-    size = rw (last-none f, no-size);
+    size = rw (last-none f) (sym (short-size [] (omega arith)));
     sizes = λ i h k. absurd (omega arith);
     count = rw (last-none f);
     slots = s;
@@ -214,7 +215,7 @@ module _ (f : List ℕ) (whole : Whole f) (ws : List ℕ) where
           let w = s .words (suc m) (omega arith) k in
           let l = last-length f (suc m) k in
           rw (w .operator, w .label, all-text m (omega arith), ← behind-first m k)
-          (sym (first-node (lastNodes f (suc m)) (omega arith)))
+          (sym (split (lastNodes f (suc m)) (omega arith)))
 
       pub wording-end : Coded ws f
       unfolding Skips

@@ -2,6 +2,7 @@ pub mod Words
 pub mod Nodes
 pub mod Coding
 pub mod Operands
+pub mod Going
 pub mod Ahead
 pub mod FilledGrids
 pub mod TwoGrids

@@ -10,26 +10,21 @@ use lib.ListN.{length, getD, drop, length-drop}
 use lib.Seq.{drop-drop, drop-length, getD-drop}
 use borrow.Author.Tests.{lt-leb}
 use Rattle.hml.specs.Formula.{Formula, top, bottom, not, and, or, fwd, back, fwdIdle, backIdle, size}
-use Rattle.hml.specs.Spell.{spell, parse, trees}
+use Rattle.hml.specs.Spell.{spell}
 use Rattle.hml.proofs.Spelling.{length-spell}
-use Rattle.formulas.specs.Working.{Tree, treeSize, sizeIn}
+use Rattle.formulas.specs.Working.{Tree, treeSize}
 use Rattle.formulas.proofs.Measures.{spell-drop, size-some}
-use Rattle.formulas.proofs.TreeSizes.{size-spell}
+use Rattle.formulas.proofs.TreeSizes.{size-spell, size-room}
 use Rattle.verdict.specs.Working.{hasTwo, Whole, lastNodes, sizeBy}
 
 -- a tree's first node: its operator is in the table, its operands make its size, and "and" and "or" have no label and
 -- room behind their first operand
 pub record Node (f : List ℕ) : Type 0 where
   pub low : getD f 0 0 ≤ 8
-  pub fits : 2 * treeSize f ≤ length f
   pub sum : treeSize f
       ≡ sizeBy (getD f 0 0) (treeSize (drop 2 f)) (treeSize (drop (2 * treeSize (drop 2 f)) (drop 2 f)))
   pub bare : hasTwo (getD f 0 0) ≡ true → getD f 1 0 ≡ 0
   pub room : hasTwo (getD f 0 0) ≡ true → 4 + 2 * treeSize (drop 2 f) ≤ length f
-
--- the bytes of a formula have its size, two a node
-spelled-fits : (φ : Formula) (rest : List ℕ) → 2 * treeSize (spell φ rest) ≤ length (spell φ rest)
-spelled-fits φ rest = omega (arith, size-spell φ rest, length-spell φ rest)
 
 -- a formula over one operand has a node more
 spelled-sum : (φ ψ : Formula) (rest : List ℕ) → size φ ≡ 1 + size ψ
@@ -37,11 +32,10 @@ spelled-sum : (φ ψ : Formula) (rest : List ℕ) → size φ ≡ 1 + size ψ
 spelled-sum φ ψ rest e = omega (arith, size-spell φ rest, size-spell ψ rest)
 
 -- a node with fewer operands than two
-few : (o a : ℕ) (l : List ℕ) → o ≤ 8 → hasTwo o ≡ false → 2 * treeSize (o ∷ a ∷ l) ≤ length (o ∷ a ∷ l)
+few : (o a : ℕ) (l : List ℕ) → o ≤ 8 → hasTwo o ≡ false
     → treeSize (o ∷ a ∷ l) ≡ sizeBy o (treeSize l) (treeSize (drop (2 * treeSize l) l)) → Node (o ∷ a ∷ l)
-few o a l low one fits sum = record {
+few o a l low one sum = record {
   low = low;
-  fits = fits;
   sum = sum;
   bare = λ e. absurd (false≢true (sym one ∙ e));
   room = λ e. absurd (false≢true (sym one ∙ e));
@@ -54,7 +48,6 @@ two : (o : ℕ) (g : Formula → Formula → Formula) (φ ψ : Formula) (rest : 
 unfolding sizeBy
 two o g φ ψ rest high low both e s = record {
   low = low;
-  fits = rw e at (spelled-fits (g φ ψ) rest);
   sum =
       rw (lt-leb o 1 high, both, size-spell φ (spell ψ rest), spell-drop φ (spell ψ rest), size-spell ψ rest, ← e)
       (size-spell (g φ ψ) rest ∙ s);
@@ -71,29 +64,24 @@ two o g φ ψ rest high low both e s = record {
 -- the first node of a formula, then of any tree
 spelled-node : (φ : Formula) (rest : List ℕ) → Node (spell φ rest)
 unfolding spell size sizeBy hasTwo
-spelled-node top rest = few 0 0 rest (omega arith) refl (spelled-fits top rest) (size-spell top rest)
-spelled-node bottom rest = few 1 0 rest (omega arith) refl (spelled-fits bottom rest) (size-spell bottom rest)
+spelled-node top rest = few 0 0 rest (omega arith) refl (size-spell top rest)
+spelled-node bottom rest = few 1 0 rest (omega arith) refl (size-spell bottom rest)
 spelled-node (not φ) rest =
-    few 2 0 (spell φ rest) (omega arith) refl (spelled-fits (not φ) rest) (spelled-sum (not φ) φ rest refl)
+    few 2 0 (spell φ rest) (omega arith) refl (spelled-sum (not φ) φ rest refl)
 spelled-node (and φ ψ) rest = two 3 and φ ψ rest (omega arith) (omega arith) refl refl refl
 spelled-node (or φ ψ) rest = two 4 or φ ψ rest (omega arith) (omega arith) refl refl refl
 spelled-node (fwd a φ) rest =
-    few 5 a (spell φ rest) (omega arith) refl (spelled-fits (fwd a φ) rest) (spelled-sum (fwd a φ) φ rest refl)
+    few 5 a (spell φ rest) (omega arith) refl (spelled-sum (fwd a φ) φ rest refl)
 spelled-node (back a φ) rest =
-    few 6 a (spell φ rest) (omega arith) refl (spelled-fits (back a φ) rest) (spelled-sum (back a φ) φ rest refl)
+    few 6 a (spell φ rest) (omega arith) refl (spelled-sum (back a φ) φ rest refl)
 spelled-node (fwdIdle φ) rest =
-    few 7 0 (spell φ rest) (omega arith) refl (spelled-fits (fwdIdle φ) rest) (spelled-sum (fwdIdle φ) φ rest refl)
+    few 7 0 (spell φ rest) (omega arith) refl (spelled-sum (fwdIdle φ) φ rest refl)
 spelled-node (backIdle φ) rest =
-    few 8 0 (spell φ rest) (omega arith) refl (spelled-fits (backIdle φ) rest) (spelled-sum (backIdle φ) φ rest refl)
+    few 8 0 (spell φ rest) (omega arith) refl (spelled-sum (backIdle φ) φ rest refl)
 
 tree-node : (f : List ℕ) → Tree f → Node f
 unfolding Tree
 tree-node f (φ, rest, e) = rw e (spelled-node φ rest)
-
--- no bytes have no tree
-pub no-size : treeSize [] ≡ 0
-unfolding treeSize sizeIn parse trees
-no-size = refl
 
 -- every node of these bytes begins a tree
 abbrev Trees : List ℕ → Type 0
@@ -119,12 +107,6 @@ spelled-trees (fwd a φ) rest h = more-trees 5 a (spell φ rest) (fwd a φ, rest
 spelled-trees (back a φ) rest h = more-trees 6 a (spell φ rest) (back a φ, rest, refl) (spelled-trees φ rest h)
 spelled-trees (fwdIdle φ) rest h = more-trees 7 0 (spell φ rest) (fwdIdle φ, rest, refl) (spelled-trees φ rest h)
 spelled-trees (backIdle φ) rest h = more-trees 8 0 (spell φ rest) (backIdle φ, rest, refl) (spelled-trees φ rest h)
-
--- the two bytes of the first node, and those behind it
-pub first-node : (f : List ℕ) → 2 ≤ length f → f ≡ getD f 0 0 ∷ getD f 1 0 ∷ drop 2 f
-first-node [] h = absurd (omega arith)
-first-node (o ∷ []) h = absurd (omega arith)
-first-node (o ∷ a ∷ f) h = refl
 
 -- the last n nodes: how many bytes they are, where they begin, and their own last nodes
 module _ (f : List ℕ) where
@@ -162,8 +144,7 @@ module _ (f : List ℕ) where
 
     -- which has no more nodes than they are
     pub last-fits : (n : ℕ) → 2 * n ≤ length f → treeSize (lastNodes f n) ≤ n
-    last-fits zero k = rw (last-none, no-size) (omega arith)
-    last-fits (suc n) k = omega (arith, last-node (suc n) (omega arith) k .fits, last-length (suc n) k)
+    last-fits n k = omega (arith, size-room (lastNodes f n), last-length n k)
 
     -- a node's bytes stand at `at`, and m nodes are behind it
     module _ (at n m : ℕ) (e : length f ≡ at + 2 * n) (b : n ≡ m + 1) where

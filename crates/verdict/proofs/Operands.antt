@@ -1,5 +1,4 @@
--- The operators: what a call for an operand may rely on, the verdict from those of the operands, and the loops that go
--- on with one of them (`Going`, `Turning`).
+-- The operators: what a call for an operand may rely on, and the verdict from those of the operands.
 use Prim.Native.Nat.{ℕ, _+_, _-_, _*_, _%_, _≤_, _<_, max}
 use mathlib.Core.Path.{_≡_, refl, sym, _∙_, ap}
 use mathlib.Core.Logic.{⊎-elim}
@@ -25,7 +24,7 @@ use Rattle.formulas.proofs.OperatorTable.{forward-numbers}
 use Rattle.formulas.proofs.Operators.{Unary, Binary, at, node-room, BackTree, back-label, back-idle, back-tree}
 use Rattle.formulas.proofs.Operands.{AndOr, connected, tree-size, back-operand, and-or, modality-operator, two-up}
 use Rattle.formulas.proofs.Operands.{nesting-connected, labelled-connected}
-use Rattle.verdict.specs.Working.{Ready, Shown, Never, Skips, goesOn, stepsBack, hasTwo, judged, treeAt, textOf}
+use Rattle.verdict.specs.Working.{Ready, Shown, Skips, goesOn, stepsBack, hasTwo, judged, treeAt, textOf}
 use Rattle.verdict.specs.Working.{operatorIn, firstSizeIn}
 use Rattle.verdict.proofs.Words.{text-length, text-drop, text-behind, text-operator, text-label}
 use Rattle.verdict.proofs.Words.{skips-fewer, skips-first}
@@ -78,7 +77,7 @@ module _ (ws : List ℕ) (i : ℕ) (t : Tree (textOf ws i)) where
   operand-is : (g : Formula → Formula) → Unary (textOf ws i) g → treeAt ws i ≡ g (treeAt ws (i - 1))
   operand-is g u = let e = u .is in rw (text-behind ws i some-node) at e
 
-  operand-tree : (g : Formula → Formula) → Unary (textOf ws i) g → Tree (textOf ws (i - 1))
+  pub operand-tree : (g : Formula → Formula) → Unary (textOf ws i) g → Tree (textOf ws (i - 1))
   operand-tree g u = let e = u .operand in rw (text-behind ws i some-node) at e
 
   -- and where it has two: the second begins where the first one ends, which the word tells
@@ -139,7 +138,7 @@ module _ (k : Labels) (ws xs : List ℕ) (n i : ℕ) (y : Ready k ws xs n 0 i) w
   abbrev here : (o : ℕ) → operatorIn w ≡ o → getD (textOf ws i) 0 0 ≡ o
   here o e = operator-read ws i (y .tree) ∙ e
 
-  not-ready : operatorIn w ≡ 2 → Ready k ws xs n 0 (i - 1)
+  pub not-ready : operatorIn w ≡ 2 → Ready k ws xs n 0 (i - 1)
   unfolding labelled nesting
   not-ready e = operand-ready not (at (textOf ws i) (y .tree) 2 (here 2 e)) n 0 (y .held) (λ l. l) (omega arith)
 
@@ -167,7 +166,7 @@ module _ (k : Labels) (ws xs : List ℕ) (n i : ℕ) (y : Ready k ws xs n 0 i) w
   unfolding labelled nesting
   idle-ready e = operand-ready fwdIdle (at (textOf ws i) (y .tree) 7 (here 7 e)) n 1 (y .held) (λ l. l) (omega arith)
 
-  back-ready : isBack (operatorIn w) ≡ true → 5 ≤ n → Ready k ws xs (n - 3) 0 (i - 1)
+  pub back-ready : isBack (operatorIn w) ≡ true → 5 ≤ n → Ready k ws xs (n - 3) 0 (i - 1)
   back-ready o l =
       let x = back-operand (textOf ws i) (y .tree) (rw (operator-read ws i (y .tree)) o) in
       operand-ready (x .over) (x .tree) (n - 3) 0 (held-shorter xs n (y .held) l) (x .ranged (count k) _)
@@ -197,7 +196,7 @@ module _ (k : Labels) (ws xs : List ℕ) (n i : ℕ) (y : Ready k ws xs n 0 i) w
       few = omega (arith, y .few);
     }
 
-    second-ready : Ready k ws xs n 0 (i - 1 - firstSizeIn w)
+    pub second-ready : Ready k ws xs n 0 (i - 1 - firstSizeIn w)
     second-ready = record {
       tree = second-tree ws i (y .tree) (y .skips) o;
       ranged = both-ranged .1;
@@ -221,7 +220,7 @@ module _ (labels : Labels) (l r ws : List ℕ) (i : ℕ) (j : Run (ℕ × ℕ)) 
   unfolding judged holds
   judged-bottom e = rw (at (textOf ws i) t 1 (it 1 e))
 
-  judged-not : (b : Bool) → operatorIn (getD ws i 0) ≡ 2 → b ≡ judged labels l r (treeAt ws (i - 1)) j
+  pub judged-not : (b : Bool) → operatorIn (getD ws i 0) ≡ 2 → b ≡ judged labels l r (treeAt ws (i - 1)) j
       → negate b ≡ judged labels l r (treeAt ws i) j
   unfolding judged holds
   judged-not b e p = rw (operand-is ws i t not (at (textOf ws i) t 2 (it 2 e))) (ap negate p)
@@ -245,7 +244,7 @@ module _ (labels : Labels) (l r ws : List ℕ) (i : ℕ) (j : Run (ℕ × ℕ)) 
     first-judged : a ≡ judged labels l r (treeOf (drop 2 (textOf ws i))) j
     first-judged = rw (text-behind ws i (some-node ws i t)) p
 
-    judged-settled : Bool·beq a (eqb (operatorIn (getD ws i 0)) 4) ≡ true → a ≡ judged labels l r (treeAt ws i) j
+    pub judged-settled : Bool·beq a (eqb (operatorIn (getD ws i 0)) 4) ≡ true → a ≡ judged labels l r (treeAt ws i) j
     unfolding judged holds
     judged-settled q = ⊎-elim
         (λ e. rw (at (textOf ws i) t 3 (it 3 e) .is, ← first-judged) (settled a _ (rw e at q)))
@@ -259,7 +258,7 @@ module _ (labels : Labels) (l r ws : List ℕ) (i : ℕ) (j : Run (ℕ × ℕ)) 
         settled-or true c s = refl
         settled-or false c s = absurd (false≢true s)
 
-    judged-second : Bool·beq a (eqb (operatorIn (getD ws i 0)) 4) ≡ false
+    pub judged-second : Bool·beq a (eqb (operatorIn (getD ws i 0)) 4) ≡ false
         → judged labels l r (treeAt ws (i - 1 - firstSizeIn (getD ws i 0))) j ≡ judged labels l r (treeAt ws i) j
     unfolding judged holds
     judged-second q = ⊎-elim
@@ -342,7 +341,7 @@ module _ (k : Labels) (l r ws xs : List ℕ) (n i : ℕ) (y : Ready k ws xs n 0 
 
   -- as the code asks: a run too short, or another last step
   module _ (b : Bool) (g : b ≡ stepsBack (operatorIn (getD ws i 0)) (getD ws i 0 % 256) xs n) where
-    back-other : b ≡ false → false ≡ judged k l r (treeAt ws i) (jointOf (take n xs))
+    pub back-other : b ≡ false → false ≡ judged k l r (treeAt ws i) (jointOf (take n xs))
     unfolding stepsBack
     back-other e = go (ltb n 5) refl
       where
@@ -352,7 +351,7 @@ module _ (k : Labels) (l r ws xs : List ℕ) (n i : ℕ) (y : Ready k ws xs n 0 
             let unfit : fits (getD xs (n - 3) 0) ≡ false = sym (g ∙ rw q) ∙ e in
             rw (back-judged (ltb-false n 5 q), unfit)
 
-    back-long : b ≡ true → 5 ≤ n
+    pub back-long : b ≡ true → 5 ≤ n
     unfolding stepsBack
     back-long e = go (ltb n 5) refl
       where
@@ -360,7 +359,7 @@ module _ (k : Labels) (l r ws xs : List ℕ) (n i : ℕ) (y : Ready k ws xs n 0 
         go true q = absurd (false≢true (sym (g ∙ rw q) ∙ e))
         go false q = ltb-false n 5 q
 
-    back-same : b ≡ true
+    pub back-same : b ≡ true
         → judged k l r (treeAt ws (i - 1)) (jointOf (take (n - 3) xs))
         ≡ judged k l r (treeAt ws i) (jointOf (take n xs))
     unfolding stepsBack
@@ -368,114 +367,3 @@ module _ (k : Labels) (l r ws xs : List ℕ) (n i : ℕ) (y : Ready k ws xs n 0 
         let long = back-long e in
         let fit : fits (getD xs (n - 3) 0) ≡ true = sym (g ∙ rw (le-ltb n 5 long)) ∙ e in
         rw (back-judged long, fit)
-
--- "not" turns a verdict round
-upright : (b : Bool) → Bool·beq b true ≡ b
-upright true = refl
-upright false = refl
-
-turned : (b e : Bool) → Bool·beq b (negate e) ≡ Bool·beq (negate b) e
-turned true true = refl
-turned true false = refl
-turned false true = refl
-turned false false = refl
-
-failing : (e : Bool) → negate e ≡ Bool·beq false e
-failing true = refl
-failing false = refl
-
--- going on with the operand of "not", the second one of "and" and "or", and the one of a back modality on the shorter
--- run: what is left has the verdict of the whole, or the other one where "not" stands an odd number of times before it
-pub record Going (labels : Labels) (l r ws xs : List ℕ) (n₀ i₀ n i : ℕ) (even : Bool) : Type 0 where
-  pub ready : Ready labels ws xs n 0 i
-  pub shorter : i ≤ i₀
-  pub same : Bool·beq (judged labels l r (treeAt ws i) (jointOf (take n xs))) even
-      ≡ judged labels l r (treeAt ws i₀) (jointOf (take n₀ xs))
-
-pub going-start : (labels : Labels) (l r ws xs : List ℕ) (n i : ℕ)
-    → Ready labels ws xs n 0 i → Going labels l r ws xs n i n i true
-going-start labels l r ws xs n i y = record { ready = y; shorter = omega arith; same = upright _ }
-
-module _
-    (labels : Labels) (l r ws xs : List ℕ) (n₀ i₀ n i : ℕ) (even : Bool)
-    (g : Going labels l r ws xs n₀ i₀ n i even) where
-  abbrev run : Run (ℕ × ℕ)
-  run = jointOf (take n xs)
-
-  abbrev whole : Bool
-  whole = judged labels l r (treeAt ws i₀) (jointOf (take n₀ xs))
-
-  pub going-end : (v : Bool) → v ≡ judged labels l r (treeAt ws i) run → Bool·beq v even ≡ whole
-  going-end v p = ap (λ b. Bool·beq b even) p ∙ g .same
-
-  pub going-not : operatorIn (getD ws i 0) ≡ 2 → Going labels l r ws xs n₀ i₀ n (i - 1) (negate even)
-  going-not e = record {
-    ready = not-ready labels ws xs n i (g .ready) e;
-    shorter = omega (arith, g .shorter);
-    same = turned (judged labels l r (treeAt ws (i - 1)) run) even
-        ∙ going-end _ (judged-not labels l r ws i run (g .ready .tree) _ e refl);
-  }
-
-  -- a back modality
-  module _ (o : isBack (operatorIn (getD ws i 0)) ≡ true) (b : Bool)
-      (q : b ≡ stepsBack (operatorIn (getD ws i 0)) (getD ws i 0 % 256) xs n) where
-    pub going-nowhere : b ≡ false → negate even ≡ whole
-    going-nowhere e = failing even ∙ going-end false (back-other labels l r ws xs n i (g .ready) o b q e)
-
-    pub going-long : b ≡ true → 5 ≤ n
-    going-long e = back-long labels l r ws xs n i (g .ready) o b q e
-
-    pub going-back : b ≡ true → Going labels l r ws xs n₀ i₀ (n - 3) (i - 1) even
-    going-back e = record {
-      ready = back-ready labels ws xs n i (g .ready) o (going-long e);
-      shorter = omega (arith, g .shorter);
-      same = going-end _ (back-same labels l r ws xs n i (g .ready) o b q e);
-    }
-
-  -- "and" and "or"
-  module _ (o : AndOr (operatorIn (getD ws i 0))) (a : Bool) (p : a ≡ judged labels l r (treeAt ws (i - 1)) run) where
-    pub going-settled : Bool·beq a (eqb (operatorIn (getD ws i 0)) 4) ≡ true → Bool·beq a even ≡ whole
-    going-settled s = going-end a (judged-settled labels l r ws i run (g .ready .tree) (g .ready .skips) o a p s)
-
-    pub going-on : Bool·beq a (eqb (operatorIn (getD ws i 0)) 4) ≡ false
-        → Going labels l r ws xs n₀ i₀ n (i - 1 - firstSizeIn (getD ws i 0)) even
-    going-on s = record {
-      ready = second-ready labels ws xs n i (g .ready) o;
-      shorter = omega (arith, g .shorter);
-      same = going-end _ (judged-second labels l r ws i run (g .ready .tree) (g .ready .skips) o a p s);
-    }
-
--- the same of "not" alone, on every run
-pub record Turning (ws : List ℕ) (i₀ i : ℕ) (even : Bool) : Type 0 where
-  pub tree : Tree (textOf ws i)
-  pub shorter : i ≤ i₀
-  pub same : (k : Labels) (l r : List ℕ) (j : Run (ℕ × ℕ))
-      → Bool·beq (judged k l r (treeAt ws i) j) even ≡ judged k l r (treeAt ws i₀) j
-
-pub turning-start : (ws : List ℕ) (i : ℕ) → Tree (textOf ws i) → Turning ws i i true
-turning-start ws i t = record { tree = t; shorter = omega arith; same = λ k l r j. upright _ }
-
-module _ (ws : List ℕ) (i₀ i : ℕ) (even : Bool) (g : Turning ws i₀ i even) where
-  pub turning-on : operatorIn (getD ws i 0) ≡ 2 → Turning ws i₀ (i - 1) (negate even)
-  turning-on e = record {
-    tree = operand-tree ws i (g .tree) not (at (textOf ws i) (g .tree) 2 (operator-read ws i (g .tree) ∙ e));
-    shorter = omega (arith, g .shorter);
-    same = λ k l r j. turned (judged k l r (treeAt ws (i - 1)) j) even
-        ∙ ap (λ b. Bool·beq b even) (judged-not k l r ws i j (g .tree) _ e refl) ∙ g .same k l r j;
-  }
-
-  -- true behind an odd number of "not"s, and false behind an even one
-  pub turning-top : operatorIn (getD ws i 0) ≡ 0 → negate even ≡ true → Never ws i₀
-  unfolding Never
-  turning-top e n k l r j =
-      sym (odd even n) ∙ ap (λ b. Bool·beq b even) (judged-top k l r ws i j (g .tree) e) ∙ g .same k l r j
-    where
-      odd : (b : Bool) → negate b ≡ true → Bool·beq true b ≡ false
-      odd true n = absurd (false≢true n)
-      odd false n = refl
-
-  pub turning-bottom : operatorIn (getD ws i 0) ≡ 1 → even ≡ true → Never ws i₀
-  unfolding Never
-  turning-bottom e n k l r j =
-      ap (λ b. Bool·beq false b) (sym n)
-      ∙ ap (λ b. Bool·beq b even) (judged-bottom k l r ws i j (g .tree) e) ∙ g .same k l r j

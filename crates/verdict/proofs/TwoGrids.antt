@@ -141,6 +141,15 @@ module _ (g : List ℕ) (y : TwoGrids g) where
       let z : 1088 + (17 * p + 1) ≡ 1088 + 17 * p + 1 = omega arith in
       rw (getD-drop 1088 g (17 * p) 0, drop-drop (17 * p + 1) 1088 g, z)
 
+-- the first of the rows from a place on, and those behind it
+pub first-pair : (g : List ℕ) (at rows : ℕ) → 1 ≤ rows → pairsIn rows (drop at g)
+    ≡ (getD g at 0, getD g (at + 1) 0) ∷ pairsIn (rows - 1) (drop (at + 2) g)
+unfolding pairsIn
+first-pair g at rows h =
+    let z : rows ≡ suc (rows - 1) = omega arith in
+    ap (λ n. pairsIn n (drop at g)) z
+    ∙ rw (getD-drop at g 0 0, getD-drop at g 1 0, add-zero at, drop-drop 2 at g)
+
 -- the rows from a place on, tried one after the other
 module _ (F : ℕ → Bool) (b : ℕ) (g : List ℕ) (at rows : ℕ) where
   -- where there are none
@@ -149,30 +158,22 @@ module _ (F : ℕ → Bool) (b : ℕ) (g : List ℕ) (at rows : ℕ) where
   no-rows e = rw e
 
   module _ (h : 1 ≤ rows) where
-    first-pair : pairsIn rows (drop at g)
-        ≡ (getD g at 0, getD g (at + 1) 0) ∷ pairsIn (rows - 1) (drop (at + 2) g)
-    unfolding pairsIn
-    first-pair =
-        let z : rows ≡ suc (rows - 1) = omega arith in
-        ap (λ n. pairsIn n (drop at g)) z
-        ∙ rw (getD-drop at g 0 0, getD-drop at g 1 0, add-zero at, drop-drop 2 at g)
-
     -- the first has the label: the test passes for its target, or the others decide
     module _ (e : getD g at 0 ≡ b) where
       pub first-hit : true ≡ F (getD g (at + 1) 0) → true ≡ tried F b (pairsIn rows (drop at g))
       unfolding tried
-      first-hit p = rw (first-pair, eq-eqb _ _ e, ← p)
+      first-hit p = rw (first-pair g at rows h, eq-eqb _ _ e, ← p)
 
       pub first-miss : (v : Bool) → false ≡ F (getD g (at + 1) 0)
           → v ≡ tried F b (pairsIn (rows - 1) (drop (at + 2) g)) → v ≡ tried F b (pairsIn rows (drop at g))
       unfolding tried
-      first-miss v p q = rw (first-pair, eq-eqb _ _ e, ← p) q
+      first-miss v p q = rw (first-pair g at rows h, eq-eqb _ _ e, ← p) q
 
     -- the first has another label
     other-label : (getD g at 0 ≡ b → ⊥)
         → tried F b (pairsIn (rows - 1) (drop (at + 2) g)) ≡ tried F b (pairsIn rows (drop at g))
     unfolding tried
-    other-label n = rw (first-pair, ne-eqb _ _ n)
+    other-label n = rw (first-pair g at rows h, ne-eqb _ _ n)
 
 -- those rows are left that stand behind rows of other labels
 pub record Sought (b : ℕ) (g : List ℕ) (from all at rows : ℕ) : Type 0 where

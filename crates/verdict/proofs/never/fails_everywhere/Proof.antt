@@ -4,7 +4,8 @@ use Rattle.verdict.proofs.never.fails_everywhere.Tie as tie
 use native.Mathlib.Omega.{arith}
 use mathlib.Core.Path.{sym, _∙_}
 use mathlib.Core.Bool.{false≢true}
-use Rattle.verdict.proofs.Operands.{Turning, turning-start, turning-on, turning-top, turning-bottom, some-node}
+use Rattle.verdict.proofs.Operands.{some-node}
+use Rattle.verdict.proofs.Going.{Turning, turning-start, turning-on, turning-top, turning-bottom}
 
 abbrev Inv-loop : tie.InvT-loop
 Inv-loop code nodes nodes₀ even₀ nodes' even = Turning code nodes nodes' even

@@ -11,6 +11,7 @@ use mathlib.Core.Path.{_≡_, refl, sym, _∙_}
 use borrow.Author.Tests.{not-true, not-false}
 use Rattle.verdict.specs.Working.{leftIn, rightIn}
 use Rattle.verdict.proofs.Operands as operands
+use Rattle.verdict.proofs.Going as going
 use Rattle.verdict.proofs.search.+ahead+forward+holds+judge+operand+stay+try_both+try_handshakes+try_left+try_moves+try_partner+try_right+try_rows.Proof.Measures.{
   holds-at,
   holds-claims,
@@ -22,7 +23,7 @@ use Rattle.verdict.proofs.search.+ahead+forward+holds+judge+operand+sta
 
 abbrev pub holds-Inv-loop : holds-lts.InvT-loop
 holds-Inv-loop labels grids code run₀ len nodes len₀ nodes₀ even₀ run len' nodes' even =
-    (run ≡ run₀) × operands.Going labels (leftIn grids) (rightIn grids) code run₀ len nodes len' nodes' even
+    (run ≡ run₀) × going.Going labels (leftIn grids) (rightIn grids) code run₀ len nodes len' nodes' even
 
 abbrev pub holds-μ-loop : holds-lts.MeasureT-loop
 holds-μ-loop labels grids code run₀ len nodes len₀ nodes₀ even₀ run len' nodes' even = nodes'
@@ -30,7 +31,7 @@ holds-μ-loop labels grids code run₀ len nodes len₀ nodes₀ even₀ run len
 pub holds-loop-holds : (t : ℕ)
     → holds-lts.Need-loop-holds (holds-claims t) (holds-at t) holds-reads.Post
     holds-Inv-loop holds-μ-loop
-holds-loop-holds t c = (refl, operands.going-start _ _ _ _ _ _ _ (c .pre .1 .1))
+holds-loop-holds t c = (refl, going.going-start _ _ _ _ _ _ _ (c .pre .1 .1))
 
 pub holds-mul-operator-in : (t : ℕ)
     → holds-lts.Need-mul-operator-in (holds-claims t) (holds-at t) holds-reads.Post
@@ -87,7 +88,7 @@ pub holds-loop-again : (t : ℕ)
 holds-loop-again t c =
     let l = c .before .before .before .before .before .before .before in
     let two = sym (c .before .operator-in2 .ensures) ∙ c .if2 .taken in
-    (l .loop .inv .0, operands.going-not _ _ _ _ _ _ _ _ _ _ (l .loop .inv .1) two)
+    (l .loop .inv .0, going.going-not _ _ _ _ _ _ _ _ _ _ (l .loop .inv .1) two)
 
 pub holds-is-back-requires : (t : ℕ)
     → holds-lts.Need-is-back-requires (holds-claims t) (holds-at t) holds-reads.Post
@@ -119,7 +120,7 @@ holds-returns t c =
     let l = op2 .before .before .before .before .before .before in
     let o = rw (op2 .operator-in2 .ensures) at (sym (ib .is-back .ensures) ∙ i3 .if3 .taken) in
     let q = rw (op2 .operator-in2 .ensures, li .label-in .ensures, l .loop .inv .0) at (sb .steps-back .ensures) in
-    (operands.going-nowhere _ _ _ _ _ _ _ _ _ _ (l .loop .inv .1) o _ q (not-true _ (c .if4 .taken)), l .loop .inv .0)
+    (going.going-nowhere _ _ _ _ _ _ _ _ _ _ (l .loop .inv .1) o _ q (not-true _ (c .if4 .taken)), l .loop .inv .0)
 
 pub holds-sub-len : (t : ℕ)
     → holds-lts.Need-sub-len (holds-claims t) (holds-at t) holds-reads.Post
@@ -133,7 +134,7 @@ holds-sub-len t c =
     let l = op2 .before .before .before .before .before .before in
     let o = rw (op2 .operator-in2 .ensures) at (sym (ib .is-back .ensures) ∙ i3 .if3 .taken) in
     let q = rw (op2 .operator-in2 .ensures, li .label-in .ensures, l .loop .inv .0) at (sb .steps-back .ensures) in
-    omega (arith, operands.going-long _ _ _ _ _ _ _ _ _ _ (l .loop .inv .1) o _ q (not-false _ (c .if4 .left)))
+    omega (arith, going.going-long _ _ _ _ _ _ _ _ _ _ (l .loop .inv .1) o _ q (not-false _ (c .if4 .left)))
 
 pub holds-sub-nodes-2 : (t : ℕ)
     → holds-lts.Need-sub-nodes-2 (holds-claims t) (holds-at t) holds-reads.Post
@@ -163,7 +164,7 @@ holds-loop-again-2 t c =
     let l = op2 .before .before .before .before .before .before in
     let o = rw (op2 .operator-in2 .ensures) at (sym (ib .is-back .ensures) ∙ i3 .if3 .taken) in
     let q = rw (op2 .operator-in2 .ensures, li .label-in .ensures, l .loop .inv .0) at (sb .steps-back .ensures) in
-    (l .loop .inv .0, operands.going-back _ _ _ _ _ _ _ _ _ _ (l .loop .inv .1) o _ q (not-false _ (c .if4 .left)))
+    (l .loop .inv .0, going.going-back _ _ _ _ _ _ _ _ _ _ (l .loop .inv .1) o _ q (not-false _ (c .if4 .left)))
 
 pub holds-sub-operand : (t : ℕ)
     → holds-lts.Need-sub-operand (holds-claims t) (holds-at t) holds-reads.Post
@@ -211,7 +212,7 @@ holds-returns-2 t c =
     let other = rw (op2 .operator-in2 .ensures) at (sym (ib .is-back .ensures) ∙ i3 .if3 .left) in
     let o = operands.two-operands _ on (λ z. i2 .if2 .left (op2 .operator-in2 .ensures ∙ z)) other in
     let first = rw (l .loop .inv .0) at (od .operand .ensures .0) in (
-      operands.going-settled _ _ _ _ _ _ _ _ _ _ g o _ first (rw (op2 .operator-in2 .ensures) at (c .if5 .taken)),
+      going.going-settled _ _ _ _ _ _ _ _ _ _ g o _ first (rw (op2 .operator-in2 .ensures) at (c .if5 .taken)),
       od .operand .ensures .1 ∙ l .loop .inv .0,
     )
 
@@ -274,7 +275,7 @@ holds-loop-again-3 t c =
     let first = rw (l .loop .inv .0) at (od .operand .ensures .0) in (
       od .operand .ensures .1 ∙ l .loop .inv .0,
       rw (c .first-size-in .ensures)
-          (operands.going-on _ _ _ _ _ _ _ _ _ _ g o _ first (rw (op2 .operator-in2 .ensures) at (i5 .if5 .left))),
+          (going.going-on _ _ _ _ _ _ _ _ _ _ g o _ first (rw (op2 .operator-in2 .ensures) at (i5 .if5 .left))),
     )
 
 pub holds-judge-requires : (t : ℕ)
@@ -295,7 +296,7 @@ pub holds-returns-3 : (t : ℕ)
     holds-Inv-loop holds-μ-loop
 holds-returns-3 t c =
     let l = c .before .before .before .before .before .before in (
-      operands.going-end _ _ _ _ _ _ _ _ _ _ (l .loop .inv .1) _ (rw (l .loop .inv .0) at (c .judge .ensures .0)),
+      going.going-end _ _ _ _ _ _ _ _ _ _ (l .loop .inv .1) _ (rw (l .loop .inv .0) at (c .judge .ensures .0)),
       c .judge .ensures .1 ∙ l .loop .inv .0,
     )
 
