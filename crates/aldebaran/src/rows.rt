@@ -7,7 +7,7 @@ use aldebaran_form::label::{Spelled, label_of};
 use aldebaran_form::line::row_line;
 
 // A line that was read, and the place behind it; nothing, if it is not of the form or no line feed ends it.
-#[derive(Drop)]
+#[derive(Clone, Copy)]
 pub(crate) struct NextRow {
     pub(crate) formed: bool,
     pub(crate) from: usize,

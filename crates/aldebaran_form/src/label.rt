@@ -7,7 +7,7 @@ ghost use Rattle.aldebaran_form.specs.Working.{label_found};
 use labels::label::Label;
 
 // The label that some bytes spell, or that they spell none.
-#[derive(Drop)]
+#[derive(Clone, Copy)]
 pub enum Spelled {
     Label(Label),
     Unknown,

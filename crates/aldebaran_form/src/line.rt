@@ -7,7 +7,7 @@ ghost use Rattle.aldebaran_form.specs.Working.{rest_at, head_in, head_found, row
 use crate::scan::{number_at, past, quote_from};
 
 // What a header says, and the place behind its line feed; nothing, if it is not of the form.
-#[derive(Drop)]
+#[derive(Clone, Copy)]
 pub struct HeaderLine {
     pub formed: bool,
     pub first: usize,
@@ -18,7 +18,7 @@ pub struct HeaderLine {
 
 // What a line says, its label as the part of the text from a place up to another, and the place behind its line feed;
 // nothing, if it is not of the form.
-#[derive(Drop)]
+#[derive(Clone, Copy)]
 pub struct RowLine {
     pub formed: bool,
     pub from: usize,

@@ -5,7 +5,7 @@ ghost use Rattle.aldebaran_form.specs.Lines.{next, behind, number_in};
 ghost use Rattle.aldebaran_form.specs.Working.{rest_at, number_at, number_from, label_to};
 
 // A number, and the place behind it.
-#[derive(Drop)]
+#[derive(Clone, Copy)]
 pub(crate) struct Number {
     pub(crate) value: usize,
     pub(crate) end: usize,

@@ -7,13 +7,14 @@ ghost use Rattle.aldebaran_form.specs.Forms.{header_with, header_line, row_line,
 ghost use Rattle.aldebaran_writing.specs.Writing.{line_of, text_of, write_of, text_output};
 
 use digits::decimal::put_decimal;
+use labels::copying::copy;
 use labels::label::{Label, Labels};
 use labels::refusal::{Check, Refusal};
 use tables::check::check_table;
 use tables::row::{Row, RowRead, row_at};
 
 // How many bytes were written, or why none were.
-#[derive(Drop)]
+#[derive(Clone, Copy)]
 pub enum TextWriting {
     Written(usize),
     Refused(Refusal),
@@ -36,7 +37,7 @@ pub fn write(table: &[u8], first: usize, out: &mut [u8]) -> TextWriting
     if out.len() < len {
         return TextWriting::Refused(Refusal::OutputTooShort);
     }
-    bytes::copy(&text[..len], out);
+    copy(&text[..len], out);
     TextWriting::Written(len)
 }
 

@@ -24,7 +24,7 @@ pub fn longest() -> usize
 }
 
 // A casebook that was read: where the bodies of its five records lie.
-#[derive(Drop)]
+#[derive(Clone, Copy)]
 pub struct Parts {
     pub labels: Record,
     pub left: Record,
@@ -44,7 +44,7 @@ impl Parts {
 }
 
 // What reading some bytes gives.
-#[derive(Drop)]
+#[derive(Clone, Copy)]
 pub enum Reading {
     Casebook(Parts),
     Refused(Refusal),

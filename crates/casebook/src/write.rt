@@ -7,12 +7,13 @@ ghost use Rattle.casebook.specs.Writing.{casebook_bytes, check_parts, write_of, 
 ghost use Rattle.casebook.specs.Working.{Fitting};
 
 use formulas::check::check_formula;
+use labels::copying::copy;
 use labels::label::Labels;
 use labels::refusal::{Check, Refusal};
 use machines::joint::check_joint;
 
 // How many bytes were written, or why none were.
-#[derive(Drop)]
+#[derive(Clone, Copy)]
 pub enum Writing {
     Written(usize),
     Refused(Refusal),
@@ -93,5 +94,5 @@ fn put_record(out: &mut [u8], kind: u8, body: &[u8])
     out[1] = (n / 256 % 256) as u8;
     out[2] = kind;
     out[3] = 0;
-    bytes::copy(body, &mut out[4..]);
+    copy(body, &mut out[4..]);
 }

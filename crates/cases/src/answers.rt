@@ -14,7 +14,7 @@ use verdict::half::half;
 use verdict::joint::joint;
 
 // What a caller asks for: a point, the number of a splitting, the known side.
-#[derive(Drop)]
+#[derive(Clone, Copy)]
 pub struct Asked {
     pub point: usize,
     pub number: usize,

@@ -2,6 +2,8 @@
 // refusal of each number, and prints a line for each. The output that `rt check` compares with (`stdout`) is not this
 // program's: the plain implementation of document 01 in rust/reference writes it (`make outputs`). The two share the
 // list of cases and the form of the lines.
+#![tactic(auto)]
+
 mod answers;
 mod case_a;
 mod edges;

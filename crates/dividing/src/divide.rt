@@ -13,12 +13,13 @@ use formulas::check::check_formula;
 use formulas::forwards::count_forwards;
 use formulas::sizes::tree_sizes;
 use halves::half::check_half;
+use labels::copying::copy;
 use labels::label::Labels;
 use labels::refusal::{Check, Refusal};
 use tables::check::check_table;
 
 // How many bytes a quotient has.
-#[derive(Drop)]
+#[derive(Clone, Copy)]
 pub enum Quotient {
     Written(usize),
     Refused(Refusal),
@@ -85,7 +86,7 @@ fn write_quotient(
 {
     let len = half.len();
     let mut run = [0u8; 409];
-    bytes::copy(half, &mut run);
+    copy(half, &mut run);
     let mut sizes = [0usize; 64];
     tree_sizes(question, &mut sizes);
     if surely_fits(question, out.len()) {

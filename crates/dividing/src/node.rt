@@ -6,14 +6,14 @@ ghost use Rattle.dividing.specs.Working.{past_of, past_move, past_read, last_rea
 use halves::step::{Step, StepRead, step_at};
 use labels::label::{Label, Labels, Partner};
 
-#[derive(Drop)]
+#[derive(Clone, Copy)]
 pub(crate) struct Node {
     pub operator: u8,
     pub label: Label,
 }
 
 // The node that stands over the quotient by the run without its last step, or none: then the quotient is false.
-#[derive(Drop)]
+#[derive(Clone, Copy)]
 pub(crate) enum Past {
     Node(Node),
     Fails,

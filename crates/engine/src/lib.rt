@@ -1,5 +1,7 @@
 // The calls for C and Rust: numbers as themselves, slices as pointer and length. Each answers one number: the refusal's
 // number times 2^32, plus the value (0 when refused). Only a cut answers a length, and lines of the sheet a struct.
+#![tactic(auto)]
+
 pub mod sheet;
 pub mod texts;
 

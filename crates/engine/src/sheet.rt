@@ -7,7 +7,7 @@ use sheet_lines::lines::{Lines, write_lines};
 
 // The refusal's number, or 0; how many lines were written, and how many bytes they are.
 #[repr(C)]
-#[derive(Drop)]
+#[derive(Clone, Copy)]
 pub struct LinesAnswer {
     pub refusal: u64,
     pub lines: u64,

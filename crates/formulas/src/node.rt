@@ -6,7 +6,7 @@ ghost use Rattle.formulas.specs.Operators.{is_forward, is_back, is_modality, is_
 ghost use Rattle.formulas.specs.Working.{node_of};
 
 // A node by the number of its operands; or bytes that are none.
-#[derive(Drop)]
+#[derive(Clone, Copy)]
 pub enum Node {
     Operands(usize),
     Bad,

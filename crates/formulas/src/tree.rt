@@ -6,7 +6,7 @@ ghost use Rattle.formulas.specs.Working.{node_of, tree_end, Tree, measure_of, op
 use crate::node::{Node, is_back, is_forward, read_node};
 
 // Where the first tree of some bytes ends.
-#[derive(Drop)]
+#[derive(Clone, Copy)]
 pub enum TreeEnd {
     At(usize),
     Nowhere,
@@ -32,7 +32,7 @@ pub(crate) fn tree_end(f: &[u8]) -> TreeEnd
 }
 
 // A tree's length in bytes, and how deep its forward modalities and its back modalities nest.
-#[derive(Drop)]
+#[derive(Clone, Copy)]
 pub struct Measure {
     pub len: usize,
     pub nesting: usize,

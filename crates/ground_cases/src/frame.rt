@@ -2,7 +2,7 @@
 ghost use Rattle.std.specs.Prelude.{◌<◌};
 
 // One trial: its numbers, and where its strings begin in the input; the last one ends at `end`.
-#[derive(Drop)]
+#[derive(Clone, Copy)]
 pub struct Trial {
     pub code: u8,
     pub k: u8,
@@ -16,14 +16,14 @@ pub struct Trial {
 }
 
 // What stands at a place of the input.
-#[derive(Drop)]
+#[derive(Clone, Copy)]
 pub enum Found {
     Trial(Trial),
     Malformed,
 }
 
 // A place in the input.
-#[derive(Drop)]
+#[derive(Clone, Copy)]
 pub struct Cursor {
     pub at: usize,
 }

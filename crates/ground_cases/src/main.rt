@@ -1,6 +1,8 @@
 // Puts the public functions of labels, tables, halves and machines through trials read from standard input, a line of
 // numbers for each. The trials and the output that `rt check` compares with come from the plain implementation of
 // document 01 in rust/reference (`make outputs`), not from this program.
+#![tactic(auto)]
+
 mod answers;
 mod frame;
 mod line;

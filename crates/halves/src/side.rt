@@ -3,7 +3,7 @@ ghost use Rattle.std.specs.Prelude.{◌≡◌};
 ghost use Rattle.halves.specs.Cuts.{known_of, cut_of, prefix_of};
 
 // The known side as a caller names it, or does not.
-#[derive(Drop)]
+#[derive(Clone, Copy)]
 pub enum Side {
     Unnamed,
     Left,
@@ -11,7 +11,7 @@ pub enum Side {
 }
 
 // The side whose half is known.
-#[derive(Drop)]
+#[derive(Clone, Copy)]
 pub enum Known {
     Left,
     Right,

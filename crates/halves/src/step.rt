@@ -4,21 +4,21 @@ ghost use Rattle.halves.specs.Steps.{step_read};
 
 use labels::label::Label;
 
-#[derive(Drop)]
+#[derive(Clone, Copy)]
 pub struct Move {
     pub label: Label,
     pub target: u8,
 }
 
 // A move, or an idle that keeps the state.
-#[derive(Drop)]
+#[derive(Clone, Copy)]
 pub enum Step {
     Move(Move),
     Idle,
 }
 
 // What reading a step finds.
-#[derive(Drop)]
+#[derive(Clone, Copy)]
 pub enum StepRead {
     Step(Step),
     NoSuchStep,

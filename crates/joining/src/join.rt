@@ -21,7 +21,7 @@ use labels::refusal::{Check, Refusal};
 use tables::check::check_table;
 
 // The length of the joint run, in bytes.
-#[derive(Drop)]
+#[derive(Clone, Copy)]
 pub enum Joining {
     Joined(usize),
     Refused(Refusal),
@@ -116,7 +116,7 @@ fn halves_match(labels: Labels, left: &[u8], right: &[u8]) -> bool
 }
 
 // The label of the joint step that two steps form, if they match. Ended, where neither half has a step.
-#[derive(Drop)]
+#[derive(Clone, Copy)]
 enum JointLabel {
     Label(Label),
     NoMatch,

@@ -5,11 +5,11 @@ ghost use Rattle.labels.specs.Labels.{of_pairs, count, pairing, check_labels, an
 use crate::refusal::{Check, Refusal};
 
 // A label by its number.
-#[derive(Drop)]
+#[derive(Clone, Copy)]
 pub struct Label(pub u8);
 
 // The label that a label shakes hands with, if there is one.
-#[derive(Drop)]
+#[derive(Clone, Copy)]
 pub enum Partner {
     Label(Label),
     Nobody,
@@ -54,7 +54,7 @@ impl Label {
 }
 
 // The labels of one call, held as k, their number of handshake pairs.
-#[derive(Drop)]
+#[derive(Clone, Copy)]
 pub struct Labels {
     pub pairs: u8,
 }

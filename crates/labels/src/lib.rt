@@ -1,4 +1,7 @@
 // The refusals of document 01, and its labels; the smaller of two numbers.
+#![tactic(auto)]
+
+pub mod copying;
 pub mod label;
 pub mod number;
 pub mod refusal;

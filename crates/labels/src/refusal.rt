@@ -4,7 +4,7 @@ ghost use Rattle.labels.specs.Refusals.{number_of, then_of};
 
 // Why a call is refused: one case for each number of "Who can cause a refusal", then of document 02, in the order of
 // the numbers.
-#[derive(Drop)]
+#[derive(Clone, Copy)]
 pub enum Refusal {
     // 1 to 11: the author of the bytes.
     // The bytes end before the question record is complete.
@@ -85,7 +85,7 @@ impl Refusal {
 }
 
 // What a check of one argument finds.
-#[derive(Drop)]
+#[derive(Clone, Copy)]
 pub enum Check {
     Sound,
     Refused(Refusal),

@@ -5,14 +5,14 @@ ghost use Rattle.machines.specs.Steps.{joint_read};
 use labels::label::Label;
 
 // A state of the left table and one of the right.
-#[derive(Drop)]
+#[derive(Clone, Copy)]
 pub struct States {
     pub left: u8,
     pub right: u8,
 }
 
 // A step of a joint run, between the states before and after it.
-#[derive(Drop)]
+#[derive(Clone, Copy)]
 pub struct JointStep {
     pub before: States,
     pub label: Label,
@@ -20,7 +20,7 @@ pub struct JointStep {
 }
 
 // What reading a step of a joint run finds.
-#[derive(Drop)]
+#[derive(Clone, Copy)]
 pub enum JointRead {
     Step(JointStep),
     NoSuchStep,

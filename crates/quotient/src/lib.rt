@@ -1,4 +1,6 @@
 // Quotients by a half that is known, and the line office: document 01, "The quotient".
+#![tactic(auto)]
+
 mod check;
 pub mod half;
 pub mod line;

@@ -13,7 +13,7 @@ use verdict::answer::Verdict;
 use verdict::half::half;
 
 // The verdict on the joint run, and that on the other half under the quotient by the known one.
-#[derive(Drop)]
+#[derive(Clone, Copy)]
 pub enum LineOffice {
     Verdicts(bool, bool),
     Refused(Refusal),

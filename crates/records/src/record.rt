@@ -7,13 +7,13 @@ use labels::label::Labels;
 use labels::refusal::Refusal;
 
 // A reading position.
-#[derive(Drop)]
+#[derive(Clone, Copy)]
 pub struct Cursor {
     pub at: usize,
 }
 
 // A record: its kind, and where its body lies.
-#[derive(Drop)]
+#[derive(Clone, Copy)]
 pub struct Record {
     pub kind: usize,
     pub start: usize,
@@ -50,7 +50,7 @@ impl Record {
 }
 
 // What stepping over one record gives: the record and the next position, or why there is none.
-#[derive(Drop)]
+#[derive(Clone, Copy)]
 pub enum Next {
     Found(Record, Cursor),
     Refused(Refusal),
@@ -100,7 +100,7 @@ fn may_stand(kinds: &[u8], kind: usize) -> bool
 }
 
 // The lengths that records of a kind can have: from the shortest to the longest, a step apart.
-#[derive(Drop)]
+#[derive(Clone, Copy)]
 pub struct Lengths {
     pub shortest: usize,
     pub longest: usize,

@@ -1,4 +1,6 @@
 // The sheet of a casebook: standard input to standard output.
+#![tactic(auto)]
+
 mod output;
 
 ghost use Rattle.std.specs.Prelude.{◌≡◌, true, List, ℕ, ◌+◌, ◌≤◌, ◌<◌, length, take};

@@ -6,7 +6,7 @@ use libc::STDOUT_FILENO;
 
 // The lines in front of line `next` were handed over, one after the other, and `taken` if standard output took them
 // all. Its fields are known in this file only, so nothing else can say so without `hand_over`.
-#[derive(Drop)]
+#[derive(Clone, Copy)]
 pub(crate) struct Printed {
     next: usize,
     taken: bool,

@@ -10,12 +10,13 @@ use crate::case::{part_of, splittings_of, steps_of};
 use casebook::read::Parts;
 use dividing::divide::{Quotient, divide};
 use halves::side::Side;
+use labels::copying::copy;
 use quotient::number::by_number;
 use splitting::split::split;
 
 // How the halves of a window are kept: the steps of its older and of its newer part, and how many splittings the newer
 // part has; 0 if none are kept.
-#[derive(Drop)]
+#[derive(Clone, Copy)]
 pub(crate) struct Kept {
     pub older: usize,
     pub newer: usize,
@@ -178,7 +179,7 @@ fn put_half(t: usize, kept: Kept, halves: &[u8], half: &mut [u8]) -> usize
     let m = 2 * kept.newer;
     let from = 401 * older;
     let then = 401 * (256 + newer) + 1;
-    bytes::copy(&halves[from..from + n], half);
-    bytes::copy(&halves[then..then + m], &mut half[n..]);
+    copy(&halves[from..from + n], half);
+    copy(&halves[then..then + m], &mut half[n..]);
     n + m
 }

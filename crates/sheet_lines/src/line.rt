@@ -5,6 +5,7 @@ ghost use Rattle.sheet_lines.specs.Working.{put_at, line_with, digit_line, Full,
 
 use crate::point::{Point, Progress};
 use digits::decimal::{digit_count, put_decimal};
+use labels::copying::copy;
 use labels::number::smaller;
 
 // Writes the lines of the splittings from `number` on, and not that of `until`, behind a place, as many as fit. They
@@ -109,7 +110,7 @@ fn put_line(line: &[u8], place: usize, digit: u8, at: usize, out: &mut [u8])
     requires { (at + length line.now ≤ length out.old) × (place < length line.now) }
     ensures { out.new ≡ put_at out.old at (set line.now place digit) }
 {
-    bytes::copy(line, &mut out[at..]);
+    copy(line, &mut out[at..]);
     out[at + place] = digit;
 }
 

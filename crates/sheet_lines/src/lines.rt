@@ -17,21 +17,21 @@ use labels::refusal::Refusal;
 use splitting::count::Counted;
 
 // How many lines were written, and how many bytes they are.
-#[derive(Drop)]
+#[derive(Clone, Copy)]
 pub struct Block {
     pub lines: usize,
     pub bytes: usize,
 }
 
 // What a call for lines gives.
-#[derive(Drop)]
+#[derive(Clone, Copy)]
 pub enum Lines {
     Written(Block),
     Refused(Refusal),
 }
 
 // The same for lines that may fit or not, and whether the output was too short for the first of them.
-#[derive(Drop)]
+#[derive(Clone, Copy)]
 pub(crate) struct Fitted {
     pub lines: usize,
     pub bytes: usize,

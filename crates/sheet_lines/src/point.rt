@@ -15,6 +15,7 @@ use crate::ending::find_ending;
 use crate::kept::{Kept, keep_halves};
 use crate::line::write_turn;
 use casebook::read::Parts;
+use labels::copying::copy;
 use labels::number::smaller;
 use verdict::answer::Verdict;
 use verdict::joint::joint;
@@ -22,7 +23,7 @@ use verdict::joint::joint;
 // What the lines of a point share: the point's number, the joint verdict's letter, how many splittings there are of its
 // window, the steps before it by which quotients differ, and of what follows it, and how the halves of the window's
 // splittings are kept.
-#[derive(Drop)]
+#[derive(Clone, Copy)]
 pub(crate) struct Point {
     pub number: usize,
     pub letter: u8,
@@ -32,7 +33,7 @@ pub(crate) struct Point {
 }
 
 // How far the lines of a point were written: the splitting whose line is due next, and its place in the output.
-#[derive(Drop)]
+#[derive(Clone, Copy)]
 pub(crate) struct Progress {
     pub number: usize,
     pub at: usize,
@@ -166,7 +167,7 @@ fn take_ending(
         let end = ends[t];
         if end != 0 {
             let from = froms[t];
-            return bytes::copy(&out[from..end], &mut line[12..]);
+            return copy(&out[from..end], &mut line[12..]);
         }
     }
     find_ending(

@@ -12,7 +12,7 @@ use tables::leaving::rows_leaving;
 use ways::count::count_ways;
 
 // How many splittings there are, at most 65,535.
-#[derive(Drop)]
+#[derive(Clone, Copy)]
 pub enum Counted {
     Splittings(usize),
     Refused(Refusal),

@@ -24,7 +24,7 @@ use ways::choose::nth_way;
 use ways::count::count_ways;
 
 // The length of each half, in bytes.
-#[derive(Drop)]
+#[derive(Clone, Copy)]
 pub enum Splitting {
     Halves(usize),
     Refused(Refusal),

@@ -36,7 +36,7 @@ fn is_below(a: Row, b: Row) -> bool
 }
 
 // A row that was judged: how many rows up to it leave its state, or why it is refused.
-#[derive(Drop)]
+#[derive(Clone, Copy)]
 enum Judged {
     Leaving(usize),
     Refused(Refusal),

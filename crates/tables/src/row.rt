@@ -5,7 +5,7 @@ ghost use Rattle.tables.specs.Working.{row_of};
 
 use labels::label::Label;
 
-#[derive(Drop)]
+#[derive(Clone, Copy)]
 pub struct Row {
     pub from: u8,
     pub label: Label,
@@ -13,7 +13,7 @@ pub struct Row {
 }
 
 // What reading a row by its number finds.
-#[derive(Drop)]
+#[derive(Clone, Copy)]
 pub enum RowRead {
     Row(Row),
     NoRow,

@@ -14,7 +14,7 @@ use crate::search::holds;
 use labels::label::Labels;
 use labels::refusal::Refusal;
 
-#[derive(Drop)]
+#[derive(Clone, Copy)]
 pub enum Verdict {
     Holds,
     Fails,

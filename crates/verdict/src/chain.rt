@@ -11,7 +11,7 @@ use crate::back::steps_back;
 use formulas::node::is_back;
 
 // What a chain tells of the formula's verdict. It is open where "and", "or" or a forward modality stands behind it.
-#[derive(Drop)]
+#[derive(Clone, Copy)]
 pub(crate) enum Told {
     Holds,
     Fails,

@@ -67,7 +67,7 @@ fn rows_by_state(labels: Labels, table: &[u8], grid: &mut [u8])
 }
 
 // Where rows begin in the grids, and how many they are.
-#[derive(Drop)]
+#[derive(Clone, Copy)]
 pub(crate) struct Rows {
     pub at: usize,
     pub count: usize,

@@ -6,6 +6,7 @@ ghost use Rattle.verdict.specs.Verdicts.{joint_verdict, check_joint_call};
 
 use crate::answer::{Verdict, verdict_on};
 use formulas::check::check_formula;
+use labels::copying::copy;
 use labels::label::Labels;
 use labels::refusal::{Check, Refusal};
 use machines::joint::check_joint;
@@ -67,7 +68,7 @@ fn judged_joint(
     }
     let len = 3 * point + 2;
     let mut buffer = [0u8; 614];
-    bytes::copy(&run[..len], &mut buffer);
+    copy(&run[..len], &mut buffer);
     verdict_on(labels, left, right, &mut buffer, len, formula)
 }
 

@@ -1,4 +1,6 @@
 // Verdicts on joint runs and half runs: document 01, "Questions and verdicts".
+#![tactic(auto)]
+
 pub mod answer;
 mod back;
 mod beside;

@@ -6,7 +6,7 @@ use crate::grids::Rows;
 use labels::label::Label;
 
 // The side that moves by a row.
-#[derive(Drop)]
+#[derive(Clone, Copy)]
 pub(crate) enum Mover {
     Left,
     Right,
@@ -14,7 +14,7 @@ pub(crate) enum Mover {
 
 // What a forward modality tries: the rows of a state, of them those with the wanted label, the side that moves by them,
 // the label that their steps show, and the state of the other side after them.
-#[derive(Drop)]
+#[derive(Clone, Copy)]
 pub(crate) struct Trial {
     pub rows: Rows,
     pub wanted: Label,

@@ -12,7 +12,7 @@ use machines::step::States;
 use tables::leaving::leads_to;
 
 // What a way makes each half do.
-#[derive(Drop)]
+#[derive(Clone, Copy)]
 pub struct Way {
     pub left: Step,
     pub right: Step,
