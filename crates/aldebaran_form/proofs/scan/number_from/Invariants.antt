@@ -6,7 +6,7 @@ use Rattle.aldebaran_form.proofs.Scanning.{digit_low, digit_high, digit_end}
 use Rattle.aldebaran_form.proofs.scan.number_from.Given as goal
 
 abbrev pub invariant-loop-end : goal.invariant-loop-end
-invariant-loop-end l = NumberRead l.line l.at l.first l.value l.end
+invariant-loop-end l = NumberRead l.text l.at l.first l.value l.end
 
 abbrev pub decreases-loop-end : goal.decreases-loop-end
-decreases-loop-end l = length l.line - l.end
+decreases-loop-end l = length l.text - l.end
