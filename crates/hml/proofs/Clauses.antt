@@ -91,3 +91,12 @@ to_few_exact p = record { few = p.0; exact = p.1 }
 
 pub to_few_same_first : {A B C : Type 0} → A × (B × C) → record { few : A; same : B; first : C }
 to_few_same_first p = record { few = p.0; same = p.1.0; first = p.1.1 }
+
+pub to_first_le_n_first_bound : {A B : Type 0} → A × B → record { first_le_n : A; first_bound : B }
+to_first_le_n_first_bound p = record { first_le_n = p.0; first_bound = p.1 }
+
+pub to_operator_bound_below_bound : {A B : Type 0} → A × B → record { operator_bound : A; below_bound : B }
+to_operator_bound_below_bound p = record { operator_bound = p.0; below_bound = p.1 }
+
+pub to_sound_table_ready_run_in_bounds : {A B C : Type 0} → A × (B × C) → record { sound_table : A; ready : B; run_in_bounds : C }
+to_sound_table_ready_run_in_bounds p = record { sound_table = p.0; ready = p.1.0; run_in_bounds = p.1.1 }
