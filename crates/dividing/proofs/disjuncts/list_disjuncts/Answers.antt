@@ -1,17 +1,17 @@
 -- The idle first, then the moves alone behind it, then the parts in handshakes behind both.
-use mathlib.Core.Path.{◌≡◌, refl, sym, ◌∙◌} 
-use mathlib.Core.List.{List, [], ◌∷◌} 
-use Prim.Native.Nat.{ℕ} 
-use native.Mathlib.Omega.{arith} 
-use borrow.Author.Tests.{not-true, not-false} 
-use Rattle.tables.specs.Tables.{rows_of, rows_from, bytes_of, table_of, Rising, SoundTable} 
-use Rattle.tables.specs.Working.{moves_in} 
-use Rattle.tables.proofs.Searching.{leaving-moves} 
-use Rattle.dividing.specs.Working.{alone_in} 
-use Rattle.labels.proofs.Outputs.{front_length} 
-use Rattle.labels.specs.declared.label.Labels.{Labels} 
-use Rattle.dividing.proofs.Pieces.{joined, one_piece, two_pieces, second_fits, second_length} 
-use Rattle.dividing.proofs.Listing.{idle-listed, label-listed, silent-listed, alone_room, listed-fits} 
+use mathlib.Core.Path.{◌≡◌, refl, sym, ◌∙◌}
+use mathlib.Core.List.{List, [], ◌∷◌}
+use Prim.Native.Nat.{ℕ}
+use native.Mathlib.Omega.{arith}
+use borrow.Author.Tests.{not-true, not-false}
+use Rattle.tables.specs.Tables.{rows_of, rows_from, bytes_of, table_of, Rising, SoundTable}
+use Rattle.tables.specs.Working.{moves_in}
+use Rattle.tables.proofs.Searching.{leaving-moves}
+use Rattle.dividing.specs.Working.{alone_in}
+use Rattle.labels.proofs.Outputs.{front_length}
+use Rattle.labels.specs.declared.label.Labels.{Labels}
+use Rattle.dividing.proofs.Pieces.{joined, one_piece, two_pieces, second_fits, second_length}
+use Rattle.dividing.proofs.Listing.{idle-listed, label-listed, silent-listed, alone_room, listed-fits}
 use Rattle.hml.proofs.Clauses.{to_value_out_after}
 use Rattle.dividing.proofs.disjuncts.list_disjuncts.Goals as goal
 
@@ -36,17 +36,17 @@ put_disjunct-requires-2 c = omega (arith, c.requires.in_bounds)
 
 pub slice_bounds-list_alone-count : goal.slice_bounds-list_alone-count
 slice_bounds-list_alone-count c = omega (
-      arith,
-      c.requires.in_bounds,
-      front_length _ _ _ c.put_disjunct-2.ensures (omega (arith, c.requires.in_bounds)),
-    )
+  arith,
+  c.requires.in_bounds,
+  front_length _ _ _ c.put_disjunct-2.ensures (omega (arith, c.requires.in_bounds)),
+)
 
 pub slice_bounds-list_alone-start : goal.slice_bounds-list_alone-start
 slice_bounds-list_alone-start c = omega (
-      arith,
-      c.requires.in_bounds,
-      front_length _ _ _ c.put_disjunct-2.ensures (omega (arith, c.requires.in_bounds)),
-    )
+  arith,
+  c.requires.in_bounds,
+  front_length _ _ _ c.put_disjunct-2.ensures (omega (arith, c.requires.in_bounds)),
+)
 
 pub list_alone-n-requires : goal.list_alone-n-requires
 list_alone-n-requires c = second_fits _ _ _ _
@@ -58,15 +58,15 @@ list_alone-n-requires c = second_fits _ _ _ _
 
 pub overflow_add-at : goal.overflow_add-at
 overflow_add-at c = omega (
-      arith,
-      c.list_alone-n.ensures.value,
-      second_fits _ _ _ _
-          (joined (5 ∷ c.args.label.0 ∷ 255 ∷ c.args.state ∷ [])
-          (alone_in c.args.label.0 (moves_in c.rows_leaving-rows.result.now)))
-          (alone_room c.args.labels c.args.table.now c.args.operator c.args.label.0 c.args.state _
-          (rows_are c.requires.sound_table _ _ c.rows_leaving-rows.ensures.exact) _ _ c.requires.sound_table c.requires.in_bounds) _ _ 4 refl refl
-          c.put_disjunct-2.ensures,
-    )
+  arith,
+  c.list_alone-n.ensures.value,
+  second_fits _ _ _ _
+      (joined (5 ∷ c.args.label.0 ∷ 255 ∷ c.args.state ∷ [])
+      (alone_in c.args.label.0 (moves_in c.rows_leaving-rows.result.now)))
+      (alone_room c.args.labels c.args.table.now c.args.operator c.args.label.0 c.args.state _
+      (rows_are c.requires.sound_table _ _ c.rows_leaving-rows.ensures.exact) _ _ c.requires.sound_table c.requires.in_bounds) _ _ 4 refl refl
+      c.put_disjunct-2.ensures,
+)
 
 pub shape_of-out-then-not-is_silent : goal.shape_of-out-then-not-is_silent
 shape_of-out-then-not-is_silent c = second_length _ _ _ _ _ _ 4
@@ -92,39 +92,39 @@ returns-then-not-is_silent c = to_value_out_after (one_piece _ _ _ _ _
 
 pub slice_bounds-list_shaken-count : goal.slice_bounds-list_shaken-count
 slice_bounds-list_shaken-count c = omega (
-      arith,
+  arith,
+  (two_pieces _ _ _ _ _ _ 4 _
+      (joined (5 ∷ c.args.label.0 ∷ 255 ∷ c.args.state ∷ [])
+      (alone_in c.args.label.0 (moves_in c.rows_leaving-rows.result.now))) refl c.put_disjunct-2.ensures
+      c.list_alone-n.ensures.value c.list_alone-n.ensures.out_after).0,
+  (alone_room c.args.labels c.args.table.now c.args.operator c.args.label.0 c.args.state _
+      (rows_are c.requires.sound_table _ _ c.rows_leaving-rows.ensures.exact) _ _ c.requires.sound_table c.requires.in_bounds),
+  front_length _ _ _
       (two_pieces _ _ _ _ _ _ 4 _
-          (joined (5 ∷ c.args.label.0 ∷ 255 ∷ c.args.state ∷ [])
-          (alone_in c.args.label.0 (moves_in c.rows_leaving-rows.result.now))) refl c.put_disjunct-2.ensures
-          c.list_alone-n.ensures.value c.list_alone-n.ensures.out_after).0,
+      (joined (5 ∷ c.args.label.0 ∷ 255 ∷ c.args.state ∷ [])
+      (alone_in c.args.label.0 (moves_in c.rows_leaving-rows.result.now))) refl c.put_disjunct-2.ensures
+      c.list_alone-n.ensures.value c.list_alone-n.ensures.out_after).1
       (alone_room c.args.labels c.args.table.now c.args.operator c.args.label.0 c.args.state _
-          (rows_are c.requires.sound_table _ _ c.rows_leaving-rows.ensures.exact) _ _ c.requires.sound_table c.requires.in_bounds),
-      front_length _ _ _
-          (two_pieces _ _ _ _ _ _ 4 _
-          (joined (5 ∷ c.args.label.0 ∷ 255 ∷ c.args.state ∷ [])
-          (alone_in c.args.label.0 (moves_in c.rows_leaving-rows.result.now))) refl c.put_disjunct-2.ensures
-          c.list_alone-n.ensures.value c.list_alone-n.ensures.out_after).1
-          (alone_room c.args.labels c.args.table.now c.args.operator c.args.label.0 c.args.state _
-          (rows_are c.requires.sound_table _ _ c.rows_leaving-rows.ensures.exact) _ _ c.requires.sound_table c.requires.in_bounds),
-    )
+      (rows_are c.requires.sound_table _ _ c.rows_leaving-rows.ensures.exact) _ _ c.requires.sound_table c.requires.in_bounds),
+)
 
 pub slice_bounds-list_shaken-start : goal.slice_bounds-list_shaken-start
 slice_bounds-list_shaken-start c = omega (
-      arith,
+  arith,
+  (two_pieces _ _ _ _ _ _ 4 _
+      (joined (5 ∷ c.args.label.0 ∷ 255 ∷ c.args.state ∷ [])
+      (alone_in c.args.label.0 (moves_in c.rows_leaving-rows.result.now))) refl c.put_disjunct-2.ensures
+      c.list_alone-n.ensures.value c.list_alone-n.ensures.out_after).0,
+  (alone_room c.args.labels c.args.table.now c.args.operator c.args.label.0 c.args.state _
+      (rows_are c.requires.sound_table _ _ c.rows_leaving-rows.ensures.exact) _ _ c.requires.sound_table c.requires.in_bounds),
+  front_length _ _ _
       (two_pieces _ _ _ _ _ _ 4 _
-          (joined (5 ∷ c.args.label.0 ∷ 255 ∷ c.args.state ∷ [])
-          (alone_in c.args.label.0 (moves_in c.rows_leaving-rows.result.now))) refl c.put_disjunct-2.ensures
-          c.list_alone-n.ensures.value c.list_alone-n.ensures.out_after).0,
+      (joined (5 ∷ c.args.label.0 ∷ 255 ∷ c.args.state ∷ [])
+      (alone_in c.args.label.0 (moves_in c.rows_leaving-rows.result.now))) refl c.put_disjunct-2.ensures
+      c.list_alone-n.ensures.value c.list_alone-n.ensures.out_after).1
       (alone_room c.args.labels c.args.table.now c.args.operator c.args.label.0 c.args.state _
-          (rows_are c.requires.sound_table _ _ c.rows_leaving-rows.ensures.exact) _ _ c.requires.sound_table c.requires.in_bounds),
-      front_length _ _ _
-          (two_pieces _ _ _ _ _ _ 4 _
-          (joined (5 ∷ c.args.label.0 ∷ 255 ∷ c.args.state ∷ [])
-          (alone_in c.args.label.0 (moves_in c.rows_leaving-rows.result.now))) refl c.put_disjunct-2.ensures
-          c.list_alone-n.ensures.value c.list_alone-n.ensures.out_after).1
-          (alone_room c.args.labels c.args.table.now c.args.operator c.args.label.0 c.args.state _
-          (rows_are c.requires.sound_table _ _ c.rows_leaving-rows.ensures.exact) _ _ c.requires.sound_table c.requires.in_bounds),
-    )
+      (rows_are c.requires.sound_table _ _ c.rows_leaving-rows.ensures.exact) _ _ c.requires.sound_table c.requires.in_bounds),
+)
 
 pub list_shaken-m-requires : goal.list_shaken-m-requires
 list_shaken-m-requires c = second_fits _ _ _ _
@@ -144,30 +144,30 @@ list_shaken-m-requires c = second_fits _ _ _ _
 
 pub overflow_add-result : goal.overflow_add-result
 overflow_add-result c = omega (
-      arith,
+  arith,
+  (two_pieces _ _ _ _ _ _ 4 _
+      (joined (5 ∷ c.args.label.0 ∷ 255 ∷ c.args.state ∷ [])
+      (alone_in c.args.label.0 (moves_in c.rows_leaving-rows.result.now))) refl c.put_disjunct-2.ensures
+      c.list_alone-n.ensures.value c.list_alone-n.ensures.out_after).0,
+  (alone_room c.args.labels c.args.table.now c.args.operator c.args.label.0 c.args.state _
+      (rows_are c.requires.sound_table _ _ c.rows_leaving-rows.ensures.exact) _ _ c.requires.sound_table c.requires.in_bounds),
+  c.list_shaken-m.ensures.value,
+  second_fits _ _ _ _
+      (silent-listed c.args.labels c.args.table.now c.args.operator c.args.label.0
+      c.args.state _ (rows_are c.requires.sound_table _ _ c.rows_leaving-rows.ensures.exact)
+      c.if-operator-eq7.false (sym c.is_silent.ensures
+      ∙ c.if-not-is_silent.false))
+      (listed-fits c.args.labels c.args.table.now c.args.operator c.args.label.0 c.args.state
+      _ _ c.requires.sound_table c.requires.in_bounds) _ _ _ refl
       (two_pieces _ _ _ _ _ _ 4 _
-          (joined (5 ∷ c.args.label.0 ∷ 255 ∷ c.args.state ∷ [])
-          (alone_in c.args.label.0 (moves_in c.rows_leaving-rows.result.now))) refl c.put_disjunct-2.ensures
-          c.list_alone-n.ensures.value c.list_alone-n.ensures.out_after).0,
-      (alone_room c.args.labels c.args.table.now c.args.operator c.args.label.0 c.args.state _
-          (rows_are c.requires.sound_table _ _ c.rows_leaving-rows.ensures.exact) _ _ c.requires.sound_table c.requires.in_bounds),
-      c.list_shaken-m.ensures.value,
-      second_fits _ _ _ _
-          (silent-listed c.args.labels c.args.table.now c.args.operator c.args.label.0
-          c.args.state _ (rows_are c.requires.sound_table _ _ c.rows_leaving-rows.ensures.exact)
-          c.if-operator-eq7.false (sym c.is_silent.ensures
-          ∙ c.if-not-is_silent.false))
-          (listed-fits c.args.labels c.args.table.now c.args.operator c.args.label.0 c.args.state
-          _ _ c.requires.sound_table c.requires.in_bounds) _ _ _ refl
-          (two_pieces _ _ _ _ _ _ 4 _
-          (joined (5 ∷ c.args.label.0 ∷ 255 ∷ c.args.state ∷ [])
-          (alone_in c.args.label.0 (moves_in c.rows_leaving-rows.result.now))) refl c.put_disjunct-2.ensures
-          c.list_alone-n.ensures.value c.list_alone-n.ensures.out_after).0
-          (two_pieces _ _ _ _ _ _ 4 _
-          (joined (5 ∷ c.args.label.0 ∷ 255 ∷ c.args.state ∷ [])
-          (alone_in c.args.label.0 (moves_in c.rows_leaving-rows.result.now))) refl c.put_disjunct-2.ensures
-          c.list_alone-n.ensures.value c.list_alone-n.ensures.out_after).1,
-    )
+      (joined (5 ∷ c.args.label.0 ∷ 255 ∷ c.args.state ∷ [])
+      (alone_in c.args.label.0 (moves_in c.rows_leaving-rows.result.now))) refl c.put_disjunct-2.ensures
+      c.list_alone-n.ensures.value c.list_alone-n.ensures.out_after).0
+      (two_pieces _ _ _ _ _ _ 4 _
+      (joined (5 ∷ c.args.label.0 ∷ 255 ∷ c.args.state ∷ [])
+      (alone_in c.args.label.0 (moves_in c.rows_leaving-rows.result.now))) refl c.put_disjunct-2.ensures
+      c.list_alone-n.ensures.value c.list_alone-n.ensures.out_after).1,
+)
 
 pub shape_of-out : goal.shape_of-out
 shape_of-out c = second_length _ _ _ _ _ _ _
