@@ -100,3 +100,6 @@ to_operator_bound_below_bound p = record { operator_bound = p.0; below_bound = p
 
 pub to_sound_table_ready_run_in_bounds : {A B C : Type 0} → A × (B × C) → record { sound_table : A; ready : B; run_in_bounds : C }
 to_sound_table_ready_run_in_bounds p = record { sound_table = p.0; ready = p.1.0; run_in_bounds = p.1.1 }
+
+pub to_value_same : {A B : Type 0} → A × B → record { value : A; same : B }
+to_value_same p = record { value = p.0; same = p.1 }
