@@ -1,4 +1,4 @@
--- What was read stands in front, and each turn reads at least a byte.
+-- Each turn reads at least a byte, into the room that is left.
 use Rattle.std.proofs.Common.{length, ◌-◌, ◌≡◌, ◌≤◌}
 use Rattle.sheet.proofs.read_full.Given as goal
 
