@@ -7,7 +7,8 @@
 #                 engine's archive under PREFIX (/usr/local); DESTDIR goes before it:
 #                 make install PREFIX=/usr DESTDIR=/tmp/package
 # make uninstall  removes them again, with the same PREFIX and DESTDIR
-# make test       everything: proofs, must-fail edits and programs from nothing, then all other tests
+# make test       everything: `rt ci`, which proves from nothing, tries the must-fail edits and runs the programs (what a
+#                 run passed on this machine is not proved again), then all other tests
 # make prove      the quick form: proves what has changed since the last time
 # make bench      times the engine beside the plain implementation of rust/reference and prints the ratios
 # make outputs    renews what the plain implementation writes: the files that the programs cases, ground_cases and sheet
@@ -20,24 +21,30 @@
 help:
 	@sed -n '/^#/!q; s/^# //p' Makefile
 
-# What the engine and the sheet program are proved from. Folders count too, since a source may go.
-proved_from := crates.txt $(shell find crates -name '*.rt' -o -name '*.antt' -o -type d)
+# What the engine and the sheet program are proved from. Folders count too, since a source may go, but not what rt
+# leaves in out/.
+proved_from := crates.txt \
+	$(shell find crates -mindepth 2 -name out -prune -o '(' -name '*.rt' -o -name '*.antt' -o -type d ')' -print)
 # What the command is built from besides the engine.
 command_from := rust/Cargo.toml rust/Cargo.lock $(shell find rust/yenuslap -path '*/tests' -prune -o -type f -print)
 
-# proved WHAT, LOG, COMMAND: one line that it begins, and the prover's notes only if it fails.
+# proved WHAT, LOG, CRATE, COMMAND: one line that it begins, and the prover's notes only if it fails.
 define proved
 	@echo 'proving and building $(1): some minutes the first time and where much has changed' >&2
 	@mkdir -p target
-	@$(3) > $(2) 2>&1 || { tail -n 20 $(2) >&2; echo 'not proved or not built; all notes are in $(2)' >&2; exit 1; }
-	@touch $@
+	@(cd crates/$(3) && $(4)) > $(2) 2>&1 || \
+		{ tail -n 20 $(2) >&2; echo 'not proved or not built; all notes are in $(2)' >&2; exit 1; }
 endef
 
+# Both are copied out of out/, which `rt ci` sets aside.
 target/staticlib/libengine.a: $(proved_from)
-	$(call proved,the engine,target/engine.log,rt staticlib engine)
+	$(call proved,the engine,target/engine.log,engine,rt lib)
+	@install -D -m 644 crates/engine/out/libengine.a $@
 
+# `rt run` builds the program and runs it on its file stdin.
 target/bin/sheet: $(proved_from)
-	$(call proved,the sheet program,target/sheet.log,rt check sheet)
+	$(call proved,the sheet program,target/sheet.log,sheet,rt run)
+	@install -D -m 755 crates/sheet/out/sheet $@
 
 target/bin/yenuslap: target/staticlib/libengine.a $(command_from)
 	@cd rust && CARGO_TARGET_DIR=../target/rust cargo build --release --offline --quiet -p yenuslap
@@ -85,11 +92,9 @@ test:
 	@tools/kept target/test.log tools/test
 
 prove:
-	rt check
+	rt all check
 
-bench:
-	rt staticlib engine
-	rt check sheet
+bench: target/staticlib/libengine.a target/bin/sheet
 	cd rust && CARGO_TARGET_DIR=../target/rust cargo build --release --offline -p reference --example plain_sheet
 	cd rust && CARGO_TARGET_DIR=../target/rust cargo build --release --offline -p reference --example bench
 	tools/kept target/bench.txt target/rust/release/examples/bench

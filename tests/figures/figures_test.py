@@ -14,19 +14,29 @@ figures = module_from_spec(spec_from_loader("figures", loader))
 loader.exec_module(figures)
 
 TEST_LOG = """kept: commit abc1234, 2026-11-16, on 2 cores
-rt: low proved (4 s)
-rt: high proved (11 s)
-rt: high ran as nobody, and wrote what its file 'stdout' has (1 s)
-rt: must-fail low/one: refused, as it must be (first at proofs/one/Proof.antt:3:5; 7 s)
-rt: must-fail low/other: refused, as it must be (2 s)
-rt: must-fail low/bad: NOT REFUSED: the crate is still proved with this edit (9 s)
+== low
+fn low::a: proved
+logic=proved functions=2 sum=dac8208d650f15bf native=nat,char,string logic-built=trusted libraries-built=trusted
+rt: low proved (after 4 s)
+rt: low: trying its must-fail edits (3)
+rt: kept is kept: an earlier run on this machine proved the same files over the same libraries
+== high
+fn high::main: proved
+logic=proved functions=1 axioms=3 target=x86_64-unknown-linux-gnu cpu=x86-64-v2 sum=dac8208d650f15bf
+rt: high proved (after 11 s)
+rt: must-fail low/one.edit: refused, as it must be: note: src/lib.rt:7:1: it is not proved that what it ensures holds
+rt: must-fail low/other.edit: refused, as it must be (only by a limit of the prover, which gave no verdict)
+rt: must-fail low/bad.edit: NOT REFUSED: the crate is still proved with this edit
+rt: must-fail kept/one.edit: refused, as it must be: note: src/lib.rt:1:1: it is not proved that what it ensures holds
+rt: high ran, and wrote what its file stdout has
+rt: ok; handles allowed: none; must-fail edits: 3 refused; done in this run: 2 of the 3 proofs
 test result: ok. 12 passed; 0 failed; 0 ignored
 18 passed, 1 failed
 kept: 125 s
 """
 
 BENCH_LOG = """kept: commit abc1234, 2026-11-16, on 2 cores
-rt: sheet proved (12 s)
+rt: sheet proved (after 12 s)
 median time of one call, engine and plain implementation interleaved
     engine      plain engine/plain  what
 verdict: small calls
@@ -42,7 +52,7 @@ kept: 9 s
 def made_up_repository(root):
     """Two crates, the lower one with all kinds of lines."""
     files = {
-        "crates.txt": "# lines\nlow:\nhigh: low io\n",
+        "crates.txt": "# lines\nlow:\nhigh staticlib: low\n",
         "crates/low/src/lib.rt": "pub fn a() {}\nfn b() {}\n    pub extern \"C\" fn c() {}\n",
         "crates/low/specs/A.antt": "λ" * 121 + "\n" + "λ" * 120 + "\n",
         "crates/low/proofs/Laws.antt": "x" * 201 + "\n",
@@ -75,11 +85,12 @@ class Figures(unittest.TestCase):
         self.assertIn("| **all** | 4 | 2 | 1 | 2 | 1 | 2 | 2 | 1 |", text)
 
     def test_times(self):
-        text = figures.times_section(TEST_LOG, ["low", "high"])
+        text = figures.times_section(TEST_LOG, ["low", "kept", "high"])
         self.assertIn("commit abc1234, 2026-11-16, on 2 cores: 2 minutes 5 seconds, `18 passed, 1 failed`", text)
-        self.assertIn("| low | 4 | 2 | 9 | 7 |", text)
-        self.assertIn("| high | 11 | 0 | 0 | 0 |", text)
-        self.assertIn("| **all** | 15 | 2 | 9 | 7 |", text)
+        self.assertIn("| low | 4 | 2 | 2 |", text)
+        self.assertIn("| kept |  |  | 1 |", text)
+        self.assertIn("| high | 11 | 1 | 0 |", text)
+        self.assertIn("| **all** | 11 | 3 | 3 |", text)
 
     def test_ratios(self):
         text = figures.ratios_section(BENCH_LOG)

@@ -65,7 +65,7 @@ demand "make uninstall" make --no-print-directory uninstall PREFIX=/usr DESTDIR=
 demand "nothing stays" same "" "$(find "$under" -type f)"
 
 # A prover that refuses: its last notes, where all of them are, and no command. It is tried on an empty repository.
-mkdir -p "$folder/repository/crates" "$folder/repository/rust/yenuslap" "$folder/programs"
+mkdir -p "$folder/repository/crates/engine" "$folder/repository/rust/yenuslap" "$folder/programs"
 cp Makefile "$folder/repository"
 touch "$folder/repository/crates.txt" "$folder/repository/rust/Cargo.toml" "$folder/repository/rust/Cargo.lock"
 printf '#!/bin/sh\nseq 100; echo refused >&2; exit 1\n' >"$folder/programs/rt"

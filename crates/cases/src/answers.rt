@@ -10,6 +10,7 @@ use quotient::half::by_half;
 use quotient::line::{LineOffice, line_office};
 use quotient::number::by_number;
 use splitting::split::{Splitting, split};
+use std::io;
 use verdict::half::half;
 use verdict::joint::joint;
 
@@ -22,16 +23,16 @@ pub struct Asked {
 }
 
 // Prints what the calls answer to the question of a casebook.
-pub(crate) fn show_asked(bytes: &[u8], asked: Asked) {
+pub(crate) fn show_asked(rt: &impl Print, bytes: &[u8], asked: Asked) -> io::Result<()> {
     match read(bytes) {
-        Reading::Casebook(parts) => show_split(bytes, parts, asked),
-        Reading::Refused(refusal) => show_refused(refusal),
+        Reading::Casebook(parts) => show_split(rt, bytes, parts, asked)?,
+        Reading::Refused(refusal) => show_refused(rt, refusal)?,
     }
-    show_end();
+    show_end(rt)
 }
 
 // Finds the halves of the splitting that is asked for, and goes on with them.
-fn show_split(bytes: &[u8], parts: Parts, asked: Asked) {
+fn show_split(rt: &impl Print, bytes: &[u8], parts: Parts, asked: Asked) -> io::Result<()> {
     let mut left_out = half_output();
     let mut right_out = half_output();
     let left = parts.left.body(bytes);
@@ -47,24 +48,26 @@ fn show_split(bytes: &[u8], parts: Parts, asked: Asked) {
         &mut right_out,
     ) {
         Splitting::Halves(n) => show_answers(
+            rt,
             bytes,
             parts,
             first(&left_out, n),
             first(&right_out, n),
             asked,
         ),
-        Splitting::Refused(refusal) => show_refused(refusal),
+        Splitting::Refused(refusal) => show_refused(rt, refusal),
     }
 }
 
 // The verdict on the log; the quotient and the other half's verdict under it; the quotient by number; the line office's two verdicts; the cut.
 fn show_answers<'a>(
+    rt: &impl Print,
     bytes: &'a [u8],
     parts: Parts,
     left_half: &'a [u8],
     right_half: &'a [u8],
     asked: Asked,
-) {
+) -> io::Result<()> {
     let left = parts.left.body(bytes);
     let right = parts.right.body(bytes);
     let run = parts.run.body(bytes);
@@ -72,28 +75,32 @@ fn show_answers<'a>(
     let labels = parts.labels(bytes);
     let point = asked.point;
     let side = asked.side;
-    show(b"joint verdict ");
-    show_verdict(joint(labels, left, right, run, question, point));
-    show(b", quotient ");
-    show_by_half(bytes, parts, left_half, right_half, asked);
-    show(b", quotient by number ");
-    show_by_number(labels, left, right, run, question, asked);
-    show(b", line office ");
-    show_office(line_office(
-        labels, left, right, left_half, right_half, question, side, point,
-    ));
-    show(b", cut ");
-    show_bytes(cut(left_half, right_half, side, point));
+    show(rt, b"joint verdict ")?;
+    show_verdict(rt, joint(labels, left, right, run, question, point))?;
+    show(rt, b", quotient ")?;
+    show_by_half(rt, bytes, parts, left_half, right_half, asked)?;
+    show(rt, b", quotient by number ")?;
+    show_by_number(rt, labels, left, right, run, question, asked)?;
+    show(rt, b", line office ")?;
+    show_office(
+        rt,
+        line_office(
+            labels, left, right, left_half, right_half, question, side, point,
+        ),
+    )?;
+    show(rt, b", cut ")?;
+    show_bytes(rt, cut(left_half, right_half, side, point))
 }
 
 // Prints the quotient by the known half, and the other half's verdict under it.
 fn show_by_half<'a>(
+    rt: &impl Print,
     bytes: &'a [u8],
     parts: Parts,
     left_half: &'a [u8],
     right_half: &'a [u8],
     asked: Asked,
-) {
+) -> io::Result<()> {
     let left = parts.left.body(bytes);
     let right = parts.right.body(bytes);
     let question = parts.question.body(bytes);
@@ -105,23 +112,24 @@ fn show_by_half<'a>(
         labels, left, right, left_half, right_half, question, side, point, &mut out,
     );
     let formula = quotient_in(found, &out);
-    show_quotient(found, &out);
-    show(b", other half's verdict ");
+    show_quotient(rt, found, &out)?;
+    show(rt, b", other half's verdict ")?;
     match side.known() {
-        Known::Left => show_verdict(half(labels, right, right_half, formula, point)),
-        Known::Right => show_verdict(half(labels, left, left_half, formula, point)),
+        Known::Left => show_verdict(rt, half(labels, right, right_half, formula, point)),
+        Known::Right => show_verdict(rt, half(labels, left, left_half, formula, point)),
     }
 }
 
 // Prints the quotient by the known half of the splitting of a number.
 pub(crate) fn show_by_number<'a>(
+    rt: &impl Print,
     labels: Labels,
     left: &'a [u8],
     right: &'a [u8],
     run: &[u8],
     question: &[u8],
     asked: Asked,
-) {
+) -> io::Result<()> {
     let side = asked.side;
     let mut out = output();
     let found = by_number(
@@ -135,7 +143,7 @@ pub(crate) fn show_by_number<'a>(
         asked.point,
         &mut out,
     );
-    show_quotient(found, &out);
+    show_quotient(rt, found, &out)
 }
 
 // The bytes of a quotient in the output; none where it was refused.
@@ -147,21 +155,21 @@ fn quotient_in(quotient: Quotient, out: &[u8]) -> &[u8] {
 }
 
 // Prints a quotient's bytes, or the number of a refusal.
-pub(crate) fn show_quotient(quotient: Quotient, out: &[u8]) {
+pub(crate) fn show_quotient(rt: &impl Print, quotient: Quotient, out: &[u8]) -> io::Result<()> {
     match quotient {
-        Quotient::Written(n) => show_bytes(first(out, n)),
-        Quotient::Refused(refusal) => show_refused(refusal),
+        Quotient::Written(n) => show_bytes(rt, first(out, n)),
+        Quotient::Refused(refusal) => show_refused(rt, refusal),
     }
 }
 
 // Prints the line's verdict and the machine's, or the number of a refusal.
-pub(crate) fn show_office(office: LineOffice) {
+pub(crate) fn show_office(rt: &impl Print, office: LineOffice) -> io::Result<()> {
     match office {
         LineOffice::Verdicts(line, machine) => {
-            show_truth(line);
-            show(b" ");
-            show_truth(machine);
+            show_truth(rt, line)?;
+            show(rt, b" ")?;
+            show_truth(rt, machine)
         }
-        LineOffice::Refused(refusal) => show_refused(refusal),
+        LineOffice::Refused(refusal) => show_refused(rt, refusal),
     }
 }

@@ -7,40 +7,41 @@ use casebook::read::{Parts, Reading, read};
 use casebook::write::{Writing, write};
 use halves::side::Side;
 use records::record::Record;
+use std::io;
 
 // Prints where the parts of case A lie, and what they are written back to.
-pub(crate) fn show_records() {
+pub(crate) fn show_records(rt: &impl Print) -> io::Result<()> {
     let bytes = CASE_A;
     match read(&bytes) {
-        Reading::Casebook(parts) => show_parts(&bytes, parts),
-        Reading::Refused(refusal) => show_refused(refusal),
+        Reading::Casebook(parts) => show_parts(rt, &bytes, parts),
+        Reading::Refused(refusal) => show_refused(rt, refusal),
     }
 }
 
 // Prints k, where each other part lies, and whether writing gives back what was read.
-fn show_parts(bytes: &[u8], parts: Parts) {
-    show(b"case A, k: ");
+fn show_parts(rt: &impl Print, bytes: &[u8], parts: Parts) -> io::Result<()> {
+    show(rt, b"case A, k: ")?;
     let labels = parts.labels(bytes);
-    show_number(labels.pairs as usize);
-    show_place(b"\ncase A, left table: ", parts.left);
-    show_place(b"\ncase A, right table: ", parts.right);
-    show_place(b"\ncase A, joint run: ", parts.run);
-    show_place(b"\ncase A, question: ", parts.question);
-    show(b"\ncase A, written back: ");
-    show_written(bytes, parts);
-    show_end();
+    show_number(rt, labels.pairs as usize)?;
+    show_place(rt, b"\ncase A, left table: ", parts.left)?;
+    show_place(rt, b"\ncase A, right table: ", parts.right)?;
+    show_place(rt, b"\ncase A, joint run: ", parts.run)?;
+    show_place(rt, b"\ncase A, question: ", parts.question)?;
+    show(rt, b"\ncase A, written back: ")?;
+    show_written(rt, bytes, parts)?;
+    show_end(rt)
 }
 
 // Prints where a record's body lies.
-fn show_place(name: &[u8], record: Record) {
-    show(name);
-    show_number(record.len);
-    show(b" bytes from ");
-    show_number(record.start);
+fn show_place(rt: &impl Print, name: &[u8], record: Record) -> io::Result<()> {
+    show(rt, name)?;
+    show_number(rt, record.len)?;
+    show(rt, b" bytes from ")?;
+    show_number(rt, record.start)
 }
 
 // Prints how many bytes the parts are written to, and whether they are those that were read.
-fn show_written(bytes: &[u8], parts: Parts) {
+fn show_written(rt: &impl Print, bytes: &[u8], parts: Parts) -> io::Result<()> {
     let left = parts.left.body(bytes);
     let right = parts.right.body(bytes);
     let run = parts.run.body(bytes);
@@ -48,88 +49,114 @@ fn show_written(bytes: &[u8], parts: Parts) {
     let mut out = output();
     match write(parts.labels(bytes), left, right, run, question, &mut out) {
         Writing::Written(n) => {
-            show_number(n);
+            show_number(rt, n)?;
             if same(first(&out, n), bytes) {
-                show(b" bytes, those that were read");
-                return;
+                return show(rt, b" bytes, those that were read");
             }
-            show(b" bytes, others than were read");
+            show(rt, b" bytes, others than were read")
         }
-        Writing::Refused(refusal) => show_refused(refusal),
+        Writing::Refused(refusal) => show_refused(rt, refusal),
     }
 }
 
 // Prints the splittings of case A's log.
-pub(crate) fn show_splittings() {
+pub(crate) fn show_splittings(rt: &impl Print) -> io::Result<()> {
     let bytes = CASE_A;
-    show(b"case A, splittings: ");
-    show_log_count(&bytes);
-    show(b"\ncase A, splitting 0: ");
-    show_log_halves(&bytes, 0);
-    show(b"\ncase A, splitting 1: ");
-    show_log_halves(&bytes, 1);
-    show_end();
+    show(rt, b"case A, splittings: ")?;
+    show_log_count(rt, &bytes)?;
+    show(rt, b"\ncase A, splitting 0: ")?;
+    show_log_halves(rt, &bytes, 0)?;
+    show(rt, b"\ncase A, splitting 1: ")?;
+    show_log_halves(rt, &bytes, 1)?;
+    show_end(rt)
 }
 
 // Prints the answers to the questions of document 01, by either half.
-pub(crate) fn show_questions() {
-    show_on_a(b"back by 0 over true", 6, 0, 0, 0);
-    show_on_a(b"back by 0 over true", 6, 0, 0, 1);
-    show_on_a(b"back by 0 over true", 6, 0, 1, 0);
-    show_on_a(b"back by 0 over true", 6, 0, 1, 1);
-    show_on_a(b"back by 1 over true", 6, 1, 1, 0);
-    show_on_a(b"back by 1 over true", 6, 1, 1, 1);
-    show_on_a(b"forward by 0 over true", 5, 0, 0, 0);
-    show_on_a(b"forward by 2 over true", 5, 2, 0, 0);
-    show_unnamed();
-    show_on_loops(0);
-    show_on_loops(1);
+pub(crate) fn show_questions(rt: &impl Print) -> io::Result<()> {
+    show_on_a(rt, b"back by 0 over true", 6, 0, 0, 0)?;
+    show_on_a(rt, b"back by 0 over true", 6, 0, 0, 1)?;
+    show_on_a(rt, b"back by 0 over true", 6, 0, 1, 0)?;
+    show_on_a(rt, b"back by 0 over true", 6, 0, 1, 1)?;
+    show_on_a(rt, b"back by 1 over true", 6, 1, 1, 0)?;
+    show_on_a(rt, b"back by 1 over true", 6, 1, 1, 1)?;
+    show_on_a(rt, b"forward by 0 over true", 5, 0, 0, 0)?;
+    show_on_a(rt, b"forward by 2 over true", 5, 2, 0, 0)?;
+    show_unnamed(rt)?;
+    show_on_loops(rt, 0)?;
+    show_on_loops(rt, 1)
 }
 
 // Prints the answers to a question of two nodes on case A's machines: an operator and its label over true.
-fn show_on_a(name: &[u8], operator: u8, label: u8, point: usize, number: usize) {
+fn show_on_a(
+    rt: &impl Print,
+    name: &[u8],
+    operator: u8,
+    label: u8,
+    point: usize,
+    number: usize,
+) -> io::Result<()> {
     let mut bytes = CASE_A;
     bytes[40] = operator;
     bytes[41] = label;
-    show_sides(name, &bytes, point, number);
+    show_sides(rt, name, &bytes, point, number)
 }
 
 // Prints the answers of a splitting on machines of one state each.
-fn show_on_loops(number: usize) {
+fn show_on_loops(rt: &impl Print, number: usize) -> io::Result<()> {
     let bytes = LOOPS;
-    show_sides(b"one state each, back by 1 over true", &bytes, 1, number);
+    show_sides(
+        rt,
+        b"one state each, back by 1 over true",
+        &bytes,
+        1,
+        number,
+    )
 }
 
 // Prints the answers of case A where no side is named.
-fn show_unnamed() {
+fn show_unnamed(rt: &impl Print) -> io::Result<()> {
     let bytes = CASE_A;
-    show_side(b"back by 0 over true", &bytes, 1, 0, Side::Unnamed);
+    show_side(rt, b"back by 0 over true", &bytes, 1, 0, Side::Unnamed)
 }
 
 // Prints the answers to a question with the right half known, then the left.
-fn show_sides(name: &[u8], bytes: &[u8], point: usize, number: usize) {
-    show_side(name, bytes, point, number, Side::Right);
-    show_side(name, bytes, point, number, Side::Left);
+fn show_sides(
+    rt: &impl Print,
+    name: &[u8],
+    bytes: &[u8],
+    point: usize,
+    number: usize,
+) -> io::Result<()> {
+    show_side(rt, name, bytes, point, number, Side::Right)?;
+    show_side(rt, name, bytes, point, number, Side::Left)
 }
 
 // Prints a question, a point, the number of a splitting and the known side, then the answers.
-fn show_side(name: &[u8], bytes: &[u8], point: usize, number: usize, side: Side) {
-    show(name);
-    show(b", point ");
-    show_number(point);
-    show(b", splitting ");
-    show_number(number);
+fn show_side(
+    rt: &impl Print,
+    name: &[u8],
+    bytes: &[u8],
+    point: usize,
+    number: usize,
+    side: Side,
+) -> io::Result<()> {
+    show(rt, name)?;
+    show(rt, b", point ")?;
+    show_number(rt, point)?;
+    show(rt, b", splitting ")?;
+    show_number(rt, number)?;
     match side {
-        Side::Unnamed => show(b", known side unnamed: "),
-        Side::Left => show(b", known side left: "),
-        Side::Right => show(b", known side right: "),
+        Side::Unnamed => show(rt, b", known side unnamed: ")?,
+        Side::Left => show(rt, b", known side left: ")?,
+        Side::Right => show(rt, b", known side right: ")?,
     }
     show_asked(
+        rt,
         bytes,
         Asked {
             point: point,
             number: number,
             side: side,
         },
-    );
+    )
 }

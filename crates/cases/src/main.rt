@@ -1,5 +1,5 @@
 // Puts the published cases of document 01 that are not marked * through the public functions, beside case A and a
-// refusal of each number, and prints a line for each. The output that `rt check` compares with (`stdout`) is not this
+// refusal of each number, and prints a line for each. The output that `rt ci` compares with (`stdout`) is not this
 // program's: the plain implementation of document 01 in rust/reference writes it (`make outputs`). The two share the
 // list of cases and the form of the lines.
 #![tactic(auto)]
@@ -12,14 +12,16 @@ mod refusals;
 mod show;
 mod splittings;
 
-fn main() {
-    case_a::show_records();
-    case_a::show_splittings();
-    case_a::show_questions();
-    edges::show_sizes();
-    edges::show_counts();
-    refusals::show_of_casebooks();
-    refusals::show_of_tables();
-    refusals::show_of_calls();
-    refusals::show_of_halves();
+use std::io;
+
+fn main(rt: HostRuntime) -> io::Result<()> {
+    case_a::show_records(&rt)?;
+    case_a::show_splittings(&rt)?;
+    case_a::show_questions(&rt)?;
+    edges::show_sizes(&rt)?;
+    edges::show_counts(&rt)?;
+    refusals::show_of_casebooks(&rt)?;
+    refusals::show_of_tables(&rt)?;
+    refusals::show_of_calls(&rt)?;
+    refusals::show_of_halves(&rt)
 }

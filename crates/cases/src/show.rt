@@ -2,7 +2,7 @@
 ghost use Rattle.std.specs.Prelude.{◌≡◌, ◌<◌, length};
 
 use labels::refusal::Refusal;
-use libc::STDOUT_FILENO;
+use std::io;
 use verdict::answer::Verdict;
 
 // 8,192 bytes to lend, two for each of a quotient's 4,096 nodes, all 9. The promise is what a loan of them needs.
@@ -20,57 +20,57 @@ pub(crate) fn half_output() -> [u8; 401]
 }
 
 // Prints words as they are.
-pub(crate) fn show(words: &[u8]) {
-    io::write_all(STDOUT_FILENO, words);
+pub(crate) fn show(rt: &impl Print, words: &[u8]) -> io::Result<()> {
+    rt.write_all(words)
 }
 
 // Ends a line.
-pub(crate) fn show_end() {
-    show(b"\n");
+pub(crate) fn show_end(rt: &impl Print) -> io::Result<()> {
+    show(rt, b"\n")
 }
 
 // Prints a number in decimal.
-pub(crate) fn show_number(n: usize) {
-    io::print_decimal(STDOUT_FILENO, n as u64);
+pub(crate) fn show_number(rt: &impl Print, n: usize) -> io::Result<()> {
+    rt.print(n)
 }
 
 // Prints bytes, two digits for each.
-pub(crate) fn show_bytes(bytes: &[u8]) {
+pub(crate) fn show_bytes(rt: &impl Print, bytes: &[u8]) -> io::Result<()> {
     let mut i = 0;
     while i < bytes.len() {
-        show_byte(bytes[i]);
+        show_byte(rt, bytes[i])?;
         i = i + 1;
     }
+    Ok(())
 }
 
 // Prints a byte's two digits.
-fn show_byte(byte: u8) {
-    io::print_hex(STDOUT_FILENO, byte as u64, 2);
+fn show_byte(rt: &impl Print, byte: u8) -> io::Result<()> {
+    print!(rt; "{byte:02x}")
 }
 
 // Prints a refusal by its number.
-pub(crate) fn show_refused(refusal: Refusal) {
+pub(crate) fn show_refused(rt: &impl Print, refusal: Refusal) -> io::Result<()> {
     let number = refusal.number();
-    show(b"refused ");
-    io::print_decimal(STDOUT_FILENO, number as u64);
+    show(rt, b"refused ")?;
+    rt.print(number)
 }
 
 // Prints T or F, or the number of a refusal.
-pub(crate) fn show_verdict(verdict: Verdict) {
+pub(crate) fn show_verdict(rt: &impl Print, verdict: Verdict) -> io::Result<()> {
     match verdict {
-        Verdict::Holds => show(b"T"),
-        Verdict::Fails => show(b"F"),
-        Verdict::Refused(refusal) => show_refused(refusal),
+        Verdict::Holds => show(rt, b"T"),
+        Verdict::Fails => show(rt, b"F"),
+        Verdict::Refused(refusal) => show_refused(rt, refusal),
     }
 }
 
 // Prints T or F.
-pub(crate) fn show_truth(holds: bool) {
+pub(crate) fn show_truth(rt: &impl Print, holds: bool) -> io::Result<()> {
     if holds {
-        show(b"T");
-        return;
+        return show(rt, b"T");
     }
-    show(b"F");
+    show(rt, b"F")
 }
 
 // The first n bytes of an output; none where there are not so many.

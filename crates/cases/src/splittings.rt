@@ -5,44 +5,56 @@ use joining::join::{Joining, join};
 use labels::label::Labels;
 use splitting::count::{Counted, count};
 use splitting::split::{Splitting, split};
+use std::io;
 
 // Prints a count's answer.
-pub(crate) fn show_count(counted: Counted) {
+pub(crate) fn show_count(rt: &impl Print, counted: Counted) -> io::Result<()> {
     match counted {
-        Counted::Splittings(n) => show_number(n),
-        Counted::Refused(refusal) => show_refused(refusal),
+        Counted::Splittings(n) => show_number(rt, n),
+        Counted::Refused(refusal) => show_refused(rt, refusal),
     }
 }
 
 // Prints how many splittings the log of a casebook has.
-pub(crate) fn show_log_count(bytes: &[u8]) {
+pub(crate) fn show_log_count(rt: &impl Print, bytes: &[u8]) -> io::Result<()> {
     match read(bytes) {
-        Reading::Casebook(parts) => show_count(count(
-            parts.labels(bytes),
-            parts.left.body(bytes),
-            parts.right.body(bytes),
-            parts.run.body(bytes),
-        )),
-        Reading::Refused(refusal) => show_refused(refusal),
+        Reading::Casebook(parts) => show_count(
+            rt,
+            count(
+                parts.labels(bytes),
+                parts.left.body(bytes),
+                parts.right.body(bytes),
+                parts.run.body(bytes),
+            ),
+        ),
+        Reading::Refused(refusal) => show_refused(rt, refusal),
     }
 }
 
 // Prints both halves of a splitting of the log of a casebook.
-pub(crate) fn show_log_halves(bytes: &[u8], number: usize) {
+pub(crate) fn show_log_halves(rt: &impl Print, bytes: &[u8], number: usize) -> io::Result<()> {
     match read(bytes) {
         Reading::Casebook(parts) => show_halves(
+            rt,
             parts.labels(bytes),
             parts.left.body(bytes),
             parts.right.body(bytes),
             parts.run.body(bytes),
             number,
         ),
-        Reading::Refused(refusal) => show_refused(refusal),
+        Reading::Refused(refusal) => show_refused(rt, refusal),
     }
 }
 
 // Prints both halves of a splitting of a log, and what they are joined to.
-pub(crate) fn show_halves(labels: Labels, left: &[u8], right: &[u8], run: &[u8], number: usize) {
+pub(crate) fn show_halves(
+    rt: &impl Print,
+    labels: Labels,
+    left: &[u8],
+    right: &[u8],
+    run: &[u8],
+    number: usize,
+) -> io::Result<()> {
     let mut left_out = half_output();
     let mut right_out = half_output();
     match split(
@@ -55,34 +67,36 @@ pub(crate) fn show_halves(labels: Labels, left: &[u8], right: &[u8], run: &[u8],
         &mut right_out,
     ) {
         Splitting::Halves(n) => {
-            show(b"left half ");
-            show_bytes(first(&left_out, n));
-            show(b", right half ");
-            show_bytes(first(&right_out, n));
-            show(b", joined ");
+            show(rt, b"left half ")?;
+            show_bytes(rt, first(&left_out, n))?;
+            show(rt, b", right half ")?;
+            show_bytes(rt, first(&right_out, n))?;
+            show(rt, b", joined ")?;
             show_joined(
+                rt,
                 labels,
                 left,
                 right,
                 first(&left_out, n),
                 first(&right_out, n),
-            );
+            )
         }
-        Splitting::Refused(refusal) => show_refused(refusal),
+        Splitting::Refused(refusal) => show_refused(rt, refusal),
     }
 }
 
 // Prints the joint run that two halves are joined to.
 pub(crate) fn show_joined(
+    rt: &impl Print,
     labels: Labels,
     left: &[u8],
     right: &[u8],
     left_half: &[u8],
     right_half: &[u8],
-) {
+) -> io::Result<()> {
     let mut out = output();
     match join(labels, left, right, left_half, right_half, &mut out) {
-        Joining::Joined(n) => show_bytes(first(&out, n)),
-        Joining::Refused(refusal) => show_refused(refusal),
+        Joining::Joined(n) => show_bytes(rt, first(&out, n)),
+        Joining::Refused(refusal) => show_refused(rt, refusal),
     }
 }

@@ -1,11 +1,13 @@
 // Puts the public functions of labels, tables, halves and machines through trials read from standard input, a line of
-// numbers for each. The trials and the output that `rt check` compares with come from the plain implementation of
+// numbers for each. The trials and the output that `rt ci` compares with come from the plain implementation of
 // document 01 in rust/reference (`make outputs`), not from this program.
 #![tactic(auto)]
 
 mod answers;
 mod frame;
 mod line;
+
+ghost use Rattle.std.specs.Prelude.{◌≤◌, length, IfOk};
 
 use answers::{
     put_call, put_has, put_known, put_label, put_leaving, put_partners, put_row, put_step,
@@ -15,9 +17,9 @@ use frame::{Cursor, Found, Trial, number};
 use halves::half::check_half;
 use halves::side::cut;
 use labels::label::{Label, Labels};
-use libc::{STDIN_FILENO, STDOUT_FILENO};
 use line::{put_bytes, put_check, put_end, put_mark};
 use machines::joint::check_joint;
+use std::io::{self, Read};
 use tables::check::check_table;
 use tables::row::Row;
 
@@ -69,29 +71,30 @@ fn put_answer<'a>(
 }
 
 // Writes the first n bytes of a line.
-fn print_line(line: &[u8], n: usize) {
+fn print_line(rt: &impl Print, line: &[u8], n: usize) -> io::Result<()> {
     if n <= line.len() {
-        io::write_all(STDOUT_FILENO, &line[..n]);
+        rt.write_all(&line[..n])?;
     }
+    Ok(())
 }
 
 // Prints the line of one trial, whose strings lie within the input.
-fn print_trial(input: &[u8], trial: Trial) {
+fn print_trial(rt: &impl Print, input: &[u8], trial: Trial) -> io::Result<()> {
     let left = trial.left;
     let right = trial.right;
     let run = trial.run;
     let end = trial.end;
     if input.len() < end {
-        return;
+        return Ok(());
     }
     if end < run {
-        return;
+        return Ok(());
     }
     if run < right {
-        return;
+        return Ok(());
     }
     if right < left {
-        return;
+        return Ok(());
     }
     let mut line = [0u8; 4096];
     let at = put_answer(
@@ -102,29 +105,44 @@ fn print_trial(input: &[u8], trial: Trial) {
         &input[run..end],
     );
     let n = put_end(&mut line, at);
-    print_line(&line, n);
+    print_line(rt, &line, n)
 }
 
 // Prints a line for each trial; stops at a malformed one.
-fn print_trials(input: &[u8]) {
+fn print_trials(rt: &impl Print, input: &[u8]) -> io::Result<()> {
     let mut at = 0;
     while at < input.len() {
         let here = Cursor { at: at };
         let Found::Trial(trial) = here.trial(input) else {
-            io::write_all(STDOUT_FILENO, b"malformed\n");
-            return;
+            return rt.write_all(b"malformed\n");
         };
-        print_trial(input, trial);
+        print_trial(rt, input, trial)?;
         let end = trial.end;
         if end <= at {
-            return;
+            return Ok(());
         }
         at = end;
     }
+    Ok(())
 }
 
-fn main() {
-    let mut input = io::large_buffer();
-    let n = io::read_full(STDIN_FILENO, &mut input);
-    print_trials(&input[..n]);
+// Reads until the buffer is full or the input ends; how many bytes then stand in its front.
+fn read_full(input: &mut impl Read, buffer: &mut [u8]) -> io::Result<usize>
+    ensures { IfOk result (λ n. n ≤ length buffer.new) }
+{
+    let mut n = 0;
+    while n < buffer.len() {
+        let read = input.read(&mut buffer[n..])?;
+        if read == 0 {
+            break;
+        }
+        n += read;
+    }
+    Ok(n)
+}
+
+fn main(rt: HostRuntime) -> io::Result<()> {
+    let mut input = [0u8; 65536];
+    let n = read_full(&mut rt.stdin(), &mut input)?;
+    print_trials(&rt, &input[..n])
 }
