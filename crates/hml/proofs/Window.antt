@@ -1,7 +1,7 @@
 -- A quotient looks back no further than its formula nests back modalities: by two runs that end in the same state and
 -- in the same last steps it is the same.
 use mathlib.Core.Path.{◌≡◌, refl, ap, ap₂, fun_ext}
-use Prim.Native.Nat.{ℕ, zero, suc, ◌+◌, ◌≤◌, max}
+use Prim.Native.Nat.{ℕ, zero, suc, ◌≤◌}
 use native.Mathlib.Omega.{arith}
 use mathlib.Core.List.{◌++◌}
 use Rattle.hml.specs.Lists.{same, each, only, given}

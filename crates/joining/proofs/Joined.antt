@@ -15,7 +15,7 @@ use Rattle.hml.specs.Lists.{guard, present}
 use Rattle.hml.proofs.Lists.{each_append, length-each}
 use Rattle.hml.specs.System.{Step, move, idle, Run, start, ◌▸◌, last, steps, Pairing}
 use Rattle.hml.specs.Compose.{shakes, paired}
-use Rattle.hml.proofs.Composition.{decided_shakes, starts, last-join}
+use Rattle.hml.proofs.Composition.{decided_shakes, last-join}
 use Rattle.hml.specs.Joining.{join_step, extend, join}
 use Rattle.hml.proofs.Joins.{join_sound, join-steps}
 use Rattle.labels.specs.Labels.{pairing}

@@ -10,7 +10,7 @@ use lib.Dec.{ltb}
 use borrow.Author.Tests.{lt-ltb, le-ltb, ltb-false, ne_eqb}
 use Rattle.hml.specs.Lists.{present}
 use Rattle.hml.specs.System.{Run, last, steps, stop}
-use Rattle.hml.specs.Formula.{Formula, size, nesting, holds}
+use Rattle.hml.specs.Formula.{Formula, nesting, holds}
 use Rattle.hml.specs.Machine.{machine}
 use Rattle.hml.proofs.Alone.{holds_alone}
 use Rattle.hml.proofs.Tests.{apart}

@@ -10,7 +10,7 @@ use lib.Dec.{eqb, leb}
 use borrow.Author.Tests.{leb-true}
 use Rattle.hml.proofs.Tests.{both_true, decides, decided_or, decided_same}
 use Rattle.hml.specs.System.{Run, ◌▸◌}
-use Rattle.hml.specs.Formula.{Formula, not, fwd, back, fwd_idle, size, nesting, labelled, holds}
+use Rattle.hml.specs.Formula.{Formula, not, fwd, fwd_idle, size, nesting, labelled, holds}
 use Rattle.labels.specs.Labels.{count}
 use Rattle.labels.proofs.Labels.{count_most}
 use Rattle.labels.specs.declared.label.Labels.{Labels}

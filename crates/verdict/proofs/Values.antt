@@ -1,7 +1,6 @@
 -- How large the value of an answer can be.
 use Prim.Native.Nat.{◌≤◌}
 use mathlib.Core.Bool.{Bool, true, false}
-use mathlib.Core.List.{List}
 use native.Mathlib.Omega.{arith}
 use Rattle.labels.proofs.Answers.{Within, none, next}
 use Rattle.verdict.specs.Verdicts.{bit_of, verdict_answer}

@@ -1,5 +1,5 @@
 -- The length of the part.
-use mathlib.Core.Path.{◌∙◌, ap}
+use mathlib.Core.Path.{ap}
 use lib.ListN.{length}
 use Rattle.engine.proofs.yenuslap_cut.Goals as goal
 

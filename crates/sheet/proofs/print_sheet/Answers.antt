@@ -1,10 +1,9 @@
 -- A loop over blocks; the lines before `first` were taken.
-use Prim.Native.Nat.{◌+◌, ◌-◌, ◌≤◌}
-use mathlib.Core.Path.{◌≡◌, refl, sym, ◌∙◌, ap}
+use Prim.Native.Nat.{◌+◌}
+use mathlib.Core.Path.{refl, sym, ◌∙◌, ap}
 use mathlib.Core.Bool.{false≢true}
 use native.Mathlib.Omega.{arith}
 use lib.ListN.{length}
-use Rattle.sheet_lines.specs.Sheets.{sheet_of}
 use Rattle.sheet_lines.specs.Blocks.{block_from}
 use Rattle.sheet_lines.proofs.WholeSheet.{block_left, block_last}
 use Rattle.sheet.proofs.print_sheet.Goals as goal

@@ -1,12 +1,8 @@
 use Prim.Native.Nat.{◌+◌, ◌-◌, ◌≤◌}
-use mathlib.Core.Path.{◌≡◌, refl, sym, ◌∙◌, ap}
-use mathlib.Core.Bool.{false≢true}
-use native.Mathlib.Omega.{arith}
+use mathlib.Core.Path.{◌≡◌}
 use lib.ListN.{length}
-use borrow.Author.Tests.{ltb-true, ltb-false}
 use Rattle.sheet_lines.specs.Sheets.{sheet_of}
 use Rattle.sheet_lines.specs.Blocks.{block_from}
-use Rattle.sheet_lines.proofs.WholeSheet.{block_left, block_last}
 use Rattle.sheet.proofs.print_sheet.Given as goal
 
 -- the lines in front of `first` were handed over and taken, and then those of the block that begins with it

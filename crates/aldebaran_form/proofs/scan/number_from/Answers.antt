@@ -1,8 +1,5 @@
 -- Digit by digit: what was read gives what will be read.
-use native.Mathlib.Omega.{arith}
-use Prim.Native.Nat.{◌-◌}
-use lib.ListN.{length}
-use Rattle.aldebaran_form.proofs.Scanning.{NumberRead, read_begin, read_over, read_led, read_long, read_again}
+use Rattle.aldebaran_form.proofs.Scanning.{read_begin, read_over, read_led, read_long, read_again}
 use Rattle.aldebaran_form.proofs.Scanning.{digit_low, digit_high, digit_end}
 use Rattle.aldebaran_form.proofs.scan.number_from.Goals as goal
 

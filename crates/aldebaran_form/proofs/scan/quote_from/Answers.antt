@@ -1,9 +1,5 @@
 -- Byte by byte: the place and the label from there on come to the same end.
-use Prim.Native.Nat.{◌+◌, ◌-◌}
-use mathlib.Core.Path.{◌≡◌, refl}
-use native.Mathlib.Omega.{arith}
-use lib.ListN.{length, drop}
-use Rattle.aldebaran_form.specs.Working.{label_to}
+use mathlib.Core.Path.{refl}
 use Rattle.aldebaran_form.proofs.Scanning.{label-quote, label_feed, label_end, quote_over, quote_again}
 use Rattle.aldebaran_form.proofs.scan.quote_from.Goals as goal
 

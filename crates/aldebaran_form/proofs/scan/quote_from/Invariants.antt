@@ -1,9 +1,7 @@
 use Prim.Native.Nat.{◌+◌, ◌-◌}
-use mathlib.Core.Path.{◌≡◌, refl}
-use native.Mathlib.Omega.{arith}
+use mathlib.Core.Path.{◌≡◌}
 use lib.ListN.{length, drop}
 use Rattle.aldebaran_form.specs.Working.{label_to}
-use Rattle.aldebaran_form.proofs.Scanning.{label-quote, label_feed, label_end, quote_over, quote_again}
 use Rattle.aldebaran_form.proofs.scan.quote_from.Given as goal
 
 abbrev pub invariant-loop-end : goal.invariant-loop-end

@@ -1,12 +1,12 @@
 -- The header's line, then a loop over the rows: the lines of the first i stand behind it.
-use Prim.Native.Nat.{◌-◌, ◌≤◌, ◌<◌}
+use Prim.Native.Nat.{◌<◌}
 use mathlib.Core.Path.{sym}
 use native.Mathlib.Omega.{arith}
-use lib.ListN.{length, take}
+use lib.ListN.{length}
 use Rattle.tables.specs.Tables.{rows_of}
 use Rattle.tables.proofs.Rows.{length-rows}
-use Rattle.aldebaran_writing.proofs.TextLengths.{rows_text, header-room, row_room}
-use Rattle.aldebaran_writing.proofs.TextPieces.{Stands, stands-kept, rows_none, rows_more, text-put}
+use Rattle.aldebaran_writing.proofs.TextLengths.{header-room, row_room}
+use Rattle.aldebaran_writing.proofs.TextPieces.{stands-kept, rows_none, rows_more, text-put}
 use Rattle.hml.proofs.Clauses.{to_value_text_after}
 use Rattle.aldebaran_writing.proofs.write.put_text.Goals as goal
 

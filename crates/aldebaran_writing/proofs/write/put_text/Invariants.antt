@@ -1,11 +1,8 @@
-use Prim.Native.Nat.{◌-◌, ◌≤◌, ◌<◌}
-use mathlib.Core.Path.{sym}
-use native.Mathlib.Omega.{arith}
+use Prim.Native.Nat.{◌-◌, ◌≤◌}
 use lib.ListN.{length, take}
 use Rattle.tables.specs.Tables.{rows_of}
-use Rattle.tables.proofs.Rows.{length-rows}
-use Rattle.aldebaran_writing.proofs.TextLengths.{rows_text, header-room, row_room}
-use Rattle.aldebaran_writing.proofs.TextPieces.{Stands, stands-kept, rows_none, rows_more, text-put}
+use Rattle.aldebaran_writing.proofs.TextLengths.{rows_text}
+use Rattle.aldebaran_writing.proofs.TextPieces.{Stands}
 use Rattle.aldebaran_writing.proofs.write.put_text.Given as goal
 
 abbrev pub invariant-loop-i : goal.invariant-loop-i

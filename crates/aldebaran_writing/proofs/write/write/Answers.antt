@@ -9,7 +9,7 @@ use Rattle.aldebaran_writing.proofs.TextLengths.{text_short}
 use Rattle.aldebaran_writing.proofs.TextWriting.{table_judged, refused_table, refused_first, refused_room}
 use Rattle.aldebaran_writing.proofs.TextWriting.{text-given}
 use Rattle.aldebaran_writing.proofs.TextWriting.{buffer_kept, text_copied}
-use Rattle.labels.proofs.Slices.{copied_whole, copied_count}
+use Rattle.labels.proofs.Slices.{copied_whole}
 use Rattle.hml.proofs.Clauses.{to_value_out_after}
 use Rattle.aldebaran_writing.proofs.write.write.Goals as goal
 

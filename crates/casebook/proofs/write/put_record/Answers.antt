@@ -6,7 +6,7 @@ use Rattle.labels.proofs.Outputs.{front_length}
 use Rattle.records.specs.Records.{record_bytes}
 use Rattle.records.proofs.RecordLaws.{record-length}
 use Rattle.casebook.proofs.Writing.{record-put}
-use Rattle.labels.proofs.Slices.{copied_whole, copied_count}
+use Rattle.labels.proofs.Slices.{copied_whole}
 use Rattle.casebook.proofs.write.put_record.Goals as goal
 
 pub bounds-out-1 : goal.bounds-out-1

@@ -6,7 +6,7 @@
 -- Back modalities by the last step, and the forward ones left to their disjuncts.
 -- Trees of no operand, one or two, and the modalities left to their own.
 use Prim.Native.Nat.{◌+◌, ◌-◌}
-use Prim.Native.Nat.{ℕ, ◌-◌}
+use Prim.Native.Nat.{◌-◌}
 use mathlib.Core.Path.{refl, ◌∙◌}
 use native.Mathlib.Omega.{arith}
 use lib.ListN.{get_or, take}
@@ -25,19 +25,17 @@ use Rattle.dividing.proofs.Pieces.{taken, piece_within, piece_length}
 use Rattle.dividing.proofs.Listing.{listed-fits}
 use Rattle.dividing.proofs.Readiness.{forward_ready}
 use Rattle.dividing.proofs.Forwards.{forward-texts, forward-listed}
-use Prim.Native.Nat.{ℕ, ◌<◌, ◌+◌, ◌-◌, ◌*◌}
+use Prim.Native.Nat.{◌+◌, ◌-◌, ◌*◌}
 use lib.ListN.{length}
 use mathlib.Core.Path.{refl, sym, ◌∙◌}
 use lib.Seq.{length-take-le}
 use Rattle.formulas.proofs.Operands.{back-operator}
 use Rattle.dividing.proofs.Readiness.{back_ready}
 use Rattle.dividing.proofs.Texts as texts
-use Prim.Native.Nat.{ℕ, ◌+◌, ◌-◌, ◌*◌, ◌/◌}
+use Prim.Native.Nat.{◌+◌, ◌-◌, ◌*◌, ◌/◌}
 use Rattle.formulas.proofs.Operands.{size_read, second_room, and-or, connective_operator}
 use Rattle.dividing.specs.Working.{text}
 use Rattle.dividing.proofs.Readiness.{connective_ready, second_ready}
-use Rattle.dividing.proofs.count.+counting.Invariants.{K}
-use Rattle.hml.proofs.Clauses.{to_result_value_run_unchanged}
 use Rattle.dividing.proofs.count.+counting.Goals as goal
 
 pub count_disjuncts-count_disjunct-requires : goal.count_disjuncts-count_disjunct-requires

@@ -1,9 +1,7 @@
 -- The first row is skipped, or its disjunct is put before those of the rows behind it.
-use Prim.Native.Nat.{ℕ, ◌<◌}
 use mathlib.Core.Path.{refl, sym, ◌∙◌}
 use native.Mathlib.Omega.{arith}
 use Rattle.labels.specs.Labels.{pairing}
-use lib.ListN.{length}
 use Rattle.labels.proofs.Slices.{rest_length}
 use Rattle.labels.proofs.Outputs.{front_length}
 use Rattle.dividing.proofs.Pieces.{nothing, two_pieces, first_fits, second_fits, first-length, second_length}

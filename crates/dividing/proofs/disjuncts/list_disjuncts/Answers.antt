@@ -3,7 +3,6 @@ use mathlib.Core.Path.{◌≡◌, refl, sym, ◌∙◌}
 use mathlib.Core.List.{List, [], ◌∷◌}
 use Prim.Native.Nat.{ℕ}
 use native.Mathlib.Omega.{arith}
-use borrow.Author.Tests.{not-true, not-false}
 use Rattle.tables.specs.Tables.{rows_of, rows_from, bytes_of, table_of, Rising, SoundTable}
 use Rattle.tables.specs.Working.{moves_in}
 use Rattle.tables.proofs.Searching.{leaving-moves}

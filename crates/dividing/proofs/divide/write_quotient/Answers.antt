@@ -6,7 +6,7 @@ use Rattle.labels.proofs.Outputs.{front_length}
 use Rattle.labels.proofs.Slices.{copied}
 use Rattle.dividing.proofs.Division.{question_ready, sure_fits, answer_large, answer_short, counted-fits}
 use Rattle.dividing.proofs.Division.{text-fits, answer_written}
-use Rattle.labels.proofs.Slices.{copied_whole, copied_count}
+use Rattle.labels.proofs.Slices.{copied_whole}
 use Rattle.hml.proofs.Clauses.{to_sound_table_ready_run_in_bounds, to_value_out_after}
 use Rattle.dividing.proofs.divide.write_quotient.Goals as goal
 

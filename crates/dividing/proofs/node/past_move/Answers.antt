@@ -1,6 +1,5 @@
 -- The operator first, then the move's label beside the operator's.
 use mathlib.Core.Path.{sym, ◌∙◌}
-use borrow.Author.Tests.{not-true, not-false}
 use Rattle.dividing.proofs.Nodes.{move_no_idle, move_same, move_other, move-shaken, move_alone}
 use Rattle.dividing.proofs.node.past_move.Goals as goal
 

@@ -8,7 +8,7 @@
 -- One disjunct, written over the run with one step more.
 -- Trees of no operand, one or two, and the modalities left to their own.
 use Prim.Native.Nat.{◌+◌, ◌-◌}
-use Prim.Native.Nat.{ℕ, ◌-◌}
+use Prim.Native.Nat.{◌-◌}
 use mathlib.Core.Path.{refl, ◌∙◌}
 use mathlib.Core.List.{[], ◌∷◌}
 use native.Mathlib.Omega.{arith}
@@ -27,7 +27,7 @@ use Rattle.dividing.proofs.Pieces.{taken, piece_within, piece_length}
 use Rattle.dividing.proofs.Listing.{listed-fits}
 use Rattle.dividing.proofs.Readiness.{forward_ready}
 use Rattle.dividing.proofs.Forwards.{forward-texts, forward-listed}
-use Prim.Native.Nat.{ℕ, ◌<◌, ◌+◌, ◌-◌, ◌*◌}
+use Prim.Native.Nat.{◌+◌, ◌-◌, ◌*◌}
 use lib.ListN.{length}
 use mathlib.Core.Path.{refl, sym, ◌∙◌}
 use lib.ListN.{take}
@@ -41,15 +41,13 @@ use Rattle.halves.proofs.HalfBuffers.{half_longer, put_two_back}
 use Rattle.dividing.proofs.Pieces.{two_pieces, first_fits, second_fits, second_length}
 use Rattle.dividing.proofs.Readiness.{longer_ready}
 use Rattle.dividing.proofs.Forwards.{listed-room, listed_keeps, first-text}
-use Prim.Native.Nat.{ℕ, ◌+◌, ◌-◌, ◌*◌, ◌/◌, ◌≤◌}
+use Prim.Native.Nat.{◌+◌, ◌-◌, ◌*◌, ◌/◌, ◌≤◌}
 use mathlib.Core.List.{[], ◌∷◌, ◌++◌}
 use Rattle.labels.proofs.Slices.{rest, rest_length}
 use Rattle.formulas.proofs.Operands.{size_read, second_room, and-or, connective_operator}
 use Rattle.dividing.specs.Working.{text}
 use Rattle.dividing.proofs.Pieces.{one_piece, joined, two_pieces, second_fits, second_length}
 use Rattle.dividing.proofs.Readiness.{connective_ready, second_ready}
-use Rattle.dividing.proofs.write.+writing.Invariants.{K}
-use Rattle.hml.proofs.Clauses.{to_value_out_after_run_unchanged}
 use Rattle.dividing.proofs.write.+writing.Goals as goal
 
 pub write_disjuncts-write_disjunct-requires : goal.write_disjuncts-write_disjunct-requires

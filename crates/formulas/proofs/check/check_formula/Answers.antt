@@ -1,6 +1,5 @@
 -- At each return the tests say which case of `check_formula` holds.
 use mathlib.Core.Path.{sym, ◌∙◌}
-use borrow.Author.Tests.{not-true, not-false}
 use Rattle.formulas.proofs.Checking.{over_limit, no_formula, no_tree, more_than_tree, one-tree, tree_of_lem}
 use Rattle.formulas.proofs.Checking.{label_refused, few_sound, nested_refused, formula_sound}
 use Rattle.formulas.proofs.check.check_formula.Goals as goal

@@ -1,11 +1,7 @@
-use native.Mathlib.Omega.{arith}
-use mathlib.Core.Path.{◌≡◌, refl, sym, ◌∙◌}
+use mathlib.Core.Path.{◌≡◌}
 use lib.ListN.{length}
-use borrow.Author.Tests.{not-true, not-false}
 use Rattle.labels.specs.Labels.{count}
-use Rattle.labels.proofs.Slices.{rest_fewer}
 use Rattle.formulas.specs.Working.{labels_fit}
-use Rattle.formulas.proofs.FormulaLabels.{label_above, label-fits, no_label-left}
 use Rattle.formulas.proofs.check.labels_fit.Given as goal
 
 abbrev pub invariant-loop-rest : goal.invariant-loop-rest

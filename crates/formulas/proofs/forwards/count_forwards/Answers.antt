@@ -1,9 +1,8 @@
 -- What was counted and what is in `rest` are all; the measure is the length of `rest`.
 use native.Mathlib.Omega.{arith}
 use mathlib.Core.Path.{sym, ◌∙◌}
-use lib.ListN.{length}
 use Rattle.labels.proofs.Slices.{rest_fewer}
-use Rattle.formulas.proofs.ForwardCount.{Counting, count-start, count-forward, count_other, count_end}
+use Rattle.formulas.proofs.ForwardCount.{count-start, count-forward, count_other, count_end}
 use Rattle.formulas.proofs.forwards.count_forwards.Goals as goal
 use Rattle.formulas.proofs.forwards.count_forwards.Goals.{then-is_forward, else-is_forward}
 

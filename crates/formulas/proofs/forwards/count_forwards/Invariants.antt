@@ -1,9 +1,5 @@
-use native.Mathlib.Omega.{arith}
-use mathlib.Core.Path.{sym, ◌∙◌}
-use mathlib.Core.Logic.{⊎_elim}
 use lib.ListN.{length}
-use Rattle.labels.proofs.Slices.{rest_fewer}
-use Rattle.formulas.proofs.ForwardCount.{Counting, count-start, count-forward, count_other, count_end}
+use Rattle.formulas.proofs.ForwardCount.{Counting}
 use Rattle.formulas.proofs.forwards.count_forwards.Given as goal
 
 abbrev pub invariant-loop-rest : goal.invariant-loop-rest

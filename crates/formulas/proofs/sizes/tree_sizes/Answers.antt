@@ -1,11 +1,10 @@
 -- After i turns the last i nodes have their sizes; the measure is the nodes that are left.
 use native.Mathlib.Omega.{arith}
-use Prim.Native.Nat.{◌-◌}
 use mathlib.Core.Path.{◌∙◌, ap, sym}
 use lib.Seq.{length-take-le}
 use Rattle.formulas.specs.Working.{tree_size}
 use Rattle.labels.proofs.Slices.{rest_of}
-use Rattle.formulas.proofs.TreeSizes.{Sizing, sizing_start, sizing_length, sizing_end, sizing_on, here-room}
+use Rattle.formulas.proofs.TreeSizes.{sizing_start, sizing_length, sizing_end, sizing_on, here-room}
 use Rattle.formulas.proofs.TreeSizes.{here-behind}
 use Rattle.hml.proofs.Clauses.{to_in_bounds_behind_value}
 use Rattle.formulas.proofs.sizes.tree_sizes.Goals as goal

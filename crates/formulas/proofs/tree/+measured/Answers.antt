@@ -4,7 +4,7 @@ use mathlib.Core.Path.{sym, ◌∙◌}
 use lib.ListN.{length, drop, length-take, length-drop}
 use Rattle.formulas.proofs.Measures.{tree-room, leaf_measure, body_tree, one_made, body_room, later_tree}
 use Rattle.formulas.proofs.Measures.{later_room, two_made, body}
-use Prim.Native.Nat.{ℕ, ◌-◌, ◌<◌}
+use Prim.Native.Nat.{◌-◌}
 use Rattle.formulas.proofs.tree.+measured.Goals as goal
 
 pub operands_of-operands-requires : goal.operands_of-operands-requires

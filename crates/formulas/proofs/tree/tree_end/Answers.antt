@@ -1,9 +1,7 @@
 -- The nodes from `at` on decide where the tree ends, with `due` trees due; the measure is the bytes that are left.
 use native.Mathlib.Omega.{arith}
 use mathlib.Core.Path.{sym, ◌∙◌}
-use Prim.Native.Nat.{◌-◌}
-use lib.ListN.{length}
-use Rattle.formulas.proofs.Trees.{Seeking, seek_start, seek_end, seek_short, seek_bad, seek_on, operands-few}
+use Rattle.formulas.proofs.Trees.{seek_start, seek_end, seek_short, seek_bad, seek_on, operands-few}
 use Rattle.formulas.proofs.tree.tree_end.Goals as goal
 
 pub loop-due-init : goal.loop-due-init

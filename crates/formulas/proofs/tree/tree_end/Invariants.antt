@@ -1,8 +1,6 @@
-use native.Mathlib.Omega.{arith}
-use mathlib.Core.Path.{sym, ◌∙◌}
 use Prim.Native.Nat.{◌-◌}
 use lib.ListN.{length}
-use Rattle.formulas.proofs.Trees.{Seeking, seek_start, seek_end, seek_short, seek_bad, seek_on, operands-few}
+use Rattle.formulas.proofs.Trees.{Seeking}
 use Rattle.formulas.proofs.tree.tree_end.Given as goal
 
 abbrev pub invariant-loop-due : goal.invariant-loop-due

@@ -1,11 +1,8 @@
 -- The steps before step i fit, and those from it on decide; the measure is the steps that are left.
 use native.Mathlib.Omega.{arith}
 use mathlib.Core.Path.{sym, ◌∙◌}
-use Prim.Native.Nat.{◌-◌, ◌/◌}
-use lib.ListN.{length}
-use borrow.Author.Tests.{not-true, not-false}
 use Rattle.halves.proofs.Steps.{step_found}
-use Rattle.halves.proofs.Halves.{Walked, even_half, long_half, start_out, walked_start, walked_end, walked_stop, walked_on}
+use Rattle.halves.proofs.Halves.{even_half, long_half, start_out, walked_start, walked_end, walked_stop, walked_on}
 use Rattle.halves.proofs.half.is_half_run.Goals as goal
 
 pub returns-then-n-ne1 : goal.returns-then-n-ne1

@@ -1,9 +1,7 @@
 -- The steps before step i match; the measure is the steps of the left half that are left.
 use native.Mathlib.Omega.{arith}
 use mathlib.Core.Path.{sym, ◌∙◌}
-use Prim.Native.Nat.{◌-◌, ◌/◌}
-use lib.ListN.{length}
-use Rattle.joining.proofs.Joined.{labelled-here, Matching, match_begin, match_on, match_stop, match_end}
+use Rattle.joining.proofs.Joined.{labelled-here, match_begin, match_on, match_stop, match_end}
 use Rattle.joining.proofs.join.halves_match.Goals as goal
 
 pub loop-i-init : goal.loop-i-init

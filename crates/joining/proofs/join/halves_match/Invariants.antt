@@ -1,8 +1,6 @@
-use native.Mathlib.Omega.{arith}
-use mathlib.Core.Path.{sym, ◌∙◌}
 use Prim.Native.Nat.{◌-◌, ◌/◌}
 use lib.ListN.{length}
-use Rattle.joining.proofs.Joined.{labelled-here, Matching, match_begin, match_on, match_stop, match_end}
+use Rattle.joining.proofs.Joined.{Matching}
 use Rattle.joining.proofs.join.halves_match.Given as goal
 
 abbrev pub invariant-loop-i : goal.invariant-loop-i

@@ -1,9 +1,8 @@
 -- The two start states, then one joint step a turn; the measure is the steps that are left.
 use native.Mathlib.Omega.{arith}
 use mathlib.Core.Path.{sym, ◌∙◌}
-use Prim.Native.Nat.{◌-◌, ◌/◌}
-use lib.ListN.{length, length-set}
-use Rattle.joining.proofs.Joined.{labelled-here, Joining, join-length, write_start, write_kept, write_room, write_on, write_matched, write_end}
+use lib.ListN.{length-set}
+use Rattle.joining.proofs.Joined.{labelled-here, join-length, write_start, write_kept, write_room, write_on, write_matched, write_end}
 use Rattle.joining.proofs.join.write_run.Goals as goal
 
 pub bounds-left-0 : goal.bounds-left-0

@@ -1,8 +1,6 @@
-use native.Mathlib.Omega.{arith}
-use mathlib.Core.Path.{sym, ◌∙◌}
 use Prim.Native.Nat.{◌-◌, ◌/◌}
-use lib.ListN.{length, length-set}
-use Rattle.joining.proofs.Joined.{labelled-here, Joining, join-length, write_start, write_kept, write_room, write_on, write_matched, write_end}
+use lib.ListN.{length}
+use Rattle.joining.proofs.Joined.{Joining}
 use Rattle.joining.proofs.join.write_run.Given as goal
 
 abbrev pub invariant-loop-label : goal.invariant-loop-label

@@ -1,13 +1,9 @@
 -- The left rows of the state are tried one after the other; the measure is the bytes that are left.
 use native.Mathlib.Omega.{arith}
 use mathlib.Core.Path.{sym, ◌∙◌}
-use lib.ListN.{length}
-use borrow.Author.Tests.{not-true, not-false}
-use Rattle.labels.specs.Labels.{pairing}
 use Rattle.labels.proofs.Slices.{rest_fewer}
-use Rattle.tables.specs.Working.{moves_in}
-use Rattle.tables.proofs.Searching.{Searching, search_rows, search_end, search_hit, search_miss, leaving-moves}
-use Rattle.machines.proofs.Joints.{is_answered, answered, unanswered, no_handshake, search_decides}
+use Rattle.tables.proofs.Searching.{search_rows, search_end, search_hit, search_miss, leaving-moves}
+use Rattle.machines.proofs.Joints.{answered, unanswered, no_handshake, search_decides}
 use Rattle.machines.proofs.joint.is_handshake.Goals as goal
 
 pub returns-then-not-is_silent : goal.returns-then-not-is_silent

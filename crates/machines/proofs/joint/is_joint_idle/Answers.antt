@@ -1,6 +1,5 @@
 -- At each return the tests say which case of `is_joint_idle` holds.
 use mathlib.Core.Path.{sym, ◌∙◌}
-use borrow.Author.Tests.{not-true, not-false}
 use Rattle.machines.proofs.Joints.{other_label, left_moved, left-kept}
 use Rattle.machines.proofs.joint.is_joint_idle.Goals as goal
 

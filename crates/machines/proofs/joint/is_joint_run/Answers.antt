@@ -1,11 +1,8 @@
 -- The steps before step i are real, and those from it on decide; the measure is the steps that are left.
 use native.Mathlib.Omega.{arith}
 use mathlib.Core.Path.{sym, ◌∙◌}
-use Prim.Native.Nat.{◌-◌, ◌/◌}
-use lib.ListN.{length}
-use borrow.Author.Tests.{not-true, not-false}
 use Rattle.machines.proofs.Steps.{step_found}
-use Rattle.machines.proofs.Joints.{Walked, walked_start, left_out, right_out, walked_end, walked_stop, walked_on}
+use Rattle.machines.proofs.Joints.{walked_start, left_out, right_out, walked_end, walked_stop, walked_on}
 use Rattle.machines.proofs.joint.is_joint_run.Goals as goal
 
 pub bounds-left-0 : goal.bounds-left-0

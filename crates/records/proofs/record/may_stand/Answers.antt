@@ -1,9 +1,6 @@
 -- The kinds in front of the index are others.
-use Prim.Native.Nat.{◌-◌}
-use mathlib.Core.Path.{◌≡◌, refl, sym, ◌∙◌}
+use mathlib.Core.Path.{refl, sym, ◌∙◌}
 use native.Mathlib.Omega.{arith}
-use lib.ListN.{length, drop}
-use Rattle.records.specs.Records.{may_stand}
 use Rattle.records.proofs.Records.{kind_here, kind_later, kind_nowhere}
 use Rattle.records.proofs.record.may_stand.Goals as goal
 

@@ -1,9 +1,7 @@
 use Prim.Native.Nat.{◌-◌}
-use mathlib.Core.Path.{◌≡◌, refl, sym, ◌∙◌}
-use native.Mathlib.Omega.{arith}
+use mathlib.Core.Path.{◌≡◌}
 use lib.ListN.{length, drop}
 use Rattle.records.specs.Records.{may_stand}
-use Rattle.records.proofs.Records.{kind_here, kind_later, kind_nowhere}
 use Rattle.records.proofs.record.may_stand.Given as goal
 
 abbrev pub invariant-loop-i : goal.invariant-loop-i

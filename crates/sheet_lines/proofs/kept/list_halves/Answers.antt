@@ -1,10 +1,6 @@
 -- A loop over the splittings; the halves of the first i stand in the table.
-use Prim.Native.Nat.{◌-◌, ◌*◌, ◌≤◌}
-use mathlib.Core.Path.{◌≡◌, refl, sym, ◌∙◌}
+use mathlib.Core.Path.{refl, sym, ◌∙◌}
 use native.Mathlib.Omega.{arith}
-use lib.ListN.{length, take}
-use Rattle.casebook.specs.Reading.{case_of}
-use Rattle.sheet_lines.specs.Working.{HalvesAt}
 use Rattle.sheet_lines.proofs.Puts.{put-kept}
 use Rattle.sheet_lines.proofs.KeptTable.{listed-none, listed_more, listed-all, front_kept}
 use Rattle.sheet_lines.proofs.kept.list_halves.Goals as goal

@@ -1,11 +1,8 @@
 use Prim.Native.Nat.{◌-◌, ◌*◌, ◌≤◌}
-use mathlib.Core.Path.{◌≡◌, refl, sym, ◌∙◌}
-use native.Mathlib.Omega.{arith}
+use mathlib.Core.Path.{◌≡◌}
 use lib.ListN.{length, take}
 use Rattle.casebook.specs.Reading.{case_of}
 use Rattle.sheet_lines.specs.Working.{HalvesAt}
-use Rattle.sheet_lines.proofs.Puts.{put-kept}
-use Rattle.sheet_lines.proofs.KeptTable.{listed-none, listed_more, listed-all, front_kept}
 use Rattle.sheet_lines.proofs.kept.list_halves.Given as goal
 
 abbrev pub invariant-loop-i : goal.invariant-loop-i

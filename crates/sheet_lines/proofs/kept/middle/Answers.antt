@@ -1,5 +1,4 @@
 -- A loop that moves the cut; any place in the window will do.
-use Prim.Native.Nat.{◌-◌, ◌≤◌}
 use native.Mathlib.Omega.{arith}
 use Rattle.casebook.specs.Reading.{case_of}
 use Rattle.sheet_lines.proofs.KeptTable.{square_few}

@@ -1,7 +1,4 @@
 use Prim.Native.Nat.{◌-◌, ◌≤◌}
-use native.Mathlib.Omega.{arith}
-use Rattle.casebook.specs.Reading.{case_of}
-use Rattle.sheet_lines.proofs.KeptTable.{square_few}
 use Rattle.sheet_lines.proofs.kept.middle.Given as goal
 
 abbrev pub invariant-loop-low : goal.invariant-loop-low

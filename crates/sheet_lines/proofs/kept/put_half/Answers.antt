@@ -3,7 +3,7 @@ use Prim.Native.Nat.{◌+◌, ◌*◌, ◌/◌, ◌%◌}
 use native.Mathlib.Nat.{mod-lt}
 use native.Mathlib.Omega.{arith}
 use Rattle.sheet_lines.proofs.KeptQuotients.{half_put}
-use Rattle.labels.proofs.Slices.{copied_whole, copied_count}
+use Rattle.labels.proofs.Slices.{copied_whole}
 use Rattle.sheet_lines.proofs.kept.put_half.Goals as goal
 
 pub overflow_mul-from : goal.overflow_mul-from

@@ -4,7 +4,7 @@ use mathlib.Core.Path.{◌∙◌, ap}
 use lib.ListN.{set}
 use native.Mathlib.Omega.{arith}
 use Rattle.sheet_lines.proofs.Puts.{put-set, rest_copied}
-use Rattle.labels.proofs.Slices.{copied_whole, copied_count}
+use Rattle.labels.proofs.Slices.{copied_whole}
 use Rattle.sheet_lines.proofs.line.put_line.Goals as goal
 
 pub returns : goal.returns

@@ -1,8 +1,7 @@
 -- A loop over the last digit; the lines of the digits before it are written.
-use Prim.Native.Nat.{◌+◌, ◌-◌, ◌%◌, ◌≤◌}
+use Prim.Native.Nat.{◌+◌, ◌-◌, ◌%◌}
 use mathlib.Core.Path.{◌≡◌}
 use native.Mathlib.Omega.{arith}
-use Rattle.sheet_lines.specs.Working.{Filled, digit_line}
 use Rattle.sheet_lines.proofs.Filling.{kept, filled_none, filled_end}
 use Rattle.sheet_lines.proofs.TurnLaws.{tens_few, digits_none, digits_more, digits_stop}
 use Rattle.sheet_lines.proofs.line.write_digits.Goals as goal

@@ -1,9 +1,5 @@
 use Prim.Native.Nat.{◌+◌, ◌-◌, ◌%◌, ◌≤◌}
-use mathlib.Core.Path.{◌≡◌}
-use native.Mathlib.Omega.{arith}
 use Rattle.sheet_lines.specs.Working.{Filled, digit_line}
-use Rattle.sheet_lines.proofs.Filling.{kept, filled_none, filled_end}
-use Rattle.sheet_lines.proofs.TurnLaws.{tens_few, digits_none, digits_more, digits_stop}
 use Rattle.sheet_lines.proofs.line.write_digits.Given as goal
 
 -- the number of the next line is as far above the first one as its digit is

@@ -1,9 +1,6 @@
 -- A loop over tens; the lines of the numbers before i are written.
-use Prim.Native.Nat.{◌-◌}
-use mathlib.Core.Path.{◌≡◌, refl, ◌∙◌}
+use mathlib.Core.Path.{refl, ◌∙◌}
 use native.Mathlib.Omega.{arith}
-use lib.ListN.{length, take, drop}
-use Rattle.sheet_lines.specs.Working.{Filled, line_with}
 use Rattle.sheet_lines.proofs.Filling.{kept, filled_none, filled_end}
 use Rattle.sheet_lines.proofs.TurnLaws.{tens_of, tens_done, tens_full}
 use Rattle.sheet_lines.proofs.line.write_turn.Goals as goal

@@ -1,10 +1,7 @@
 use Prim.Native.Nat.{◌-◌}
-use mathlib.Core.Path.{◌≡◌, refl, ◌∙◌}
-use native.Mathlib.Omega.{arith}
+use mathlib.Core.Path.{◌≡◌}
 use lib.ListN.{length, take, drop}
 use Rattle.sheet_lines.specs.Working.{Filled, line_with}
-use Rattle.sheet_lines.proofs.Filling.{kept, filled_none, filled_end}
-use Rattle.sheet_lines.proofs.TurnLaws.{tens_of, tens_done, tens_full}
 use Rattle.sheet_lines.proofs.line.write_turn.Given as goal
 
 abbrev pub invariant-loop-i : goal.invariant-loop-i

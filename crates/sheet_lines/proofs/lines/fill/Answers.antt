@@ -1,12 +1,9 @@
 -- A loop over points; the lines before i are written.
-use Prim.Native.Nat.{◌+◌, ◌-◌, ◌<◌}
-use mathlib.Core.Path.{◌≡◌, refl, sym, ◌∙◌}
+use Prim.Native.Nat.{◌+◌, ◌<◌}
+use mathlib.Core.Path.{refl, sym, ◌∙◌}
 use native.Mathlib.Omega.{arith}
 use native.Mathlib.Nat.{mod-lt}
-use lib.ListN.{length}
 use Rattle.formulas.specs.Working.{backs_of}
-use Rattle.casebook.specs.Reading.{case_of}
-use Rattle.sheet_lines.specs.Working.{Filled, Scratch, numbered_line}
 use Rattle.sheet_lines.proofs.CaseLaws.{question_shown}
 use Rattle.sheet_lines.proofs.Filling.{kept, filled_none}
 use Rattle.sheet_lines.proofs.FillLaws.{point_within, until_within, lines-within, reached, next-within}

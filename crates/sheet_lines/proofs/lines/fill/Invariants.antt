@@ -1,15 +1,8 @@
-use Prim.Native.Nat.{◌+◌, ◌-◌, ◌<◌}
-use mathlib.Core.Path.{◌≡◌, refl, sym, ◌∙◌}
-use native.Mathlib.Omega.{arith}
-use native.Mathlib.Nat.{mod-lt}
+use Prim.Native.Nat.{◌-◌}
+use mathlib.Core.Path.{◌≡◌}
 use lib.ListN.{length}
-use Rattle.formulas.specs.Working.{backs_of}
 use Rattle.casebook.specs.Reading.{case_of}
 use Rattle.sheet_lines.specs.Working.{Filled, Scratch, numbered_line}
-use Rattle.sheet_lines.proofs.CaseLaws.{question_shown}
-use Rattle.sheet_lines.proofs.Filling.{kept, filled_none}
-use Rattle.sheet_lines.proofs.FillLaws.{point_within, until_within, lines-within, reached, next-within}
-use Rattle.sheet_lines.proofs.FillLaws.{point_full, point_done, sheet_full, sheet_small}
 use Rattle.sheet_lines.proofs.lines.fill.Given as goal
 
 abbrev pub invariant-loop-i : goal.invariant-loop-i

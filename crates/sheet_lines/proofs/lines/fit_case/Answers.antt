@@ -9,7 +9,6 @@ use Rattle.sheet_lines.proofs.SheetLines.{nothing-fits, nothing_output}
 use Rattle.sheet_lines.proofs.FillLaws.{sheet_small}
 use Rattle.sheet_lines.proofs.PartsLines.{points_are, points-few, numbered_log, lines_over, lines-due}
 use Rattle.sheet_lines.proofs.PartsLines.{due-within, none-asked, refused_count}
-use Rattle.hml.proofs.Clauses.{to_value_out_after}
 use Rattle.sheet_lines.proofs.lines.fit_case.Goals as goal
 
 pub overflow_add-total : goal.overflow_add-total

@@ -1,10 +1,8 @@
 -- A loop over the entries; the first i are 0.
-use Prim.Native.Nat.{◌-◌, ◌≤◌}
-use mathlib.Core.Path.{◌≡◌, ◌∙◌}
+use mathlib.Core.Path.{◌∙◌}
 use native.Mathlib.Omega.{arith}
-use lib.ListN.{length, length-set}
+use lib.ListN.{length-set}
 use Rattle.sheet_lines.proofs.PointLaws.{forgotten_none, forgotten_more, forgotten_all, forgotten_enough}
-use Rattle.sheet_lines.specs.Working.{Forgotten}
 use Rattle.sheet_lines.proofs.point.forget.Goals as goal
 
 pub loop-i-init : goal.loop-i-init

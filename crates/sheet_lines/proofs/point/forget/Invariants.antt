@@ -1,8 +1,6 @@
 use Prim.Native.Nat.{◌-◌, ◌≤◌}
-use mathlib.Core.Path.{◌≡◌, ◌∙◌}
-use native.Mathlib.Omega.{arith}
-use lib.ListN.{length, length-set}
-use Rattle.sheet_lines.proofs.PointLaws.{forgotten_none, forgotten_more, forgotten_all, forgotten_enough}
+use mathlib.Core.Path.{◌≡◌}
+use lib.ListN.{length}
 use Rattle.sheet_lines.specs.Working.{Forgotten}
 use Rattle.sheet_lines.proofs.point.forget.Given as goal
 

@@ -1,10 +1,8 @@
 -- A loop over turns; the lines of the splittings before n are written, and the entries for endings hold.
-use Prim.Native.Nat.{◌-◌}
 use mathlib.Core.Path.{refl, sym, ◌∙◌}
 use native.Mathlib.Omega.{arith}
 use native.Mathlib.Nat.{mod-lt}
 use Rattle.casebook.specs.Reading.{case_of}
-use Rattle.sheet_lines.specs.Working.{Filled, EndingsKnown, Scratch, ending_in, line_by}
 use Rattle.sheet_lines.proofs.Filling.{kept, filled_none, filled_end}
 use Rattle.sheet_lines.proofs.PointTurns.{ending-within, turn_known, turn_done, turn_full, scratch_kept}
 use Rattle.sheet_lines.proofs.point.write_numbers.Goals as goal

@@ -1,10 +1,8 @@
 -- The product of the ways of the steps before step i, capped; the measure is the steps that are left.
 use native.Mathlib.Omega.{arith}
 use mathlib.Core.Path.{sym, ◌∙◌}
-use Prim.Native.Nat.{◌-◌, ◌/◌, ◌≤◌}
-use lib.ListN.{length}
 use Rattle.machines.proofs.Steps.{step_found}
-use Rattle.splitting.proofs.Counts.{CountedTo, counted_start, counted_on, counted_small, counted_end, product_small}
+use Rattle.splitting.proofs.Counts.{counted_start, counted_on, counted_small, counted_end, product_small}
 use Rattle.splitting.proofs.count.count_splittings.Goals as goal
 
 pub loop-step-init : goal.loop-step-init

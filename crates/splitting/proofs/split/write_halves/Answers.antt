@@ -2,7 +2,7 @@
 use native.Mathlib.Omega.{arith}
 use mathlib.Core.Path.{sym, ◌∙◌}
 use lib.ListN.{length-set}
-use Rattle.splitting.proofs.Unrolling.{Unrolled, unrolled_start, unrolled_on, unrolled_left, unrolled_right, put-there, put_some, put-room, first-room}
+use Rattle.splitting.proofs.Unrolling.{unrolled_start, unrolled_on, unrolled_left, unrolled_right, put-there, put_some, put-room, first-room}
 use Rattle.hml.proofs.Clauses.{to_left_out_after_right_out_after}
 use Rattle.splitting.proofs.split.write_halves.Goals as goal
 

@@ -1,7 +1,4 @@
-use native.Mathlib.Omega.{arith}
-use mathlib.Core.Path.{sym, ◌∙◌}
-use lib.ListN.{length-set}
-use Rattle.splitting.proofs.Unrolling.{Unrolled, unrolled_start, unrolled_on, unrolled_left, unrolled_right, put-there, put_some, put-room, first-room}
+use Rattle.splitting.proofs.Unrolling.{Unrolled}
 use Rattle.splitting.proofs.split.write_halves.Given as goal
 
 abbrev pub invariant-loop-i : goal.invariant-loop-i

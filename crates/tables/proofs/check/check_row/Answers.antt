@@ -1,5 +1,4 @@
 -- At each return the tests say which case of `check_row` holds.
-use borrow.Author.Tests.{not-true, not-false}
 use Rattle.tables.proofs.Judging.{out_judged, first-judged, low_judged, new_judged, more-judged, ninth-judged}
 use Rattle.tables.proofs.Judging.{seen_range, seen_below, seen_from, unseen_from}
 use Rattle.tables.proofs.check.check_row.Goals as goal

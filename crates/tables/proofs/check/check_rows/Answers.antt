@@ -2,8 +2,7 @@
 -- left.
 use native.Mathlib.Omega.{arith}
 use mathlib.Core.Path.{sym, ◌∙◌}
-use Prim.Native.Nat.{◌-◌}
-use Rattle.tables.proofs.Judging.{Going, going_start, going_end, going_stopped, going_on}
+use Rattle.tables.proofs.Judging.{going_start, going_end, going_stopped, going_on}
 use Rattle.tables.proofs.check.check_rows.Goals as goal
 
 pub loop-i-init : goal.loop-i-init

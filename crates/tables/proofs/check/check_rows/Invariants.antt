@@ -1,7 +1,5 @@
-use native.Mathlib.Omega.{arith}
-use mathlib.Core.Path.{sym, ◌∙◌}
 use Prim.Native.Nat.{◌-◌}
-use Rattle.tables.proofs.Judging.{Going, going_start, going_end, going_stopped, going_on}
+use Rattle.tables.proofs.Judging.{Going}
 use Rattle.tables.proofs.check.check_rows.Given as goal
 
 abbrev pub invariant-loop-i : goal.invariant-loop-i

@@ -1,7 +1,6 @@
 -- Halving: before `low` the rows leave a lower state, from `high` on they do not; the measure is what is between.
 use native.Mathlib.Omega.{arith}
-use Prim.Native.Nat.{◌-◌}
-use Rattle.tables.proofs.Halving.{Halving, halving_start, halving_end, halving_up, halving_down}
+use Rattle.tables.proofs.Halving.{halving_start, halving_end, halving_up, halving_down}
 use Rattle.tables.proofs.leaving.rows_below.Goals as goal
 
 pub loop-low-init : goal.loop-low-init

@@ -1,6 +1,5 @@
-use native.Mathlib.Omega.{arith}
 use Prim.Native.Nat.{◌-◌}
-use Rattle.tables.proofs.Halving.{Halving, halving_start, halving_end, halving_up, halving_down}
+use Rattle.tables.proofs.Halving.{Halving}
 use Rattle.tables.proofs.leaving.rows_below.Given as goal
 
 abbrev pub invariant-loop-low : goal.invariant-loop-low

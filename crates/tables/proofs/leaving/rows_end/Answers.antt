@@ -1,10 +1,6 @@
 -- The rows from `start` up to `end` leave the state; the measure is the rows that are left.
 use native.Mathlib.Omega.{arith}
-use mathlib.Core.Path.{◌≡◌, sym, ◌∙◌}
-use Prim.Native.Nat.{◌-◌, ◌≤◌}
-use lib.ListN.{length}
-use Rattle.tables.specs.Tables.{rows_of}
-use Rattle.tables.specs.Working.{Leave}
+use mathlib.Core.Path.{sym, ◌∙◌}
 use Rattle.tables.proofs.Spans.{leave-start, leave_on, leave-all, leave_other}
 use Rattle.tables.proofs.leaving.rows_end.Goals as goal
 

@@ -1,10 +1,8 @@
-use native.Mathlib.Omega.{arith}
-use mathlib.Core.Path.{◌≡◌, sym, ◌∙◌}
-use Prim.Native.Nat.{◌-◌, ◌≤◌}
+use mathlib.Core.Path.{◌≡◌}
+use Prim.Native.Nat.{◌-◌}
 use lib.ListN.{length}
 use Rattle.tables.specs.Tables.{rows_of}
 use Rattle.tables.specs.Working.{Leave}
-use Rattle.tables.proofs.Spans.{leave-start, leave_on, leave-all, leave_other}
 use Rattle.tables.proofs.leaving.rows_end.Given as goal
 
 abbrev pub invariant-loop-end : goal.invariant-loop-end

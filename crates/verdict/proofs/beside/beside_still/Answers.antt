@@ -1,8 +1,7 @@
 -- The two start states, then one step a turn; the measure is the steps that are left.
 use native.Mathlib.Omega.{arith}
-use Prim.Native.Nat.{◌-◌}
 use lib.ListN.{length-set}
-use Rattle.verdict.proofs.Widening.{Widening, widen_start, widen_on, widen_end, widen_kept}
+use Rattle.verdict.proofs.Widening.{widen_start, widen_on, widen_end, widen_kept}
 use Rattle.verdict.proofs.beside.beside_still.Goals as goal
 
 pub bounds-run-1 : goal.bounds-run-1

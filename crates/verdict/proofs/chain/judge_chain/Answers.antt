@@ -1,12 +1,8 @@
 -- "Not" by "not" and step by step back, then true or false.
-use Prim.Native.Nat.{◌-◌}
 use native.Mathlib.Omega.{arith}
 use mathlib.Core.Path.{sym, ◌∙◌}
-use lib.ListN.{length}
-use borrow.Author.Tests.{not-true, not-false}
-use Rattle.labels.specs.declared.label.Labels.{Labels}
 use Rattle.verdict.specs.Working.{Tells}
-use Rattle.verdict.proofs.Chains.{Chain, chain_start, chain_room, chain_true, chain_false, chain_not}
+use Rattle.verdict.proofs.Chains.{chain_start, chain_room, chain_true, chain_false, chain_not}
 use Rattle.verdict.proofs.Chains.{chain_nowhere, chain_long, chain_back}
 use Rattle.verdict.proofs.chain.judge_chain.Goals as goal
 

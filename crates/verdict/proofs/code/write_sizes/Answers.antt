@@ -1,6 +1,6 @@
 -- After n turns the trees of the last n nodes have their sizes; the measure is the bytes before them.
 use native.Mathlib.Omega.{arith}
-use Rattle.verdict.proofs.Coding.{Sizing, sizing_start, sizing_count, sizing_end, sizing_room, sizing_fits}
+use Rattle.verdict.proofs.Coding.{sizing_start, sizing_count, sizing_end, sizing_room, sizing_fits}
 use Rattle.verdict.proofs.Coding.{sizing_on}
 use Rattle.hml.proofs.Clauses.{to_first_le_n_first_bound, to_sizes_forwards}
 use Rattle.verdict.proofs.code.write_sizes.Goals as goal

@@ -1,6 +1,4 @@
-use native.Mathlib.Omega.{arith}
-use Rattle.verdict.proofs.Coding.{Sizing, sizing_start, sizing_count, sizing_end, sizing_room, sizing_fits}
-use Rattle.verdict.proofs.Coding.{sizing_on}
+use Rattle.verdict.proofs.Coding.{Sizing}
 use Rattle.verdict.proofs.code.write_sizes.Given as goal
 
 abbrev pub invariant-loop-at : goal.invariant-loop-at

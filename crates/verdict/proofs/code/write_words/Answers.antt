@@ -1,7 +1,7 @@
 -- Each turn puts a word in place of a size; the measure is the nodes that are left.
 use native.Mathlib.Omega.{arith}
 use Prim.Native.Nat.{◌+◌}
-use Rattle.verdict.proofs.Coding.{Wording, wording_start, wording_room, wording_end, wording_fits, wording_on}
+use Rattle.verdict.proofs.Coding.{wording_start, wording_room, wording_end, wording_fits, wording_on}
 use Rattle.hml.proofs.Clauses.{to_operator_bound_below_bound}
 use Rattle.verdict.proofs.code.write_words.Goals as goal
 

@@ -1,9 +1,9 @@
 -- One row a turn; the measure is the rows that are left.
 use native.Mathlib.Omega.{arith}
-use Prim.Native.Nat.{ℕ, ◌-◌}
+use Prim.Native.Nat.{ℕ}
 use mathlib.Core.Path.{◌∙◌, sym, ap}
 use lib.ListN.{length, length-replicate, length-set}
-use Rattle.verdict.proofs.FilledGrids.{Filling, filling_start, filling_grid, filling_end, filling_fits}
+use Rattle.verdict.proofs.FilledGrids.{filling_start, filling_grid, filling_end, filling_fits}
 use Rattle.verdict.proofs.FilledGrids.{filling_on}
 use Rattle.verdict.proofs.grids.rows_by_state.Goals as goal
 

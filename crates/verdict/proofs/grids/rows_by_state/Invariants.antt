@@ -1,9 +1,5 @@
-use native.Mathlib.Omega.{arith}
-use Prim.Native.Nat.{ℕ, ◌-◌}
-use mathlib.Core.Path.{◌∙◌, sym, ap}
-use lib.ListN.{length, length-replicate, length-set}
-use Rattle.verdict.proofs.FilledGrids.{Filling, filling_start, filling_grid, filling_end, filling_fits}
-use Rattle.verdict.proofs.FilledGrids.{filling_on}
+use Prim.Native.Nat.{◌-◌}
+use Rattle.verdict.proofs.FilledGrids.{Filling}
 use Rattle.verdict.proofs.grids.rows_by_state.Given as goal
 
 abbrev pub invariant-loop-i : goal.invariant-loop-i

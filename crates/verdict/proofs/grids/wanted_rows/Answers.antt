@@ -1,6 +1,6 @@
 -- The rows are sought one by one.
 use native.Mathlib.Omega.{arith}
-use Rattle.verdict.proofs.TwoGrids.{Sought, sought_start, sought_on}
+use Rattle.verdict.proofs.TwoGrids.{sought_start, sought_on}
 use Rattle.verdict.proofs.grids.wanted_rows.Goals as goal
 
 pub loop-count-init : goal.loop-count-init

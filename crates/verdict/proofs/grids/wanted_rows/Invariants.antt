@@ -1,5 +1,4 @@
-use native.Mathlib.Omega.{arith}
-use Rattle.verdict.proofs.TwoGrids.{Sought, sought_start, sought_on}
+use Rattle.verdict.proofs.TwoGrids.{Sought}
 use Rattle.verdict.proofs.grids.wanted_rows.Given as goal
 
 abbrev pub invariant-loop-count : goal.invariant-loop-count

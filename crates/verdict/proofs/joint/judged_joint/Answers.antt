@@ -6,7 +6,7 @@ use lib.ListN.{length-take}
 use lib.Seq.{length-take-le}
 use Rattle.verdict.specs.Verdicts.{joint_verdict}
 use Rattle.verdict.proofs.Calls.{joint_call, joint-room, joint-held, joint_answer, front_copied, answer_refused}
-use Rattle.labels.proofs.Slices.{copied_whole, copied_count}
+use Rattle.labels.proofs.Slices.{copied_whole}
 use Rattle.verdict.proofs.joint.judged_joint.Goals as goal
 
 pub returns-in-Refused : goal.returns-in-Refused

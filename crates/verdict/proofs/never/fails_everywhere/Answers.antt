@@ -3,7 +3,7 @@ use native.Mathlib.Omega.{arith}
 use mathlib.Core.Path.{sym, ◌∙◌}
 use mathlib.Core.Bool.{false≢true}
 use Rattle.verdict.proofs.Operands.{some_node}
-use Rattle.verdict.proofs.Going.{Turning, turning_start, turning_on, turning_top, turning_bottom}
+use Rattle.verdict.proofs.Going.{turning_start, turning_on, turning_top, turning_bottom}
 use Rattle.verdict.proofs.never.fails_everywhere.Goals as goal
 
 pub loop-even-init : goal.loop-even-init

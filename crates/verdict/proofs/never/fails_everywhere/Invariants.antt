@@ -1,8 +1,4 @@
-use native.Mathlib.Omega.{arith}
-use mathlib.Core.Path.{sym, ◌∙◌}
-use mathlib.Core.Bool.{false≢true}
-use Rattle.verdict.proofs.Operands.{some_node}
-use Rattle.verdict.proofs.Going.{Turning, turning_start, turning_on, turning_top, turning_bottom}
+use Rattle.verdict.proofs.Going.{Turning}
 use Rattle.verdict.proofs.never.fails_everywhere.Given as goal
 
 abbrev pub invariant-loop-even : goal.invariant-loop-even

@@ -6,29 +6,24 @@
 -- What falls from call to call: the formula's nodes left, then the rows left; and what each function of the cycle may
 -- rely on.
 -- Moves of one side, tried one after the other, and the idle that an idle modality looks at.
-use Prim.Native.Nat.{ℕ}
 use native.Mathlib.Omega.{arith}
-use mathlib.Core.Path.{◌≡◌, refl, sym, ◌∙◌}
-use borrow.Author.Tests.{not-true, not-false}
-use Rattle.verdict.specs.Working.{left_in, right_in}
+use mathlib.Core.Path.{refl, sym, ◌∙◌}
 use Rattle.verdict.proofs.Operands as operands
 use Rattle.verdict.proofs.Going as going
 use mathlib.Core.Path.{refl, sym, ◌∙◌}
-use borrow.Author.Tests.{not-true, not-false, eqb-true, eqb-false}
+use borrow.Author.Tests.{eqb-true, eqb-false}
 use Rattle.machines.proofs.Buffers.{held-last}
 use Rattle.verdict.specs.Working.{Never, targets_of, grid_by}
 use Rattle.verdict.proofs.Ahead as ahead
 use Rattle.hml.specs.Labels.{positive}
 use Rattle.verdict.specs.Working.{targets_of, grid_by}
-use Prim.Native.Nat.{ℕ, ◌<◌, ◌+◌, ◌*◌}
-use Prim.Native.Nat.{ℕ, ◌-◌}
+use Prim.Native.Nat.{◌-◌}
 use mathlib.Core.Path.{refl, sym, ap, ◌∙◌}
 use lib.ListN.{get_or}
 use Rattle.machines.proofs.Buffers.{put_back, length-put, longer-run, held-longer}
 use Rattle.verdict.specs.Working.{judged}
 use Rattle.verdict.proofs.TwoGrids as two-grids
 use Rattle.verdict.proofs.Written as written
-use Rattle.verdict.proofs.search.+judging.Invariants.{K}
 use Rattle.verdict.proofs.search.+judging.Goals as goal
 
 pub holds-loop-word-init : goal.holds-loop-word-init

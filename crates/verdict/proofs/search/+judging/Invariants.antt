@@ -1,25 +1,9 @@
 use Prim.Native.Nat.{ℕ}
-use native.Mathlib.Omega.{arith}
-use mathlib.Core.Path.{◌≡◌, refl, sym, ◌∙◌}
-use borrow.Author.Tests.{not-true, not-false}
+use mathlib.Core.Path.{◌≡◌}
 use Rattle.verdict.specs.Working.{left_in, right_in}
-use Rattle.verdict.proofs.Operands as operands
 use Rattle.verdict.proofs.Going as going
-use mathlib.Core.Path.{refl, sym, ◌∙◌}
-use borrow.Author.Tests.{not-true, not-false, eqb-true, eqb-false}
-use Rattle.machines.proofs.Buffers.{held-last}
-use Rattle.verdict.specs.Working.{Never, targets_of, grid_by}
-use Rattle.verdict.proofs.Ahead as ahead
-use Rattle.hml.specs.Labels.{positive}
-use Rattle.verdict.specs.Working.{targets_of, grid_by}
-use Prim.Native.Nat.{ℕ, ◌<◌, ◌+◌, ◌*◌}
-use Prim.Native.Nat.{ℕ, ◌-◌}
-use mathlib.Core.Path.{refl, sym, ap, ◌∙◌}
-use lib.ListN.{get_or}
-use Rattle.machines.proofs.Buffers.{put_back, length-put, longer-run, held-longer}
-use Rattle.verdict.specs.Working.{judged}
-use Rattle.verdict.proofs.TwoGrids as two-grids
-use Rattle.verdict.proofs.Written as written
+use Prim.Native.Nat.{ℕ, ◌+◌, ◌*◌}
+use Prim.Native.Nat.{ℕ}
 use Rattle.verdict.proofs.search.+judging.Given as goal
 
 -- at one number of nodes there are fewer steps down than this: at most eight rows leave a state

@@ -1,6 +1,5 @@
 -- The right alone is the first way, if it is one.
 use mathlib.Core.Path.{sym, ◌∙◌}
-use borrow.Author.Tests.{not-true, not-false}
 use Rattle.ways.proofs.RowWays.{right-chosen, right_passed, no_right-chosen}
 use Rattle.ways.proofs.choose.nth_right_way.Goals as goal
 

@@ -1,6 +1,5 @@
 -- A joint idle has one way; else the left alone is the first, if it is one.
 use mathlib.Core.Path.{sym, ◌∙◌}
-use borrow.Author.Tests.{not-true, not-false}
 use Rattle.ways.proofs.RowWays.{idle-chosen, left-chosen, left_passed, no_left-chosen}
 use Rattle.ways.proofs.choose.nth_way.Goals as goal
 

@@ -1,12 +1,8 @@
 -- The rows of the left are tried one after the other; the measure is the bytes that are left.
 use native.Mathlib.Omega.{arith}
 use mathlib.Core.Path.{sym, ◌∙◌}
-use lib.ListN.{length}
-use borrow.Author.Tests.{not-true, not-false}
-use Rattle.labels.specs.Labels.{pairing}
 use Rattle.labels.proofs.Slices.{rest_fewer}
-use Rattle.tables.specs.Working.{moves_in}
-use Rattle.ways.proofs.RowWays.{Counting, counting_start, counting_miss, counting_hit, counting_end}
+use Rattle.ways.proofs.RowWays.{counting_start, counting_miss, counting_hit, counting_end}
 use Rattle.ways.proofs.RowWays.{counting_few, no_handshake_counted}
 use Rattle.ways.proofs.count.count_handshakes.Goals as goal
 

@@ -1,7 +1,6 @@
 -- At each return the tests say which case of `next_at` holds.
 use mathlib.Core.Path.{sym, ◌∙◌, ap}
 use native.Mathlib.Omega.{arith}
-use borrow.Author.Tests.{not-true, not-false}
 use Rattle.records.specs.Records.{fit_length}
 use Rattle.records.proofs.Records.{fit_some, short_header, other_kind, misfit, short_body, found}
 use Rattle.records.proofs.record.Cursor.next.Goals as goal
