@@ -1,3 +1,4 @@
+pub mod Clauses
 pub mod Puts
 pub mod DecimalLaws
 pub mod DecimalPuts

@@ -12,7 +12,7 @@ use labels::label::{Label, Labels};
 
 // The nodes of the quotient of the first tree of f by the run in the first len bytes, or limit + 1 if they are more
 // than the limit.
-#[cycle(count_disjunct_count_disjuncts_count_forward_count_modal_count_tree)]
+#[cycle(counting)]
 pub(crate) fn count_tree(
     labels: Labels,
     table: &[u8],
@@ -54,7 +54,7 @@ pub(crate) fn count_tree(
 }
 
 // The same for a modality.
-#[cycle(count_disjunct_count_disjuncts_count_forward_count_modal_count_tree)]
+#[cycle(counting)]
 fn count_modal(
     labels: Labels,
     table: &[u8],
@@ -86,7 +86,7 @@ fn count_modal(
 }
 
 // The same for a forward modality.
-#[cycle(count_disjunct_count_disjuncts_count_forward_count_modal_count_tree)]
+#[cycle(counting)]
 fn count_forward(
     labels: Labels,
     table: &[u8],
@@ -125,7 +125,7 @@ fn count_forward(
 }
 
 // The nodes of disjuncts joined by "or".
-#[cycle(count_disjunct_count_disjuncts_count_forward_count_modal_count_tree)]
+#[cycle(counting)]
 fn count_disjuncts(
     labels: Labels,
     table: &[u8],
@@ -168,7 +168,7 @@ fn count_disjuncts(
 
 // The nodes of the first disjunct: its own, and those of the quotient by the run with one step more. The buffer is as
 // before when this returns.
-#[cycle(count_disjunct_count_disjuncts_count_forward_count_modal_count_tree)]
+#[cycle(counting)]
 fn count_disjunct(
     labels: Labels,
     table: &[u8],

@@ -12,7 +12,7 @@ use formulas::node::{is_forward, is_modality};
 use labels::label::{Label, Labels};
 
 // Writes the quotient of the first tree of f by the run in the first len bytes. Gives how many bytes it has.
-#[cycle(write_disjunct_write_disjuncts_write_forward_write_modal_write_tree)]
+#[cycle(writing)]
 pub(crate) fn write_tree(
     labels: Labels,
     table: &[u8],
@@ -52,7 +52,7 @@ pub(crate) fn write_tree(
 }
 
 // The same for a modality.
-#[cycle(write_disjunct_write_disjuncts_write_forward_write_modal_write_tree)]
+#[cycle(writing)]
 fn write_modal(
     labels: Labels,
     table: &[u8],
@@ -92,7 +92,7 @@ fn write_modal(
 }
 
 // The same for a forward modality.
-#[cycle(write_disjunct_write_disjuncts_write_forward_write_modal_write_tree)]
+#[cycle(writing)]
 fn write_forward(
     labels: Labels,
     table: &[u8],
@@ -134,7 +134,7 @@ fn write_forward(
 }
 
 // Writes disjuncts joined by "or" to the right: each after the one before it, in the rest of the output.
-#[cycle(write_disjunct_write_disjuncts_write_forward_write_modal_write_tree)]
+#[cycle(writing)]
 fn write_disjuncts(
     labels: Labels,
     table: &[u8],
@@ -177,7 +177,7 @@ fn write_disjuncts(
 
 // Writes the first disjunct: its node, then the quotient by the run with one step more. The buffer is as before when
 // this returns.
-#[cycle(write_disjunct_write_disjuncts_write_forward_write_modal_write_tree)]
+#[cycle(writing)]
 fn write_disjunct(
     labels: Labels,
     table: &[u8],

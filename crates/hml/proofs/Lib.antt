@@ -29,3 +29,4 @@ pub mod Past
 pub mod Spelling
 -- the published case that stops an edit which no theorem here stops
 pub mod Cases
+pub mod Clauses

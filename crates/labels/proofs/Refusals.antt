@@ -59,9 +59,14 @@ module _ {A B : Type 0} where
   judged_iff f g (accepts x) = accepts (f x)
   judged_iff f g (rejects k) = rejects (λ y. k (g y))
 
+  -- a check of one part judges both where the other part is so
+  beside : {d : Check} → A → Judges B d → Judges (A × B) d
+  beside x (accepts y) = accepts (x, y)
+  beside x (rejects k) = rejects (λ t. k t.1)
+
   -- one check, then another, which may rest on the first
   pub judged-next : {c d : Check} → Judges A c → (A → Judges B d) → Judges (A × B) (then_of c d)
-  judged-next (accepts x) f = elim (f x) [ accepts y ↦ accepts (x, y) | rejects k ↦ rejects (λ t. k t.1) ]
+  judged-next (accepts x) f = beside x (f x)
   judged-next (rejects k) f = rejects (λ t. k t.0)
 
   pub judged_then : {c d : Check} → Judges A c → Judges B d → Judges (A × B) (then_of c d)

@@ -1,5 +1,5 @@
 -- Parts of slices, as the goals of proofs have them.
-use Prim.Native.Nat.{ℕ, suc, ◌+◌, ◌-◌, ◌≤◌, ◌<◌}
+use Prim.Native.Nat.{ℕ, suc, ◌+◌, ◌-◌, ◌≤◌, ◌<◌, min}
 use mathlib.Core.Path.{◌≡◌, refl, ap, ◌∙◌}
 use mathlib.Core.List.{List, [], ◌∷◌, ◌++◌, append_assoc}
 use native.Mathlib.Omega.{arith}
@@ -49,3 +49,11 @@ written_behind b d xs n e h =
 -- bytes that were copied to the front of others
 pub copied : (h xs ys : List ℕ) → xs ≡ take (length h) h ++ ys → take (length h) xs ≡ h
 copied h xs ys e = rw (e, take_all (length h) h (omega arith)) (take_at h ys (length h) refl)
+
+-- what `copy` says where there is room for all of its bytes
+pub copied_count : (xs ys : List ℕ) (n : ℕ) → length xs ≤ length ys → n ≡ min (length xs) (length ys) → n ≡ length xs
+copied_count xs ys n h c = omega (arith, c)
+
+pub copied_whole : (xs ys zs : List ℕ) (n : ℕ) → length xs ≤ length ys → n ≡ min (length xs) (length ys)
+    → zs ≡ take n xs ++ drop n ys → zs ≡ take (length xs) xs ++ drop (length xs) ys
+copied_whole xs ys zs n h c e = e ∙ ap (λ i. take i xs ++ drop i ys) (copied_count xs ys n h c)

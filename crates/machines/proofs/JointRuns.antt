@@ -91,7 +91,7 @@ module _ (P : Pairing) (L R : System ℕ) where
       → Decides (Fit (beside P L R) u c v) (is_real_step P L R u c v)
   unfolding is_real
   is_real_decides fl fr (p, q) c (p', q') =
-      rw (← or_assoc (is_right_alone P L R p q c p' q'), ← or_assoc (is_left_alone P L R p q c p' q')) (decided_iff
+      rw (← or_assoc (is_right_alone P L R p q c p' q'), ← or_assoc (is_left_alone P L R p q c p' q')) (decided_iff {A = ((c, (p', q')) ∈ beside P L R (p, q)) ⊎ ((c ≡ 255) × (◌≡◌ {A = ℕ × ℕ} (p', q') (p, q)))}
       (λ s. elim s [ inl i ↦ inr (beside_free fl fr (p, q) c (p', q') i, i) | inr t ↦ inl t ])
       (λ s. elim s [ inl t ↦ inr t | inr t ↦ inl t.1 ])
       (decided_or (moves_decided p q c p' q') (idle_decided p q c p' q')))

@@ -41,7 +41,7 @@ use labels::label::{Label, Labels, Partner};
 // Does the tree that the formula's last `nodes` nodes begin with hold on the run in the first len bytes? "And" and "or"
 // stop as soon as they can, and go on with their second operand here, as "not" does with its only one, and a back
 // modality on the shorter run.
-#[cycle(ahead_forward_holds_judge_operand_stay_try_both_try_handshakes_try_left_try_moves_try_partner_try_right_try_rows)]
+#[cycle(judging)]
 pub(crate) fn holds(
     labels: Labels,
     grids: &[u8; 2176],
@@ -88,7 +88,7 @@ pub(crate) fn holds(
 }
 
 // The same for an operand: true, false and the forward modalities need no loop.
-#[cycle(ahead_forward_holds_judge_operand_stay_try_both_try_handshakes_try_left_try_moves_try_partner_try_right_try_rows)]
+#[cycle(judging)]
 fn operand(
     labels: Labels,
     grids: &[u8; 2176],
@@ -117,7 +117,7 @@ fn operand(
 }
 
 // The same for true, false and the forward modalities alone.
-#[cycle(ahead_forward_holds_judge_operand_stay_try_both_try_handshakes_try_left_try_moves_try_partner_try_right_try_rows)]
+#[cycle(judging)]
 fn judge(
     labels: Labels,
     grids: &[u8; 2176],
@@ -144,7 +144,7 @@ fn judge(
 }
 
 // The same for a forward modality.
-#[cycle(ahead_forward_holds_judge_operand_stay_try_both_try_handshakes_try_left_try_moves_try_partner_try_right_try_rows)]
+#[cycle(judging)]
 fn ahead(
     labels: Labels,
     grids: &[u8; 2176],
@@ -176,7 +176,7 @@ fn ahead(
 }
 
 // Does the tree hold after one of the real steps of this label: the left alone, the right alone, or a handshake?
-#[cycle(ahead_forward_holds_judge_operand_stay_try_both_try_handshakes_try_left_try_moves_try_partner_try_right_try_rows)]
+#[cycle(judging)]
 fn forward(
     labels: Labels,
     grids: &[u8; 2176],
@@ -210,7 +210,7 @@ fn forward(
 }
 
 // Does it hold after one of the left's steps alone of this label?
-#[cycle(ahead_forward_holds_judge_operand_stay_try_both_try_handshakes_try_left_try_moves_try_partner_try_right_try_rows)]
+#[cycle(judging)]
 fn try_left(
     labels: Labels,
     grids: &[u8; 2176],
@@ -240,7 +240,7 @@ fn try_left(
 }
 
 // Does it hold after one of the right's steps alone of this label?
-#[cycle(ahead_forward_holds_judge_operand_stay_try_both_try_handshakes_try_left_try_moves_try_partner_try_right_try_rows)]
+#[cycle(judging)]
 fn try_right(
     labels: Labels,
     grids: &[u8; 2176],
@@ -270,7 +270,7 @@ fn try_right(
 }
 
 // Does it hold after one of the handshakes from the last states?
-#[cycle(ahead_forward_holds_judge_operand_stay_try_both_try_handshakes_try_left_try_moves_try_partner_try_right_try_rows)]
+#[cycle(judging)]
 fn try_both(
     labels: Labels,
     grids: &[u8; 2176],
@@ -293,7 +293,7 @@ fn try_both(
 }
 
 // Does it hold after one of the handshakes of these rows of the left?
-#[cycle(ahead_forward_holds_judge_operand_stay_try_both_try_handshakes_try_left_try_moves_try_partner_try_right_try_rows)]
+#[cycle(judging)]
 fn try_handshakes(
     labels: Labels,
     grids: &[u8; 2176],
@@ -332,7 +332,7 @@ fn try_handshakes(
 }
 
 // Does it hold after one of the handshakes of this move of the left?
-#[cycle(ahead_forward_holds_judge_operand_stay_try_both_try_handshakes_try_left_try_moves_try_partner_try_right_try_rows)]
+#[cycle(judging)]
 fn try_partner(
     labels: Labels,
     grids: &[u8; 2176],
@@ -369,7 +369,7 @@ fn try_partner(
 
 // Does it hold after one of the steps of a trial? What they have in common is written once, and only if there is one.
 // The buffer is as before when this returns.
-#[cycle(ahead_forward_holds_judge_operand_stay_try_both_try_handshakes_try_left_try_moves_try_partner_try_right_try_rows)]
+#[cycle(judging)]
 fn try_moves(
     labels: Labels,
     grids: &[u8; 2176],
@@ -420,7 +420,7 @@ fn try_moves(
 
 // Does it hold after one of those moves of these rows that have the wanted label, as the first one has? All of the step
 // but the mover's state stands behind the run; that one is written at `place`.
-#[cycle(ahead_forward_holds_judge_operand_stay_try_both_try_handshakes_try_left_try_moves_try_partner_try_right_try_rows)]
+#[cycle(judging)]
 fn try_rows(
     labels: Labels,
     grids: &[u8; 2176],
@@ -462,7 +462,7 @@ fn try_rows(
 }
 
 // Does it hold on the run with an idle more? The buffer is as before when this returns.
-#[cycle(ahead_forward_holds_judge_operand_stay_try_both_try_handshakes_try_left_try_moves_try_partner_try_right_try_rows)]
+#[cycle(judging)]
 fn stay(
     labels: Labels,
     grids: &[u8; 2176],

@@ -1,6 +1,10 @@
--- The measure is the bytes that are left.
-use Rattle.std.proofs.Common.{length, ◌-◌}
+-- Both are equally long; the measure is the bytes that are left.
+use Prim.Native.Nat.{◌-◌, ◌≤◌}
+use lib.ListN.{length}
 use Rattle.cases.proofs.show.same.Given as goal
+
+abbrev pub invariant-loop-i : goal.invariant-loop-i
+invariant-loop-i l = l.i ≤ length l.a
 
 abbrev pub decreases-loop-i : goal.decreases-loop-i
 decreases-loop-i l = length l.a - l.i

@@ -1,6 +1,10 @@
 -- The measure is the bytes that are left.
-use Rattle.std.proofs.Common.{length, ◌-◌}
+use Prim.Native.Nat.{◌-◌, ◌≤◌}
+use lib.ListN.{length}
 use Rattle.cases.proofs.show.show_bytes.Given as goal
+
+abbrev pub invariant-loop-i : goal.invariant-loop-i
+invariant-loop-i g l = l.i ≤ length l.bytes
 
 abbrev pub decreases-loop-i : goal.decreases-loop-i
 decreases-loop-i g l = length l.bytes - l.i

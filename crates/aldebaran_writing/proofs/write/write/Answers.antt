@@ -1,0 +1,65 @@
+-- The checks, the text in a buffer of its own, its copy.
+use mathlib.Core.Path.{sym}
+use native.Mathlib.Omega.{arith}
+use lib.ListN.{length-take}
+use lib.Seq.{length-take-le}
+use Rattle.tables.proofs.SoundTables.{sound_table}
+use Rattle.aldebaran_form.specs.Forms.{fifteen}
+use Rattle.aldebaran_writing.proofs.TextLengths.{text_short}
+use Rattle.aldebaran_writing.proofs.TextWriting.{table_judged, refused_table, refused_first, refused_room}
+use Rattle.aldebaran_writing.proofs.TextWriting.{text-given}
+use Rattle.aldebaran_writing.proofs.TextWriting.{buffer_kept, text_copied}
+use Rattle.labels.proofs.Slices.{copied_whole, copied_count}
+use Rattle.hml.proofs.Clauses.{to_value_out_after}
+use Rattle.aldebaran_writing.proofs.write.write.Goals as goal
+
+pub returns-in-Refused : goal.returns-in-Refused
+returns-in-Refused c = to_value_out_after (refused_table c.args.table.now c.args.first _ _
+    (table_judged _ _ _ _ c.of_pairs.ensures c.check_table.ensures c.in-Refused.is))
+
+pub bounds-table-0 : goal.bounds-table-0
+bounds-table-0 c = let sound = table_judged _ _ _ _ c.of_pairs.ensures c.check_table.ensures
+    c.in-Sound.is in
+    omega (arith, (sound_table _ _ sound).fits)
+
+pub overflow_cast-table : goal.overflow_cast-table
+overflow_cast-table c = omega (arith, c.shared_slice_known-2-1.given 0)
+
+pub returns-then-table-first : goal.returns-then-table-first
+returns-then-table-first c = let sound = table_judged _ _ _ _ c.of_pairs.ensures c.check_table.ensures
+    c.in-Sound.is in
+    to_value_out_after (refused_first c.args.table.now c.args.first _ sound (omega arith))
+
+pub put_text-len-requires : goal.put_text-len-requires
+put_text-len-requires c = let sound = table_judged _ _ _ _ c.of_pairs.ensures c.check_table.ensures
+    c.in-Sound.is in
+    (sound_table fifteen _ sound, omega arith)
+
+pub returns-then-out-len : goal.returns-then-out-len
+returns-then-out-len c = let sound = table_judged _ _ _ _ c.of_pairs.ensures c.check_table.ensures
+    c.in-Sound.is in
+    to_value_out_after (refused_room c.args.table.now c.args.first _ sound (omega arith)
+    (omega (arith, c.put_text-len.ensures.value)))
+
+pub slice_bounds-text-end : goal.slice_bounds-text-end
+slice_bounds-text-end c = let sound = table_judged _ _ _ _ c.of_pairs.ensures c.check_table.ensures
+    c.in-Sound.is in
+    let short = text_short c.args.table.now c.args.first sound (omega arith) in
+    omega (arith, buffer_kept _ _ c.put_text-len.ensures.text_after, c.put_text-len.ensures.value, short)
+
+pub slice_bounds-copy-end : goal.slice_bounds-copy-end
+slice_bounds-copy-end c = let sound = table_judged _ _ _ _ c.of_pairs.ensures c.check_table.ensures
+    c.in-Sound.is in
+    let short = text_short c.args.table.now c.args.first sound (omega arith) in
+    let kept = buffer_kept _ _ c.put_text-len.ensures.text_after in
+    sym (length-take-le _ _ (omega (arith, kept, c.put_text-len.ensures.value, short)))
+
+pub returns : goal.returns
+returns c = let sound = table_judged _ _ _ _ c.of_pairs.ensures c.check_table.ensures
+    c.in-Sound.is in
+    let short = text_short c.args.table.now c.args.first sound (omega (arith, c.if-table-first.false)) in
+    let kept = buffer_kept _ _ c.put_text-len.ensures.text_after in
+    to_value_out_after (text-given c.args.table.now c.args.first _ sound (omega (arith, c.if-table-first.false)) _ _ c.put_text-len.ensures.value
+    (omega arith)
+    (text_copied _ _ _ _ _ _ (omega (arith, short, kept)) c.put_text-len.ensures.value c.put_text-len.ensures.text_after
+    (copied_whole _ _ _ _ (simp length-take (omega arith)) c.copy.ensures.count c.copy.ensures.copied)))

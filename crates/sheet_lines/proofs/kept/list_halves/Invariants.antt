@@ -1,0 +1,16 @@
+use Prim.Native.Nat.{◌-◌, ◌*◌, ◌≤◌}
+use mathlib.Core.Path.{◌≡◌, refl, sym, ◌∙◌}
+use native.Mathlib.Omega.{arith}
+use lib.ListN.{length, take}
+use Rattle.casebook.specs.Reading.{case_of}
+use Rattle.sheet_lines.specs.Working.{HalvesAt}
+use Rattle.sheet_lines.proofs.Puts.{put-kept}
+use Rattle.sheet_lines.proofs.KeptTable.{listed-none, listed_more, listed-all, front_kept}
+use Rattle.sheet_lines.proofs.kept.list_halves.Given as goal
+
+abbrev pub invariant-loop-i : goal.invariant-loop-i
+invariant-loop-i l = HalvesAt (case_of l.casebook l.parts) l.halves l.first l.i × (take (401 * l.first) l.halves ≡ take (401 * l.first) l.initial.halves)
+    × (length l.halves ≡ 205312) × (l.i ≤ l.n)
+
+abbrev pub decreases-loop-i : goal.decreases-loop-i
+decreases-loop-i l = l.n - l.i

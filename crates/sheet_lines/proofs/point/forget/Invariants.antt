@@ -1,0 +1,13 @@
+use Prim.Native.Nat.{◌-◌, ◌≤◌}
+use mathlib.Core.Path.{◌≡◌, ◌∙◌}
+use native.Mathlib.Omega.{arith}
+use lib.ListN.{length, length-set}
+use Rattle.sheet_lines.proofs.PointLaws.{forgotten_none, forgotten_more, forgotten_all, forgotten_enough}
+use Rattle.sheet_lines.specs.Working.{Forgotten}
+use Rattle.sheet_lines.proofs.point.forget.Given as goal
+
+abbrev pub invariant-loop-i : goal.invariant-loop-i
+invariant-loop-i l = Forgotten l.ends l.i × (length l.ends ≡ 8192) × (l.i ≤ l.count)
+
+abbrev pub decreases-loop-i : goal.decreases-loop-i
+decreases-loop-i l = l.count - l.i

@@ -1,0 +1,17 @@
+use Prim.Native.Nat.{◌-◌}
+use mathlib.Core.Path.{refl, sym, ◌∙◌}
+use native.Mathlib.Omega.{arith}
+use native.Mathlib.Nat.{mod-lt}
+use Rattle.casebook.specs.Reading.{case_of}
+use Rattle.sheet_lines.specs.Working.{Filled, EndingsKnown, Scratch, ending_in, line_by}
+use Rattle.sheet_lines.proofs.Filling.{kept, filled_none, filled_end}
+use Rattle.sheet_lines.proofs.PointTurns.{ending-within, turn_known, turn_done, turn_full, scratch_kept}
+use Rattle.sheet_lines.proofs.point.write_numbers.Given as goal
+
+abbrev pub invariant-loop-n : goal.invariant-loop-n
+invariant-loop-n l = Filled (line_by (case_of l.casebook l.window) l.point) l.initial.out l.at l.number l.until l.out l.to l.n
+    × EndingsKnown (ending_in (case_of l.casebook l.window) l.point.letter) l.point.ways l.froms l.ends l.out l.to
+    × Scratch l.froms l.ends l.text l.line
+
+abbrev pub decreases-loop-n : goal.decreases-loop-n
+decreases-loop-n l = l.until - l.n

@@ -1,0 +1,20 @@
+-- A refused part decides; else the number of splittings.
+use mathlib.Core.Path.{sym, ◌∙◌}
+use Rattle.splitting.proofs.LogRuns.{sound_ready}
+use Rattle.splitting.proofs.SplitCalls.{log_refused, too_many, few_enough}
+use Rattle.splitting.proofs.count.count.Goals as goal
+
+pub returns-in-Refused : goal.returns-in-Refused
+returns-in-Refused c = log_refused _ _ _ _ _ (sym c.check_log.ensures ∙ c.in-Refused.is)
+
+pub count_splittings-splittings-requires : goal.count_splittings-splittings-requires
+count_splittings-splittings-requires c = sound_ready _ _ _ _ (sym c.check_log.ensures ∙ c.in-Sound.is)
+
+pub returns-then-splittings-gt65535 : goal.returns-then-splittings-gt65535
+returns-then-splittings-gt65535 c = too_many _ _ _ _ (sym c.check_log.ensures
+    ∙ c.in-Sound.is) _ c.count_splittings-splittings.ensures c.if-splittings-gt65535.true
+
+pub returns : goal.returns
+returns c = few_enough _ _ _ _
+    (sym c.check_log.ensures ∙ c.in-Sound.is) _
+    c.count_splittings-splittings.ensures c.if-splittings-gt65535.false

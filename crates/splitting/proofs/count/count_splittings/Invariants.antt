@@ -1,0 +1,13 @@
+use native.Mathlib.Omega.{arith}
+use mathlib.Core.Path.{sym, ◌∙◌}
+use Prim.Native.Nat.{◌-◌, ◌/◌, ◌≤◌}
+use lib.ListN.{length}
+use Rattle.machines.proofs.Steps.{step_found}
+use Rattle.splitting.proofs.Counts.{CountedTo, counted_start, counted_on, counted_small, counted_end, product_small}
+use Rattle.splitting.proofs.count.count_splittings.Given as goal
+
+abbrev pub invariant-loop-step : goal.invariant-loop-step
+invariant-loop-step l = (l.i ≤ length l.run / 3) × CountedTo l.labels l.left l.right l.run l.i l.splittings
+
+abbrev pub decreases-loop-step : goal.decreases-loop-step
+decreases-loop-step l = length l.run / 3 - l.i

@@ -1,0 +1,12 @@
+-- A connective, or a back modality.
+use mathlib.Core.Path.{sym, ◌∙◌}
+use Rattle.verdict.specs.Working.{goes_on}
+use Rattle.verdict.proofs.back.goes_on.Goals as goal
+
+pub returns-then-is_connective : goal.returns-then-is_connective
+unfolding goes_on
+returns-then-is_connective c = rw (sym c.is_connective.ensures ∙ c.if-is_connective.true)
+
+pub returns : goal.returns
+unfolding goes_on
+returns c = rw (sym c.is_connective.ensures ∙ c.if-is_connective.false) c.is_back.ensures

@@ -1,0 +1,10 @@
+use native.Mathlib.Omega.{arith}
+use Prim.Native.Nat.{◌+◌}
+use Rattle.verdict.proofs.Coding.{Wording, wording_start, wording_room, wording_end, wording_fits, wording_on}
+use Rattle.verdict.proofs.code.write_words.Given as goal
+
+abbrev pub invariant-loop-n : goal.invariant-loop-n
+invariant-loop-n l = Wording l.f l.code l.n l.at
+
+abbrev pub decreases-loop-n : goal.decreases-loop-n
+decreases-loop-n l = l.n
