@@ -1,5 +1,5 @@
 //! What the programs `crates/cases`, `crates/ground_cases` and `crates/sheet` are given and must print, by this
-//! implementation: the files that `rt check` runs them with. Of the programs' sources only the list of cases and the
+//! implementation: the files that `rt ci` runs them with. Of the programs' sources only the list of cases and the
 //! form of trials and lines is shared.
 
 mod cases;
