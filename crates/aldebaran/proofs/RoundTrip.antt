@@ -236,12 +236,12 @@ form_answer text g out p e h =
 
 -- Whatever bytes are given as the table: if its text was written, the output's first bytes are read as that table and
 -- first state. They are as many as the answer says, and are read into each output that is long enough.
-pub written-and_read : (t : List ℕ) (first : ℕ) (out : List ℕ) (n : ℕ)
+pub written_and_read : (t : List ℕ) (first : ℕ) (out : List ℕ) (n : ℕ)
     → write_of t first (length out) ≡ writing.Written n → (out2 : List ℕ) → length t ≤ length out2
     → (read_of (take n (text_output t first out)) (length out2) ≡ read.Table (length t) first)
     × (take (length t) (table_output (take n (text_output t first out)) out2) ≡ t)
 unfolding form_for
-written-and_read t first out n e out2 h =
+written_and_read t first out n e out2 h =
     let (sound, below, front) = text_answer_lem t first out n e in
     let s = sound_table fifteen t sound in
     let again = table_again t s first in
@@ -372,10 +372,10 @@ again_written text t first out w h =
 
 -- A text that is read, and written again from its table and first state: 7,696 bytes are enough, and what is written
 -- into an output that is long enough says the same header and the same rows, in our order.
-pub read_and-written : (text out : List ℕ) (n first : ℕ) → read_of text (length out) ≡ read.Table n first
+pub read_and_written : (text out : List ℕ) (n first : ℕ) → read_of text (length out) ≡ read.Table n first
     → (length (text_of (take n (table_output text out)) first) ≤ 7696)
     × ((out2 : List ℕ) → length (text_of (take n (table_output text out)) first) ≤ length out2
     → WrittenAgain text (take n (table_output text out)) first out2)
-read_and-written text out n first e =
+read_and_written text out n first e =
     let w = read_table text out n first e in
     (text_short _ first w.sound w.below, λ out2 h. again_written text _ first out2 w h)

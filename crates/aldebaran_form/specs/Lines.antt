@@ -1,6 +1,6 @@
 -- Reading a line of the form from left to right: document 02, 1/12. What lines are of the form, and what they say, is
 -- `header_line` and `row_line` (Forms); this agrees with them (`header-written` and `header_read`, `line-written` and
--- `Line-read`, proofs/WrittenLines).
+-- `line_read`, proofs/WrittenLines).
 use Rattle.std.specs.Prelude.{ℕ, zero, suc, Bool, true, false, cond, ◌&&◌, ◌||◌, not, List, [], ◌∷◌, length, get_or, drop, eqb, leb}
 use Rattle.std.proofs.Math.Option.{Option, none, some}
 use Rattle.hml.specs.Lists.{guard}

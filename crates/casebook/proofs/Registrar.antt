@@ -22,14 +22,14 @@ use Rattle.casebook.proofs.RoundTrip.{ReadsTo, read_sound, read_written, written
 
 -- A casebook that was read, written again from its parts. Into an output of its length or more go its own bytes, and
 -- "lent bytes past it keep theirs". A shorter output is refused, 18, and "every lent byte keeps its value".
-pub filed_and-returned : (s : List ℕ) → Bytes s → (p : Parts) → read_of s ≡ reading.Casebook p → (out : List ℕ)
+pub filed_and_returned : (s : List ℕ) → Bytes s → (p : Parts) → read_of s ≡ reading.Casebook p → (out : List ℕ)
     → (length s ≤ length out
     → (write_of (case_of s p) (length out) ≡ writing.Written (length s))
     × (written_of (case_of s p) out ≡ s ++ drop (length s) out))
     × (length out < length s
     → (write_of (case_of s p) (length out) ≡ writing.Refused OutputTooShort) × (written_of (case_of s p) out ≡ out))
 unfolding write_of written_of check_write first_of in_front
-filed_and-returned s bytes p e out =
+filed_and_returned s bytes p e out =
     let sound = read_sound s p e in
     let same = written_read s bytes p e in (
       λ h. rw (sound, same, le-ltb (length out) (length s) h) (refl, refl),

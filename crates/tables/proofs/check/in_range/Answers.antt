@@ -1,4 +1,4 @@
--- At each return the tests say which case of `inRange` holds.
+-- At each return the tests say which case of `in_range` holds.
 use mathlib.Core.Path.{◌∙◌}
 use Rattle.tables.proofs.Judging.{from_out, to_out, label_decides}
 use Rattle.tables.proofs.check.in_range.Goals as goal
