@@ -15,8 +15,8 @@ fn judged(formula: Vec<u8>, point: usize) -> (Option<bool>, Option<bool>) {
         let half = [vec![0], [255, 0].repeat(200)].concat();
         // Loops of label 0, so that looking ahead finds something to try on either side.
         let table = [1, 0, 0, 0];
-        let joint = yenuslap::lent::joint_verdict(1, &table, &table, &run, &formula, point);
-        let single = yenuslap::lent::half_verdict(1, &table, &half, &formula, point);
+        let joint = yenuslap::joint_verdict(1, &table, &table, &run, &formula, point);
+        let single = yenuslap::half_verdict(1, &table, &half, &formula, point);
         (joint.ok(), single.ok())
     };
     let thread = thread::Builder::new().stack_size(8 << 20);
@@ -119,12 +119,10 @@ fn divide(question: &[u8]) -> [Option<usize>; 3] {
     let table: Vec<u8> = [1].into_iter().chain(rows).collect();
     let (k, left, right, side) = (4, &[1], &table, yenuslap::Side::Right);
     let mut out = [0; 2 * NODES];
-    let given =
-        yenuslap::lent::quotient(k, left, right, &half, &half, question, side, 200, &mut out);
-    let numbered = yenuslap::lent::quotient_of_splitting(
-        k, left, right, &run, question, 0, side, 200, &mut out,
-    );
-    let office = yenuslap::lent::line_office(k, left, right, &half, &half, question, side, 200);
+    let given = yenuslap::quotient(k, left, right, &half, &half, question, side, 200, &mut out);
+    let numbered =
+        yenuslap::quotient_of_splitting(k, left, right, &run, question, 0, side, 200, &mut out);
+    let office = yenuslap::line_office(k, left, right, &half, &half, question, side, 200);
     let verdict = office.map(|verdicts| {
         assert_eq!(verdicts.joint, verdicts.half);
         usize::from(verdicts.joint)
@@ -172,12 +170,11 @@ fn sheet_ending(question: Vec<u8>) -> (usize, String) {
         let run = [vec![0, 0], [255, 0, 0].repeat(200)].concat();
         let rows = (1..=8).flat_map(|label| [0, label, 0]);
         let table: Vec<u8> = [1].into_iter().chain(rows).collect();
-        let mut casebook = [0; yenuslap::lent::MOST_CASEBOOK];
-        let length =
-            yenuslap::lent::write_casebook(4, &[1], &table, &run, &question, &mut casebook);
-        let mut out = vec![0; 201 * yenuslap::lent::MOST_LINE];
+        let mut casebook = [0; yenuslap::MOST_CASEBOOK];
+        let length = yenuslap::write_casebook(4, &[1], &table, &run, &question, &mut casebook);
+        let mut out = vec![0; 201 * yenuslap::MOST_LINE];
         let casebook = &casebook[..length.unwrap()];
-        let written = yenuslap::lent::sheet_lines(casebook, 0, 300, &mut out).unwrap();
+        let written = yenuslap::sheet_lines(casebook, 0, 300, &mut out).unwrap();
         let text = String::from_utf8(out[..written.bytes].to_vec()).unwrap();
         (written.lines, text[text.len() - 5..].to_string())
     };
@@ -218,15 +215,12 @@ fn aldebaran_texts() {
     });
     let long = "des (0,99999,64)\n".to_string() + &lines.collect::<String>();
     let calls = move || {
-        let (mut text, mut table) = (
-            vec![0; yenuslap::lent::MOST_TEXT],
-            vec![0; yenuslap::lent::MOST_TABLE],
-        );
-        let length = yenuslap::lent::write_aldebaran(&full_table(), 63, &mut text).unwrap();
-        let read = yenuslap::lent::read_aldebaran(&text[..length], &mut table).unwrap();
-        assert_eq!((read.length, read.first), (yenuslap::lent::MOST_TABLE, 63));
+        let (mut text, mut table) = (vec![0; yenuslap::MOST_TEXT], vec![0; yenuslap::MOST_TABLE]);
+        let length = yenuslap::write_aldebaran(&full_table(), 63, &mut text).unwrap();
+        let read = yenuslap::read_aldebaran(&text[..length], &mut table).unwrap();
+        assert_eq!((read.length, read.first), (yenuslap::MOST_TABLE, 63));
         assert_eq!(table, full_table());
-        let refused = yenuslap::lent::read_aldebaran(long.as_bytes(), &mut table).unwrap_err();
+        let refused = yenuslap::read_aldebaran(long.as_bytes(), &mut table).unwrap_err();
         assert_eq!(refused.number(), 7);
     };
     let thread = thread::Builder::new().stack_size(200 << 10);

@@ -26,7 +26,7 @@ fn read_answer(expected: &Result<Machine, Refusal>) -> u64 {
 /// Demands that the wrapper reads a text as expected.
 fn wrapped_read(text: &[u8], room: usize, expected: &Result<Machine, Refusal>) {
     let mut output = vec![0; room];
-    let wrapped = yenuslap::lent::read_aldebaran(text, &mut output);
+    let wrapped = yenuslap::read_aldebaran(text, &mut output);
     let number = number_of(expected);
     assert_eq!(wrapped_number(&wrapped), number, "{}", shown(text));
     let machine = wrapped.ok().map(|read| Machine {
@@ -39,7 +39,7 @@ fn wrapped_read(text: &[u8], room: usize, expected: &Result<Machine, Refusal>) {
 /// Demands that the wrapper writes a table as expected.
 fn wrapped_write(table: &[u8], first: usize, room: usize, expected: &Result<Vec<u8>, Refusal>) {
     let mut output = vec![0; room];
-    let wrapped = yenuslap::lent::write_aldebaran(table, first, &mut output);
+    let wrapped = yenuslap::write_aldebaran(table, first, &mut output);
     let number = number_of(expected);
     assert_eq!(wrapped_number(&wrapped), number, "{table:?} with {first}");
     let text = wrapped.ok().map(|length| output[..length].to_vec());

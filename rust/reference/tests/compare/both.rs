@@ -109,7 +109,7 @@ fn parts_agree(bytes: &[u8], book: &Casebook) {
         let answer = bare::casebook_part(bytes, kind);
         assert_eq!(answer, expected, "part {kind} of {}", hex(bytes));
     }
-    let wrapped = yenuslap::lent::read_casebook(bytes).expect("the engine has accepted it");
+    let wrapped = yenuslap::read_casebook(bytes).expect("the engine has accepted it");
     assert_eq!(parts_of(wrapped), book.parts(bytes), "of {}", hex(bytes));
 }
 
@@ -119,12 +119,12 @@ fn refused_alike(bytes: &[u8], number: u8) {
     let answer = bare::casebook_part(bytes, kind);
     let expected = (number as u64) << 32;
     assert_eq!(answer, expected, "part {kind} of {}", hex(bytes));
-    let wrapped = yenuslap::lent::read_casebook(bytes);
+    let wrapped = yenuslap::read_casebook(bytes);
     assert_eq!(wrapped_number(&wrapped), number, "read {}", hex(bytes));
 }
 
 /// The parts that the wrapper gave, copied.
-pub fn parts_of(book: yenuslap::lent::Parts) -> Parts {
+pub fn parts_of(book: yenuslap::Casebook) -> Parts {
     Parts {
         k: book.k,
         left: book.left.to_vec(),
@@ -166,7 +166,7 @@ fn write_bare(parts: &Parts, room: usize, expected: &Result<Vec<u8>, u8>, patter
 /// Writes by the wrapper into the middle of a buffer and looks at every byte of it.
 fn write_wrapped(parts: &Parts, room: usize, expected: &Result<Vec<u8>, u8>, pattern: Vec<u8>) {
     let mut buffer = pattern.clone();
-    let answer = yenuslap::lent::write_casebook(
+    let answer = yenuslap::write_casebook(
         parts.k,
         &parts.left,
         &parts.right,
@@ -220,7 +220,7 @@ pub fn cut_both(left: &[u8], right: &[u8], side: u8, point: usize) -> u8 {
     let answer = bare::cut(left, right, side, point);
     // A refused cut is an empty part.
     assert_eq!(answer, expected.map_or(0, <[u8]>::len), "{about}");
-    let wrapped = yenuslap::lent::cut(left, right, wrapped_side, point);
+    let wrapped = yenuslap::cut(left, right, wrapped_side, point);
     assert_eq!(wrapped_number(&wrapped), number_of(&expected), "{about}");
     if let (Ok(part), Ok(prefix)) = (wrapped, expected) {
         // The very prefix: the same place, not only equal bytes.

@@ -102,7 +102,7 @@ fn the_part_is_the_very_prefix() {
             (yenuslap::Side::Right, &right),
             (yenuslap::Side::Unnamed, &left),
         ] {
-            let part = yenuslap::lent::cut(&left, &right, side, point).unwrap();
+            let part = yenuslap::cut(&left, &right, side, point).unwrap();
             assert_eq!(part, &half[..1 + 2 * point]);
             assert_eq!(part.as_ptr(), half.as_ptr());
             count += 1;

@@ -61,7 +61,7 @@ fn case_a_is_read() {
     let bytes = case_a();
     assert_eq!(bytes.len(), 44);
     assert_eq!(read_both(&bytes), 0);
-    let parts = parts_of(yenuslap::lent::read_casebook(&bytes).unwrap());
+    let parts = parts_of(yenuslap::read_casebook(&bytes).unwrap());
     assert_eq!(parts.k, 2);
     assert_eq!(parts.left, unhex("02 000101 000301"));
     assert_eq!(parts.right, unhex("02 000201 000401"));

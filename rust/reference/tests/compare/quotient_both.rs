@@ -122,7 +122,7 @@ pub fn quotient_both(given: &Given, stop: Stop, room: usize) -> Result<Vec<u8>, 
         halves: it,
         question,
     } = given;
-    let wrapped = yenuslap::lent::quotient(
+    let wrapped = yenuslap::quotient(
         it.k,
         &it.left,
         &it.right,
@@ -166,9 +166,8 @@ pub fn numbered_both(
         bare::quotient_of_splitting(*k, left, right, run, question, number, side, point, lent);
     let mut again = Output::new(room, true);
     let (lent, side) = (again.lent(), sides(side).1);
-    let wrapped = yenuslap::lent::quotient_of_splitting(
-        *k, left, right, run, question, number, side, point, lent,
-    );
+    let wrapped =
+        yenuslap::quotient_of_splitting(*k, left, right, run, question, number, side, point, lent);
     let length = expected.as_ref().map(Vec::len).map_err(|n| *n);
     alike(length, answer, wrapped, &about);
     out.holds(expected.as_deref().ok(), &about);
@@ -192,7 +191,7 @@ pub fn office_both(given: &Given, stop: Stop) -> Result<bool, Refusal> {
         it.k, left, right, left_half, right_half, question, side, point,
     );
     let side = sides(side).1;
-    let wrapped = yenuslap::lent::line_office(
+    let wrapped = yenuslap::line_office(
         it.k, left, right, left_half, right_half, question, side, point,
     );
     let about = || format!("{given:?} at {stop:?}");

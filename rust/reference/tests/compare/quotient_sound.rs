@@ -212,8 +212,7 @@ fn one_slice_lent_twice() {
         let (k, question, side) = (given.halves.k, &given.question, yenuslap::Side::Left);
         let (table, half) = (&given.halves.left, &given.halves.left_half);
         let mut out = [0; LARGEST];
-        let same =
-            yenuslap::lent::quotient(k, table, table, half, half, question, side, 3, &mut out);
+        let same = yenuslap::quotient(k, table, table, half, half, question, side, 3, &mut out);
         assert_eq!(same.ok(), answer.as_ref().ok().map(Vec::len));
         assert_eq!(out[..same.unwrap_or(0)], answer.clone().unwrap_or_default());
         tally.note(number_of(&answer));

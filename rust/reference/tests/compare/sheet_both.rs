@@ -7,7 +7,7 @@ use crate::splitting_both::Output;
 use reference::sheet::sheet;
 use reference::Refusal;
 use yenuslap::bare::{self, LinesAnswer};
-use yenuslap::lent::Lines;
+use yenuslap::Lines;
 
 /// A casebook, and the lines of its sheet.
 pub struct Sheet {
@@ -86,7 +86,7 @@ pub fn lines_both(casebook: &[u8], due: &[Vec<u8>], block: Block) -> (Refusal, u
     let given = bare::sheet_lines(casebook, first, most, out.lent());
     assert_eq!(given, answer, "{}", about());
     let mut again = Output::new(room, true);
-    let wrapped = yenuslap::lent::sheet_lines(casebook, first, most, again.lent());
+    let wrapped = yenuslap::sheet_lines(casebook, first, most, again.lent());
     let wanted = expected.as_ref().map(|(lines, bytes)| Lines {
         lines: *lines,
         bytes: bytes.len(),

@@ -111,7 +111,7 @@ fn the_longest_line() {
     };
     let long = Long::of(parts, 1 << 15);
     let last = long.total() - 1;
-    assert_eq!(long.lines(last, 1)[0].len(), yenuslap::lent::MOST_LINE);
+    assert_eq!(long.lines(last, 1)[0].len(), yenuslap::MOST_LINE);
     for first in [last, last - 1, last - 3] {
         long.compare(first, 3, &mut tally);
     }

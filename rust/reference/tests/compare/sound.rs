@@ -48,9 +48,9 @@ fn round_trips() {
     for seed in 10_000..11_200 {
         let parts = parts_number(seed);
         let bytes = parts.to_bytes();
-        let book = yenuslap::lent::read_casebook(&bytes).expect("sound");
+        let book = yenuslap::read_casebook(&bytes).expect("sound");
         let mut out = vec![0x5a; LONGEST];
-        let length = yenuslap::lent::write_casebook(
+        let length = yenuslap::write_casebook(
             book.k,
             book.left,
             book.right,
@@ -60,7 +60,7 @@ fn round_trips() {
         );
         let length = length.expect("sound parts and room enough");
         assert_eq!(out[..length], bytes, "seed {seed}");
-        let again = yenuslap::lent::read_casebook(&out[..length]).expect("written by the engine");
+        let again = yenuslap::read_casebook(&out[..length]).expect("written by the engine");
         assert_eq!(parts_of(again), parts, "seed {seed}");
         count += 1;
     }
@@ -153,7 +153,7 @@ fn generator_reaches_all_sizes() {
 /// length, and refuses a byte more, and an output with a byte less.
 #[test]
 fn longest_casebook() {
-    assert_eq!(yenuslap::lent::MOST_CASEBOOK, LONGEST);
+    assert_eq!(yenuslap::MOST_CASEBOOK, LONGEST);
     for k in 0..16 {
         let parts = parts_number(16 * k);
         let mut bytes = parts.to_bytes();

@@ -123,7 +123,7 @@ pub fn count_both(log: &Log) -> Result<usize, Refusal> {
     } = log;
     let expected = splitting::count(*k, left, right, run);
     let answer = bare::count_splittings(*k, left, right, run);
-    let wrapped = yenuslap::lent::count_splittings(*k, left, right, run);
+    let wrapped = yenuslap::count_splittings(*k, left, right, run);
     alike(expected, answer, wrapped, &|| format!("{log:?}"));
     assert_eq!(black_box(log), &before, "lent parts changed");
     expected
@@ -145,7 +145,7 @@ pub fn split_both(log: &Log, number: usize, room: [usize; 2]) -> Result<[Vec<u8>
     let answer = bare::split(*k, left, right, run, number, outputs.0, outputs.1);
     let [mut again_left, mut again_right] = room.map(|room| Output::new(room, true));
     let outputs = (again_left.lent(), again_right.lent());
-    let wrapped = yenuslap::lent::split(*k, left, right, run, number, outputs.0, outputs.1);
+    let wrapped = yenuslap::split(*k, left, right, run, number, outputs.0, outputs.1);
     let length = expected.as_ref().map(|halves| halves[0].len());
     alike(length.map_err(|n| *n), answer, wrapped, &about);
     let [left_half, right_half] = [0, 1].map(|side| expected.as_ref().ok().map(|h| &h[side][..]));
@@ -177,7 +177,7 @@ pub fn join_both(halves: &Halves, room: usize) -> Result<Vec<u8>, Refusal> {
     let mut out = Output::new(room, false);
     let answer = bare::join(*k, left, right, left_half, right_half, out.lent());
     let mut again = Output::new(room, true);
-    let wrapped = yenuslap::lent::join(*k, left, right, left_half, right_half, again.lent());
+    let wrapped = yenuslap::join(*k, left, right, left_half, right_half, again.lent());
     let length = expected.as_ref().map(Vec::len).map_err(|n| *n);
     alike(length, answer, wrapped, &about);
     out.holds(expected.as_deref().ok(), &about);

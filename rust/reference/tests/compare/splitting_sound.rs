@@ -190,7 +190,7 @@ fn one_table_lent_as_both() {
         };
         let counted = count_both(&twin);
         let (table, run) = (&twin.left, &twin.run);
-        let same = yenuslap::lent::count_splittings(twin.k, table, table, run);
+        let same = yenuslap::count_splittings(twin.k, table, table, run);
         assert_eq!(same.ok(), counted.ok(), "{twin:?}");
         if counted.is_ok() {
             every_splitting(&twin);

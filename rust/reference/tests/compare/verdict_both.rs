@@ -31,7 +31,7 @@ pub fn joint_both(parts: &Parts, point: usize) -> Result<bool, Refusal> {
     } = parts;
     let expected = verdict::joint(*k, left, right, run, question, point);
     let answer = bare::joint_verdict(*k, left, right, run, question, point);
-    let wrapped = yenuslap::lent::joint_verdict(*k, left, right, run, question, point);
+    let wrapped = yenuslap::joint_verdict(*k, left, right, run, question, point);
     alike(expected, answer, wrapped, || {
         format!("{parts:?} at {point}")
     });
@@ -50,7 +50,7 @@ pub fn half_both(parts: &HalfParts, point: usize) -> Result<bool, Refusal> {
     } = parts;
     let expected = verdict::half(*k, table, half, formula, point);
     let answer = bare::half_verdict(*k, table, half, formula, point);
-    let wrapped = yenuslap::lent::half_verdict(*k, table, half, formula, point);
+    let wrapped = yenuslap::half_verdict(*k, table, half, formula, point);
     alike(expected, answer, wrapped, || {
         format!("{parts:?} at {point}")
     });

@@ -371,7 +371,7 @@ fn one_table_lent_as_both() {
         let call = pair.asks(&pair.fitted(&mut random, shape.steps, nodes));
         let verdict = joint_both(&call, shape.steps);
         let (table, run, formula) = (&call.left, &call.run, &call.question);
-        let same = yenuslap::lent::joint_verdict(call.k, table, table, run, formula, shape.steps);
+        let same = yenuslap::joint_verdict(call.k, table, table, run, formula, shape.steps);
         assert_eq!(same.ok(), verdict.ok(), "{call:?}");
         verdicts.note(formula, verdict);
     }

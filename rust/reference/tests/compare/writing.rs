@@ -232,7 +232,7 @@ fn what_is_written_is_read() {
     for seed in 30_000..30_400 {
         let parts = parts_number(seed);
         let mut out = vec![0xa5; 4000];
-        let length = yenuslap::lent::write_casebook(
+        let length = yenuslap::write_casebook(
             parts.k,
             &parts.left,
             &parts.right,

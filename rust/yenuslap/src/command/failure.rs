@@ -33,8 +33,6 @@ pub enum Failure {
     Closed,
     /// The engine refused; the explanation.
     Refused(String),
-    /// The engine refused a file; a line for each of its flaws.
-    Flawed(Vec<String>),
     /// The subcommand's options or operands are wrong; what is wrong with them.
     Usage(String),
     /// A file or a text was misused; what is wrong.
@@ -53,10 +51,6 @@ impl Failure {
             Failure::Closed => Ending::Fine,
             Failure::Refused(text) => {
                 complain(text);
-                Ending::Refused
-            }
-            Failure::Flawed(lines) => {
-                lines.iter().for_each(|line| complain(line));
                 Ending::Refused
             }
             Failure::Usage(text) | Failure::Misused(text) => {

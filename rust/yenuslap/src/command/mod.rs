@@ -1,29 +1,177 @@
 //! The subcommands, and everything that they share.
 
-mod aldebaran;
+mod aldebaran_faults;
+mod aldebaran_line;
+mod aldebaran_text;
+mod answer;
 mod arguments;
-mod drawing;
-mod explaining;
+mod asked;
+mod aut;
+mod book;
+mod check;
+mod contents;
+mod dot;
+mod explain;
 mod failure;
-mod files;
-mod json;
-mod marking;
-mod packaging;
-mod subcommands;
-mod warning;
+mod faults;
+mod formula_faults;
+mod half_faults;
+mod halves;
+mod help;
+mod hex;
+mod input;
+mod join;
+mod judge;
+mod label_map;
+mod lanes;
+mod operators;
+mod output;
+mod quotient;
+mod records;
+mod repairs;
+mod sheet;
+mod show;
+mod spelling;
+mod split;
+mod statement;
+mod statement_parser;
+mod table;
+mod text_form;
+mod text_parser;
+mod tokens;
+mod verdict;
 mod words;
+mod write;
 
-use std::ffi::{OsStr, OsString};
+use std::ffi::OsString;
 use std::process::ExitCode;
 
-use arguments::parser::{unknown_option, Arguments};
-use arguments::{help, options};
+use arguments::{Arguments, Flag};
 use failure::{misused, Ending, Failure};
-use files::output::Output;
-use files::same::not_an_input;
-use subcommands::{Subcommand, SUBCOMMANDS};
-use yenuslap::text::nearest;
-use yenuslap::text::quoted::quoted;
+use output::Output;
+use words::quoted;
+
+/// A subcommand.
+struct Subcommand {
+    /// Its name.
+    name: &'static str,
+    /// Its options.
+    flags: &'static [Flag],
+    /// What it does.
+    run: fn(&Arguments, &mut Output) -> Result<Ending, Failure>,
+    /// Its help.
+    help: &'static str,
+}
+
+/// Every subcommand has this option.
+const HELP: Flag = Flag::plain("help").short('h');
+
+/// The subcommands.
+const SUBCOMMANDS: [Subcommand; 10] = [
+    Subcommand {
+        name: "check",
+        flags: &[HELP],
+        run: check::run,
+        help: help::CHECK,
+    },
+    Subcommand {
+        name: "show",
+        flags: &[
+            HELP,
+            Flag::plain("all"),
+            Flag::valued("splitting"),
+            Flag::plain("dot"),
+            Flag::plain("text"),
+        ],
+        run: show::run,
+        help: help::SHOW,
+    },
+    Subcommand {
+        name: "sheet",
+        flags: &[HELP],
+        run: sheet::run,
+        help: help::SHEET,
+    },
+    Subcommand {
+        name: "split",
+        flags: &[HELP, Flag::valued("number"), Flag::plain("hex")],
+        run: split::run,
+        help: help::SPLIT,
+    },
+    Subcommand {
+        name: "join",
+        flags: &[
+            HELP,
+            Flag::valued("left"),
+            Flag::valued("right"),
+            Flag::plain("hex"),
+        ],
+        run: join::run,
+        help: help::JOIN,
+    },
+    Subcommand {
+        name: "verdict",
+        flags: &[
+            HELP,
+            Flag::valued("point"),
+            Flag::valued("formula"),
+            Flag::valued("splitting"),
+            Flag::valued("left"),
+            Flag::valued("right"),
+            Flag::valued("half").also("side"),
+            Flag::plain("line-office"),
+            Flag::valued("known"),
+        ],
+        run: verdict::run,
+        help: help::VERDICT,
+    },
+    Subcommand {
+        name: "quotient",
+        flags: &[
+            HELP,
+            Flag::valued("splitting"),
+            Flag::valued("left"),
+            Flag::valued("right"),
+            Flag::valued("known"),
+            Flag::valued("point"),
+            Flag::plain("hex"),
+        ],
+        run: quotient::run,
+        help: help::QUOTIENT,
+    },
+    Subcommand {
+        name: "write",
+        flags: &[HELP, Flag::valued("output").short('o')],
+        run: write::run,
+        help: help::WRITE,
+    },
+    Subcommand {
+        name: "table",
+        flags: &[
+            HELP,
+            Flag::plain("left"),
+            Flag::plain("right"),
+            Flag::plain("dot"),
+            Flag::plain("tidy"),
+            Flag::valued("labels"),
+            Flag::valued("output").short('o'),
+        ],
+        run: table::run,
+        help: help::TABLE,
+    },
+    Subcommand {
+        name: "aut",
+        flags: &[
+            HELP,
+            Flag::plain("left"),
+            Flag::plain("right"),
+            Flag::valued("first"),
+            Flag::valued("output").short('o'),
+        ],
+        run: aut::run,
+        help: help::AUT,
+    },
+];
 
 /// Runs the command and gives its exit status.
 pub fn run(arguments: Vec<OsString>) -> ExitCode {
@@ -45,83 +193,33 @@ pub fn failed(why: &str) -> ExitCode {
 /// Finds the subcommand and runs it.
 fn dispatch(arguments: &[OsString], out: &mut Output) -> Result<Ending, Failure> {
     let Some((first, rest)) = arguments.split_first() else {
-        return misused(format!("a subcommand is missing\n{}", help::usage()));
+        return misused(format!("a subcommand is missing\n{}", help::USAGE));
     };
     match first.to_str() {
-        Some("help") => help_on(rest, out),
-        Some("--help" | "-h") => alone(first, rest, help::all(), out),
-        Some("--version" | "-V") => alone(first, rest, version(), out),
-        _ if first.as_encoded_bytes().starts_with(b"-") => {
-            no_option(&first.to_string_lossy(), rest)
-        }
-        _ => run_one(subcommand(first)?, rest, out),
+        Some("--help" | "-h") => print(out, help::ALL),
+        Some("help") => print(out, help_on(rest)),
+        Some("--version" | "-V") => print(out, &version()),
+        _ => match SUBCOMMANDS
+            .iter()
+            .find(|subcommand| first == subcommand.name)
+        {
+            Some(subcommand) => run_one(subcommand, rest, out),
+            None => misused(format!(
+                "there is no subcommand {}; see yenuslap --help",
+                quoted(&first.to_string_lossy())
+            )),
+        },
     }
 }
 
-/// The subcommand of a name.
-fn subcommand(name: &OsStr) -> Result<&'static Subcommand, Failure> {
-    let found = SUBCOMMANDS.iter().find(|found| name == found.name);
-    if let Some(found) = found {
-        return Ok(found);
-    }
-    let name = name.to_string_lossy();
-    let names = SUBCOMMANDS.iter().map(|subcommand| subcommand.name);
-    let hint = nearest::hint(&name, names.chain(["help"]), "");
-    misused(format!(
-        "there is no subcommand {}{hint}; see yenuslap --help",
-        quoted(&name)
-    ))
-}
-
-/// Prints the help on the subcommand that is named, else on all.
-fn help_on(names: &[OsString], out: &mut Output) -> Result<Ending, Failure> {
-    match names {
-        [] => print(out, &help::all()),
-        [name] => print(out, &help::of(subcommand(name)?)),
-        [_, second, ..] => misused(format!(
-            "help: one subcommand is enough: {}; see yenuslap --help",
-            quoted(&second.to_string_lossy())
-        )),
-    }
-}
-
-/// Prints a text for an option of the whole command, which stands alone.
-fn alone(
-    option: &OsStr,
-    rest: &[OsString],
-    text: String,
-    out: &mut Output,
-) -> Result<Ending, Failure> {
-    match rest.first() {
-        None => print(out, &text),
-        Some(next) => misused(format!(
-            "option {} stands alone: {} is too much; see yenuslap --help",
-            option.to_string_lossy(),
-            quoted(&next.to_string_lossy())
-        )),
-    }
-}
-
-/// An option where a subcommand is due. One of a subcommand is meant behind the name of one that has it, of the one that
-/// follows if that does.
-fn no_option(option: &str, rest: &[OsString]) -> Result<Ending, Failure> {
-    let name = option.trim_start_matches('-').split('=').next();
-    let owners = SUBCOMMANDS.iter().filter_map(|subcommand| {
-        let mut options = subcommand.options.iter();
-        let flag = options.find(|flag| Some(flag.name) == name)?;
-        let shown = format!("yenuslap {} --{}", subcommand.name, flag.name);
-        Some((!rest.iter().any(|word| word == subcommand.name), shown))
-    });
-    let owner = owners.min_by_key(|owner| owner.0).map(|owner| owner.1);
-    if let Some(owner) = owner {
-        return misused(format!(
-            "option {} stands before a subcommand; it belongs behind one, as in {owner}",
-            quoted(option)
-        ));
-    }
-    let names = [options::HELP, options::VERSION].into_iter();
-    let unknown = unknown_option(option, names);
-    misused(format!("{unknown}; see yenuslap --help"))
+/// The help on the subcommand that is named, else on all.
+fn help_on(names: &[OsString]) -> &'static str {
+    let named =
+        |subcommand: &&Subcommand| names.first().is_some_and(|name| name == subcommand.name);
+    SUBCOMMANDS
+        .iter()
+        .find(named)
+        .map_or(help::ALL, |subcommand| subcommand.help)
 }
 
 /// Runs a subcommand, or prints its help.
@@ -131,12 +229,11 @@ fn run_one(
     out: &mut Output,
 ) -> Result<Ending, Failure> {
     let name = subcommand.name;
-    let parsed = Arguments::parse(subcommand.options, arguments);
+    let parsed = Arguments::parse(subcommand.flags, arguments);
     let done = parsed.and_then(|parsed| {
-        if parsed.has(options::HELP) {
-            print(out, &help::of(subcommand))
+        if parsed.has("help") {
+            print(out, subcommand.help)
         } else {
-            not_an_input(&parsed)?;
             (subcommand.run)(&parsed, out)
         }
     });

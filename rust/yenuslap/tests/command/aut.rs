@@ -73,6 +73,12 @@ fn output_option() {
     let arguments = ["aut", "-", "--right", "--first=2", "-o", name];
     let ran = run_with(&arguments, &CASE_A);
     assert_eq!((ran.status, path.exists()), (Some(1), false));
+    complains(
+        &["aut", "-", "--left", "-o", "none/there"],
+        &CASE_A,
+        2,
+        "none/there: No such file or directory",
+    );
 }
 
 /// A side is named, and one only.
@@ -93,7 +99,7 @@ fn misuse() {
             &["aut", "-", "--left", "--first", "-1"],
             "option --first needs a number, not `-1`",
         ),
-        (&["aut", "-", "--tidy"], "unknown option `--tidy`"),
+        (&["aut", "-", "--tidy"], "unknown option --tidy"),
     ];
     for (arguments, fault) in faults {
         let complaint = format!("aut: {fault}; see yenuslap aut --help");

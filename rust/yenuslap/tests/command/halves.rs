@@ -16,7 +16,7 @@ fn case_a() {
     let bytes = "0 --left 000101 --right 000201\n1 --left 000301 --right 000401\n";
     prints(&["split", "--hex", "cases/a.casebook"], b"", bytes);
     let last = "1 --left 0,3:1 --right 0,4:1\n";
-    prints(&["split", "--splitting", "1", "-"], &CASE_A, last);
+    prints(&["split", "--number", "1", "-"], &CASE_A, last);
     let log = "log 0 0\n  0 1 1\n";
     prints(
         &["join", "-", "--left", "0,3:1", "--right", "0,4:1"],
@@ -165,13 +165,13 @@ fn numbers_without_a_splitting() {
         format!("standard input: refused 14: there is no splitting {number}; the log has 2 splittings, counted from 0")
     };
     for number in ["2", "65536", "18446744073709551615"] {
-        let arguments = ["split", "--splitting", number, "-"];
+        let arguments = ["split", "--number", number, "-"];
         complains(&arguments, &CASE_A, 1, &sentence(number));
     }
     let name = "cases/refused_13_sixteen_two_way_steps.casebook";
     let sentence = format!("{name}: refused 13: the log has over 65,535 splittings, from step 16 on; no number names one of so many");
     complains(&["split", name], b"", 1, &sentence);
-    complains(&["split", name, "--splitting", "0"], b"", 1, &sentence);
+    complains(&["split", name, "--number", "0"], b"", 1, &sentence);
 }
 
 /// Halves that are no text of a half.

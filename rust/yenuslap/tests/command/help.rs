@@ -3,9 +3,8 @@
 use crate::program::{prints, run, run_with};
 
 /// The subcommands.
-const SUBCOMMANDS: [&str; 12] = [
-    "check", "steps", "show", "sheet", "split", "join", "verdict", "quotient", "write", "table",
-    "aut", "mark",
+const SUBCOMMANDS: [&str; 10] = [
+    "check", "show", "sheet", "split", "join", "verdict", "quotient", "write", "table", "aut",
 ];
 
 /// The help names every subcommand; each has help of its own, by both names of the option, with its usage first.
@@ -15,8 +14,6 @@ fn every_subcommand_has_help() {
     assert_eq!((all.status, all.err.as_str()), (Some(0), ""));
     assert_eq!(run(&["-h"]), all);
     assert_eq!(run(&["help"]), all);
-    assert!(all.text().contains("yenuslap man  "));
-    assert!(all.text().contains("yenuslap completions SHELL  "));
     for name in SUBCOMMANDS {
         assert!(
             all.text().contains(&format!("yenuslap {name} FILE")),
@@ -32,35 +29,6 @@ fn every_subcommand_has_help() {
         assert_eq!((help.status, help.err.as_str()), (Some(0), ""));
         assert_eq!(run(&[name, "none", "-h"]), help);
         assert_eq!(run(&["help", name]), help);
-    }
-}
-
-/// Lines of help but those of examples have at most 100 columns, and no blanks at their ends; the texts of options
-/// begin in one column.
-#[test]
-fn layout() {
-    let names = SUBCOMMANDS.into_iter().chain(["man", "completions"]);
-    for name in names {
-        let text = run(&["help", name]).text();
-        let (text, _) = text.split_once("\nexample:\n").unwrap();
-        wide_enough(text);
-        let options = text.lines().filter(|line| {
-            let begin = line.trim_start();
-            line.starts_with("  ") && begin.starts_with('-') && begin.contains("    ")
-        });
-        let begin = |line: &str| line.rfind("    ").map(|at| at + 4);
-        let begins: Vec<Option<usize>> = options.map(begin).collect();
-        assert!(!begins.is_empty(), "{text}");
-        assert!(begins.iter().all(|begin| *begin == begins[0]), "{text}");
-    }
-    wide_enough(&run(&["help"]).text());
-}
-
-/// Demands of a text that it has at most 100 columns and no blanks at the ends of lines.
-fn wide_enough(text: &str) {
-    for line in text.lines() {
-        assert!(line.chars().count() <= 100, "{line}");
-        assert_eq!(line.trim_end(), line);
     }
 }
 

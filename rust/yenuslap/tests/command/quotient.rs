@@ -1,6 +1,6 @@
 //! `quotient`: in the usual notation and as bytes.
 
-use crate::books::{case_a_asking, shipped, CASE_A};
+use crate::books::{case_a_asking, CASE_A};
 use crate::program::{complains, prints, run};
 
 /// Demands these quotients on case A's machines and log, under this question, by the side that the options name.
@@ -54,36 +54,6 @@ fn known_sides() {
     let with = |side| [&loops[..], &[side]].concat();
     prints(&with("--known=right"), b"", "0 06010000\n1 08000000\n");
     prints(&with("--known=left"), b"", "0 08000000\n1 06010000\n");
-}
-
-/// Every point: the lines of the stored sheets, in their order, with their quotients.
-#[test]
-fn every_point() {
-    let mut compared = 0;
-    for (path, sheet) in shipped() {
-        let sheet = String::from_utf8(sheet).unwrap();
-        if sheet.starts_with('R') || sheet.lines().count() > 2_000 {
-            continue;
-        }
-        let line = |line: &str| {
-            let fields: Vec<&str> = line.split(' ').collect();
-            let quotient = fields[3].replace("17", "refused 17");
-            let quotient = if fields[3] == "17" {
-                &quotient
-            } else {
-                fields[3]
-            };
-            format!("{} {} {quotient}\n", fields[0], fields[1])
-        };
-        let expected: String = sheet.lines().map(line).collect();
-        let name = path.to_str().unwrap();
-        let ran = run(&["quotient", name, "--hex", "--known=right", "--point=all"]);
-        assert_eq!(ran.text(), expected, "{name}");
-        let status = if expected.contains("refused") { 1 } else { 0 };
-        assert_eq!(ran.status, Some(status), "{name}");
-        compared += 1;
-    }
-    assert!(compared > 15, "{compared} sheets");
 }
 
 /// 3,734 nodes are given, and spelled; 4,463 are refused.
@@ -164,20 +134,12 @@ fn by_halves() {
     by_the_right(&BACK_BY_0, &with(&["--point=0"]), "false\n");
     let hex = ["--hex", "--left=000301", "--right=000401"];
     by_the_right(&BACK_BY_0, &hex, "06030000\n");
-    by_the_right(
-        &BACK_BY_0,
-        &with(&["--point=all"]),
-        "0 false\n1 <-1> true\n",
-    );
-    // With --any-log halves need not be those of the casebook's log: here the left moves alone.
+    // Halves need not be those of the casebook's log: here the left moves alone.
     by_the_right(
         &[6, 1, 0, 0],
-        &["--left=0,1:1", "--right=0,idle", "--any-log"],
+        &["--left=0,1:1", "--right=0,idle"],
         "<-1> true\n",
     );
-    // The known half alone: the log says what the other one did.
-    by_the_right(&BACK_BY_0, &["--right=0,4:1"], "<-3> true\n");
-    quotients(&BACK_BY_0, &["--known=left", "--left=0,3:1"], "<-4> true\n");
     // Sixteen two-way steps by label 1 have over 65,535 splittings; in this one the right made the last.
     let name = "cases/refused_13_sixteen_two_way_steps.casebook";
     let left = format!("--left=0{},idle", ",1:0".repeat(15));
@@ -193,8 +155,7 @@ fn refused_halves() {
     let refused = |halves: [&str; 2], more: &[&str], number: u8, sentence: &str| {
         let given = ["quotient", "-", "--left", halves[0], "--right", halves[1]];
         let complaint = format!("standard input: refused {number}: {sentence}");
-        let free = [&given, more, &["--any-log"]].concat();
-        complains(&free, &CASE_A, 1, &complaint);
+        complains(&[&given, more].concat(), &CASE_A, 1, &complaint);
     };
     let beyond = |side: &str| {
         format!("point 2 is beyond the known half, the {side} one; it has 1 step, so its points are 0 to 1")
@@ -217,10 +178,6 @@ fn refused_halves() {
     refused(["00", "00ff"], &["--hex", "--known=left"], 15, even);
     let name = "cases/too_large_4463_nodes.casebook";
     let large = format!("{name}: refused 17: the quotient at point 0 has over 4,096 nodes, and no larger one is written");
-    let ran = run(&["quotient", name, "--left=0", "--right=0", "--known=right"]);
-    assert_eq!(ran.text(), "refused 17\n");
-    assert_eq!(
-        (ran.err, ran.status),
-        (format!("yenuslap: {large}\n"), Some(1))
-    );
+    let call = ["quotient", name, "--left=0", "--right=0", "--known=right"];
+    complains(&call, b"", 1, &large);
 }

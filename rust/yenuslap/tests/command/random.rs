@@ -26,10 +26,6 @@ fn random_casebooks() {
     for _ in 0..1_500 {
         let bytes = damaged(&mut random, &books);
         let ran = run_with(&["check", "-"], &bytes);
-        if begins_as_text(&bytes) {
-            assert_eq!(ran.status, Some(2), "{bytes:?}");
-            continue;
-        }
         let expected = reference::casebook::read(&bytes).err();
         let status = if expected.is_some() { 1 } else { 0 };
         assert_eq!(
@@ -42,53 +38,21 @@ fn random_casebooks() {
             None => "standard input: sound: ".to_string(),
         };
         assert!(ran.text().starts_with(&begin), "{bytes:?}: {}", ran.text());
-        let first = ran.text().lines().next().unwrap_or("").to_string();
-        let placed = first.contains("byte");
+        let placed = ran.text().contains("byte");
         assert_eq!(placed, expected.is_some(), "{bytes:?}: {}", ran.text());
         let place = expected.and_then(|number| plain_place(&bytes, number));
         let place = place.unwrap_or_default();
-        assert!(first.contains(&place), "{bytes:?}: {first} {place}");
-        told_in_order(&ran.text(), expected);
+        assert!(
+            ran.text().contains(&place),
+            "{bytes:?}: {} {place}",
+            ran.text()
+        );
         numbers[usize::from(expected.unwrap_or(0))] += 1;
     }
     // A ninth row and a fifth forward are too rare to be met at random; `places.rs` has them.
     let rare = [7, 10];
     let met = |number: &usize| numbers[*number] > 0 || rare.contains(number);
     assert!((0..=11).all(|number| met(&number)), "{numbers:?}");
-}
-
-/// Demands of the lines of a refused file that flaws come before what is not judged, and nothing else; of a sound one
-/// that only warnings and notes follow its first.
-fn told_in_order(text: &str, refused: Option<u8>) {
-    let rank = |line: &str| {
-        let begins: &[&str] = match refused {
-            Some(_) => &["refused ", "also ", "not judged: "],
-            None => &["sound: ", "warning: ", "note: "],
-        };
-        let told = line.strip_prefix("standard input: ").expect(line);
-        begins.iter().position(|begin| told.starts_with(begin))
-    };
-    let ranks: Vec<usize> = text.lines().map(|line| rank(line).expect(line)).collect();
-    assert!(ranks.is_sorted(), "{text}");
-    assert_eq!(ranks.iter().filter(|rank| **rank == 0).count(), 1, "{text}");
-}
-
-/// Do the bytes begin as a text does, and not as a casebook?
-fn begins_as_text(bytes: &[u8]) -> bool {
-    let blank = |byte: &u8| byte.is_ascii_whitespace();
-    let behind = bytes.iter().find(|byte| !blank(byte));
-    let is_text = |byte: &u8| matches!(byte, 9 | 10 | 13 | 32..=126 | 128..);
-    let spells = |length: usize| {
-        bytes
-            .get(..length)
-            .is_some_and(|it| str::from_utf8(it).is_ok())
-    };
-    let printed = bytes.iter().take(16).all(is_text) && (1..=4).any(spells);
-    match bytes {
-        [_, 0, ..] | [] => false,
-        [first, ..] if blank(first) && behind != Some(&0) => true,
-        [first, ..] => first.is_ascii_alphabetic() || *first == b'#' || printed,
-    }
 }
 
 /// Random bytes, or a casebook with some bytes changed, lost or added.
@@ -118,13 +82,12 @@ fn damaged(random: &mut Random, books: &[Vec<u8>]) -> Vec<u8> {
 fn random_casebooks_to_all() {
     let mut random = Random::new(92);
     let books = seeded(8);
-    let commands: [&[&str]; 10] = [
+    let commands: [&[&str]; 9] = [
         &["show", "-"],
         &["show", "--text", "-"],
         &["show", "--dot", "-"],
-        &["show", "--svg", "-", "-"],
         &["sheet", "-"],
-        &["split", "--splitting", "0", "-"],
+        &["split", "--number", "0", "-"],
         &["join", "--left", "0,1:1", "--right", "0,2:1", "-"],
         &["verdict", "-"],
         &["quotient", "--splitting", "0", "-"],
@@ -133,7 +96,7 @@ fn random_casebooks_to_all() {
     for arguments in commands {
         ended(&run_with(arguments, &CASE_A), &format!("{arguments:?}"));
     }
-    for round in 0..500 {
+    for round in 0..450 {
         let bytes = damaged(&mut random, &books);
         let arguments = commands[round % commands.len()];
         ended(
@@ -144,7 +107,7 @@ fn random_casebooks_to_all() {
 }
 
 /// The pieces of which random texts are made.
-const PIECES: [&str; 43] = [
+const PIECES: [&str; 32] = [
     "pairs",
     "left",
     "right",
@@ -167,17 +130,6 @@ const PIECES: [&str; 43] = [
     "or",
     "<",
     ">",
-    "⟨",
-    "⟩",
-    "[",
-    "]",
-    "tt",
-    "ff",
-    "¬",
-    "∧",
-    "||",
-    "!",
-    "00000000",
     "-",
     "(",
     ")",
@@ -207,11 +159,6 @@ fn random_texts() {
         };
         let ran = run_with(&["write", "-"], text.as_bytes());
         ended(&ran, &text);
-        let checked = run_with(&["check", "-"], text.as_bytes());
-        assert!(matches!(checked.status, Some(0..=2)), "{text}: {checked:?}");
-        if text.starts_with("pairs") {
-            assert_eq!(checked.status, ran.status, "{text}: {checked:?}");
-        }
         statuses[ran.status.unwrap_or(0) as usize] += 1;
     }
     assert!(statuses.iter().all(|met| *met > 50), "{statuses:?}");
@@ -278,13 +225,8 @@ fn random_arguments() {
         "-",
         "--all",
         "--hex",
+        "--number",
         "--number=1",
-        "--splitting=1",
-        "--left=0,1:1",
-        "--right=0,2:1",
-        "--any-log",
-        "--json",
-        "--point=all",
         "--splitting=0",
         "--half",
         "left",

@@ -1,5 +1,5 @@
-//! The examples of the README, of docs/ALDEBARAN.md and of docs/JSON.md, run as a new user would: each must print what
-//! is pasted below it.
+//! The examples of the README and of docs/ALDEBARAN.md, run as a new user would: each must print what is pasted below
+//! it.
 
 use std::fs;
 use std::process::Command;
@@ -35,19 +35,13 @@ fn examples(page: &str) -> Vec<Example> {
 /// Every example of the README prints what it says.
 #[test]
 fn readme_examples_print_what_is_pasted() {
-    print_what_is_pasted("README.md", 18);
+    print_what_is_pasted("README.md", 11);
 }
 
 /// Every example of the page on Aldebaran texts prints what it says.
 #[test]
 fn aldebaran_examples_print_what_is_pasted() {
     print_what_is_pasted("docs/ALDEBARAN.md", 10);
-}
-
-/// Every example of the page on JSON prints what it says.
-#[test]
-fn json_examples_print_what_is_pasted() {
-    print_what_is_pasted("docs/JSON.md", 7);
 }
 
 /// The page on Aldebaran texts shows the shipped files as they are, but for their carriage returns.

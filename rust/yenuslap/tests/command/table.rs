@@ -52,6 +52,17 @@ fn sorted(text: &str) -> String {
     format!("{}\n{}\n{}\n{}\n", lines[0], lines[3], lines[2], lines[1])
 }
 
+/// `--dot` draws the machine, with an arrow to its first state.
+#[test]
+fn graph() {
+    let graph =
+        "digraph table {\n  label=\"standard input\";\n  rankdir=LR;\n  node [shape=circle];\n  \
+         state_start [shape=point];\n  state_0 [label=\"0\"];\n  state_1 [label=\"1\"];\n  \
+         state_start -> state_1;\n  state_0 -> state_1 [label=\"1\"];\n  \
+         state_0 -> state_1 [label=\"4\"];\n  state_1 -> state_0 [label=\"0\"];\n}\n";
+    prints(&["table", "--dot", "-"], TEXT.as_bytes(), graph);
+}
+
 /// `-o` writes a file, section or graph; what is refused is not written.
 #[test]
 fn output_option() {
@@ -309,7 +320,7 @@ fn wrong_rows() {
             "(0,\"i\",0) (0,\"i\",1) (0,\"a1!\",0) (0,\"a1!\",1) (0,\"a1?\",0) (1,\"i\",0) \
              (0,\"a1?\",1) (0,\"a2!\",0) (0,\"a2!\",1) (0,\"a2?\",1)",
             7,
-            "line 11, column 1: with it over 8 rows leave state 0; at most 8 rows leave one state",
+            "line 11, column 1: it is a ninth row from state 0; at most 8 rows leave one state",
         ),
     ] {
         let rows: String = rows
@@ -321,9 +332,12 @@ fn wrong_rows() {
     }
 }
 
-/// A text is no casebook; input without end is not read to its end. `forms.rs` has casebooks and their texts.
+/// A casebook is no text, and a text is no casebook; input without end is not read to its end.
 #[test]
 fn other_files() {
+    let sentence = "expected the header des (first,rows,states), found `\\u{3}`";
+    let complaint = format!("cases/a.casebook: refused 19: line 1, column 1: {sentence}");
+    complains(&["table", "cases/a.casebook"], b"", 1, &complaint);
     complains(
         &["table", "/dev/zero"],
         b"",

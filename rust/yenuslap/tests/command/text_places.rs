@@ -2,7 +2,7 @@
 //! the fault where the command does.
 
 use reference::random::Random;
-use yenuslap::lent::{read_aldebaran, MOST_TABLE};
+use yenuslap::{read_aldebaran, MOST_TABLE};
 
 use crate::program::run_with;
 

@@ -45,38 +45,17 @@ fn quotients() {
 #[test]
 fn line_office() {
     let both = "point 0: line F, right machine F\npoint 1: line T, right machine T\n";
-    goes_by_the_left(&LINE_OFFICE, &["--splitting=1", "--point=all"], both);
-    let halves = ["--left=0,3:1", "--right=0,4:1", "--point=all"];
+    goes_by_the_left(&LINE_OFFICE, &["--splitting=1"], both);
+    let halves = ["--left=0,3:1", "--right=0,4:1"];
     goes_by_the_left(&LINE_OFFICE, &halves, both);
-}
-
-/// The left half alone is the known one.
-#[test]
-fn left_half_alone() {
-    goes_by_the_left(&QUOTIENT, &["--left=0,3:1"], "<-4> true\n");
-    goes_by_the_left(
-        &LINE_OFFICE,
-        &["--left=0,3:1"],
-        "point 1: line T, right machine T\n",
-    );
 }
 
 /// What is refused, behind the note: 12 is judged on the left half alone, the right one's length is 16.
 #[test]
 fn refused() {
-    let shorter = [
-        "--left=0,1:1",
-        "--right=0,2:1,idle",
-        "--point=2",
-        "--any-log",
-    ];
+    let shorter = ["--left=0,1:1", "--right=0,2:1,idle", "--point=2"];
     let beyond = "12: point 2 is beyond the known half, the left one; it has 1 step, so its points are 0 to 1";
-    let longer = [
-        "--left=0,1:1,idle",
-        "--right=0,2:1",
-        "--point=2",
-        "--any-log",
-    ];
+    let longer = ["--left=0,1:1,idle", "--right=0,2:1", "--point=2"];
     let unequal =
         "16: the left half has 2 steps and the right half 1 step; matching halves are equally long";
     let none = "14: there is no splitting 9; the log has 2 splittings, counted from 0";

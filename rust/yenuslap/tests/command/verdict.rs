@@ -8,23 +8,16 @@ fn verdicts(options: &[&str], expected: &str) {
     prints(&[&["verdict", "-"], options].concat(), &CASE_A, expected);
 }
 
-/// Demands these verdicts on case A at every point.
-fn at_all(options: &[&str], expected: &str) {
-    verdicts(&[options, &["--point", "all"]].concat(), expected);
-}
-
-/// The joint verdicts that document 01 states for case A's machines; if no point is named, at the log's end.
+/// The joint verdicts that document 01 states for case A's machines.
 #[test]
 fn on_the_log() {
-    at_all(&[], "point 0: F\npoint 1: T\n");
-    verdicts(&[], "point 1: T\n");
-    verdicts(&["--point", "0"], "point 0: F\n");
+    verdicts(&[], "point 0: F\npoint 1: T\n");
     verdicts(&["--point", "1"], "point 1: T\n");
     verdicts(&["--formula", "<-1> true", "--point=1"], "point 1: F\n");
     verdicts(&["--formula", "<0> true", "--point", "0"], "point 0: T\n");
     verdicts(&["--formula", "<2> true", "--point", "0"], "point 0: T\n");
-    at_all(&["--formula", "<idle> true"], "point 0: T\npoint 1: T\n");
-    at_all(
+    verdicts(&["--formula", "<idle> true"], "point 0: T\npoint 1: T\n");
+    verdicts(
         &["--formula", "<-idle> true or not <1> true"],
         "point 0: F\npoint 1: T\n",
     );
@@ -35,14 +28,13 @@ fn on_the_log() {
 fn on_a_half() {
     let left = ["--half", "left", "--splitting", "0"];
     let with = |formula| [&left[..], &["--formula", formula]].concat();
-    at_all(&left, "point 0: F\npoint 1: F\n");
-    at_all(&with("<-1> true"), "point 0: F\npoint 1: T\n");
-    verdicts(&with("<-1> true"), "point 1: T\n");
-    at_all(&with("<1> true"), "point 0: T\npoint 1: F\n");
-    at_all(&with("<2> true"), "point 0: F\npoint 1: F\n");
-    at_all(&with("<0> true"), "point 0: F\npoint 1: F\n");
+    verdicts(&left, "point 0: F\npoint 1: F\n");
+    verdicts(&with("<-1> true"), "point 0: F\npoint 1: T\n");
+    verdicts(&with("<1> true"), "point 0: T\npoint 1: F\n");
+    verdicts(&with("<2> true"), "point 0: F\npoint 1: F\n");
+    verdicts(&with("<0> true"), "point 0: F\npoint 1: F\n");
     let right = [
-        "--half=right",
+        "--side=right",
         "--splitting=1",
         "--formula=<-4> true",
         "--point=1",
@@ -56,11 +48,9 @@ fn for_the_line_office() {
     let office = ["--line-office", "--splitting", "1"];
     let with = |more: &[&'static str]| [&office[..], more].concat();
     let by_right = "point 0: line F, left machine F\npoint 1: line T, left machine T\n";
-    at_all(&with(&["--known", "right"]), by_right);
+    verdicts(&with(&["--known", "right"]), by_right);
     let by_left = "point 0: line F, right machine F\npoint 1: line T, right machine T\n";
-    at_all(&with(&["--known", "left"]), by_left);
-    let end = "point 1: line T, right machine T\n";
-    verdicts(&with(&["--known", "left"]), end);
+    verdicts(&with(&["--known", "left"]), by_left);
     let ahead = "point 0: line T, right machine T\n";
     verdicts(
         &with(&["--known=left", "--point=0", "--formula=<2> true"]),
@@ -117,8 +107,7 @@ fn refused() {
     assert_eq!((ran.err, ran.status), (large, Some(1)));
     // The log's own verdict needs no quotient, and its splittings need not be few.
     prints(&["verdict", name], b"", "point 0: F\n");
-    let name = "cases/refused_13_sixteen_two_way_steps.casebook";
-    let ran = run(&["verdict", "--point=all", name]);
+    let ran = run(&["verdict", "cases/refused_13_sixteen_two_way_steps.casebook"]);
     assert_eq!((ran.status, ran.text().lines().count()), (Some(0), 17));
 }
 
@@ -141,11 +130,11 @@ fn refused_statements() {
     let most = format!("{}true", "not ".repeat(4_095));
     verdicts(&["--formula", &most, "--point", "0"], "point 0: F\n");
     let over = format!("(true or true) and {}true", "not ".repeat(4_092));
-    let large = "line 1, column 16384: with this node, and the operands still due, the tree has over 4,096 nodes; a formula has at most 4,096 nodes";
+    let large = "line 1, column 16384: with this node the tree is too large; a formula has at most 4,096 nodes";
     refused(&["--formula", &over], 9, large);
     let question = format!("{}true", "not ".repeat(64));
     let large =
-        "line 1, column 253: with this node, and the operands still due, the tree has over 64 nodes; a question has at most 64 nodes";
+        "line 1, column 253: with this node the tree is too large; a question has at most 64 nodes";
     let office = ["--line-office", "--splitting=0", "--known=right"];
     refused(&[&office[..], &["--formula", &question]].concat(), 9, large);
 }
@@ -154,8 +143,7 @@ fn refused_statements() {
 #[test]
 fn wrong_statements() {
     let ran = run_with(&["verdict", "-", "--formula", "true and\nor"], &CASE_A);
-    let wrong =
-        "expected a statement (true, false, not, <label>, [label] or a parenthesis), found `or`";
+    let wrong = "expected a statement (true, false, not, <label> or a parenthesis), found `or`";
     assert_eq!(
         ran.err,
         format!("yenuslap: verdict: --formula: line 2, column 1: {wrong}; see yenuslap verdict --help\n")
@@ -163,116 +151,29 @@ fn wrong_statements() {
     assert_eq!(ran.status, Some(2));
 }
 
-/// By halves that are given: no number is needed. With `--any-log` they need not be those of the casebook's log.
+/// By halves that are given: no number is needed, and they need not be those of the casebook's log.
 #[test]
 fn by_halves() {
-    let first = ["--left=0,1:1", "--right=0,2:1", "--formula=<-1> true"];
-    let with = |more: &[&'static str]| [&first[..], more].concat();
-    at_all(&with(&["--half=left"]), "point 0: F\npoint 1: T\n");
-    verdicts(&with(&["--half=right"]), "point 1: F\n");
-    let office = ["--line-office", "--known=right"];
-    let both = "point 1: line F, left machine F\n";
-    verdicts(&with(&office), both);
-    let hex = ["--hex", "--left=000101", "--right=000201"];
-    verdicts(&[&hex[..], &["--half=left"]].concat(), "point 1: F\n");
-    let alone = ["--left=0,1:1", "--right=0,idle", "--any-log"];
+    let alone = ["--left=0,1:1", "--right=0,idle"];
     let with = |more: &[&'static str]| [&alone[..], more].concat();
     let formula = "--formula=<-1> true";
-    at_all(&with(&["--half=left", formula]), "point 0: F\npoint 1: T\n");
-    at_all(
+    verdicts(&with(&["--half=left", formula]), "point 0: F\npoint 1: T\n");
+    verdicts(
         &with(&["--half=right", formula]),
         "point 0: F\npoint 1: F\n",
     );
     let both = "point 0: line F, left machine F\npoint 1: line T, left machine T\n";
-    at_all(&with(&[&office[..], &[formula]].concat()), both);
+    let office = ["--line-office", "--known=right"];
+    verdicts(&with(&[&office[..], &[formula]].concat()), both);
     // Case A's own question is back by 0, and the left moved alone by 1.
     let last = "point 1: line F, left machine F\n";
     verdicts(&with(&[&office[..], &["--point=1"]].concat()), last);
-    // Longer halves than the log have more points, and their end is another.
-    let longer = ["--left=0,1:1,idle", "--right=0,2:1,idle", "--any-log"];
-    let left = [&longer[..], &["--half=left"]].concat();
-    at_all(&left, "point 0: F\npoint 1: F\npoint 2: F\n");
-    verdicts(&left, "point 2: F\n");
+    // Longer halves than the log have more points.
+    let longer = ["--left=0,1:1,idle", "--right=0,2:1,idle", "--half=left"];
+    verdicts(&longer, "point 0: F\npoint 1: F\npoint 2: F\n");
 }
 
-/// The judged half alone: the log says what the other one did. With `--any-log` nothing is said of it.
-#[test]
-fn by_one_half() {
-    let left = ["--half=left", "--left=0,3:1", "--formula=<-3> true"];
-    at_all(&left, "point 0: F\npoint 1: T\n");
-    let right = ["--half=right", "--right=0,4:1", "--formula=<-4> true"];
-    at_all(&right, "point 0: F\npoint 1: T\n");
-    let free = ["--half=left", "--left=0,idle,1:1", "--any-log"];
-    let with = |formula| [&free[..], &["--formula", formula]].concat();
-    verdicts(&with("<-1><-idle> true"), "point 2: T\n");
-    verdicts(&with("<-idle> true"), "point 2: F\n");
-    // The line office needs both halves, and the log completes the known one.
-    let office = ["--line-office", "--known=left", "--left=0,3:1"];
-    verdicts(&office, "point 1: line T, right machine T\n");
-    let no_row =
-        "step 1 of the left half goes from 0 by label 9 to 1, and the left table has no such row";
-    for more in [&["--half=left"][..], &["--half=left", "--any-log"]] {
-        let complaint = format!("standard input: refused 15: {no_row}");
-        let arguments = [&["verdict", "-", "--left=0,9:1"], more].concat();
-        complains(&arguments, &CASE_A, 1, &complaint);
-    }
-    let odd = "standard input: refused 15: the left half has 2 bytes; a half has one byte, and two for each step";
-    let bytes = ["verdict", "-", "--hex", "--half=left", "--left=00ff"];
-    complains(&bytes, &CASE_A, 1, odd);
-    let odd = odd.replace("15", "12");
-    complains(&[&bytes[..], &["--any-log"]].concat(), &CASE_A, 1, &odd);
-}
-
-/// A statement in hexadecimal, as `sheet` prints quotients; `ff` and `tt` are statements.
-#[test]
-fn hexadecimal_statements() {
-    at_all(&["--formula", "06000000"], "point 0: F\npoint 1: T\n");
-    let left = ["--half=left", "--splitting=0", "--formula"];
-    at_all(
-        &[&left[..], &["06010000"]].concat(),
-        "point 0: F\npoint 1: T\n",
-    );
-    verdicts(&["--formula", " 06010000\n"], "point 1: F\n");
-    verdicts(&["--formula", "0400010005000000"], "point 1: F\n");
-    verdicts(&["--formula", "ff"], "point 1: F\n");
-    verdicts(&["--formula", "tt"], "point 1: T\n");
-    verdicts(&["--formula", "¬ ff ∧ [1] ff"], "point 1: T\n");
-}
-
-/// What is wrong with hexadecimal, by its node.
-#[test]
-fn wrong_hexadecimal() {
-    let misused = |text: &str, node: usize, found: usize| {
-        let wrong = format!(
-            "node {node}: expected 4 hexadecimal digits (operator and label), found {found}"
-        );
-        let complaint = format!("verdict: --formula: {wrong}; see yenuslap verdict --help");
-        complains(&["verdict", "-", "--formula", text], &CASE_A, 2, &complaint);
-    };
-    misused("0", 1, 1);
-    misused("FF", 1, 2);
-    misused("0601000", 2, 3);
-    let refused = |text: &str, number: u8, sentence: &str| {
-        let complaint = format!("standard input: refused {number}: --formula: {sentence}");
-        complains(&["verdict", "-", "--formula", text], &CASE_A, 1, &complaint);
-    };
-    let label = "node 2: label 5 is out of range; with k 2 the labels are 0 to 4";
-    refused("020006050000", 9, label);
-    let operator = "node 1: operator 12 is out of range; operators are 0 to 8";
-    refused("0c00", 9, operator);
-    let no_label = "node 2: operator 0 takes no label, but its label byte is 1; it must be 0";
-    refused("06010001", 9, no_label);
-    let over = "node 2: the tree is whole before this node; a formula is one whole tree";
-    refused("00000000", 9, over);
-    let early =
-        "behind node 2: the nodes end with 2 operands still due; a formula is one whole tree";
-    refused("03000400", 9, &early.replace("2 operands", "3 operands"));
-    refused("02000300", 9, early);
-    let deep = "node 5: it is a forward modality under four others; forward modalities nest at most 4 deep";
-    refused("050005000500050005000000", 10, deep);
-}
-
-/// 15 and 16 of halves that are given: the half that is at fault, and the step.
+/// 15 and 16 of halves that are given: the half that is judged, and the step.
 #[test]
 fn refused_halves() {
     let refused = |halves: [&str; 2], subject: &[&str], number: u8, sentence: &str| {
@@ -283,27 +184,17 @@ fn refused_halves() {
     let no_row = |side: &str| {
         format!("step 1 of the {side} half goes from 0 by label 9 to 1, and the {side} table has no such row")
     };
+    let wrong = ["0,9:1", "0,9:1"];
     let office = ["--line-office", "--known=right"];
-    // Both halves are looked at, whichever is judged.
-    for subject in [&["--half=right"][..], &["--half=left"], &office] {
-        for free in [&[][..], &["--any-log"]] {
-            let subject = [subject, free].concat();
-            refused(["0,9:1", "0,9:1"], &subject, 15, &no_row("left"));
-            refused(["0,1:1", "0,9:1"], &subject, 15, &no_row("right"));
-        }
-    }
+    refused(wrong, &["--half=right"], 15, &no_row("right"));
+    refused(wrong, &["--half=left"], 15, &no_row("left"));
+    refused(wrong, &office, 15, &no_row("left"));
     let rule =
         "a move matches an idle or a move by its label's partner, and an idle matches an idle";
     let sentence = format!(
         "at step 1 the left half moves by label 1 and the right half moves by label 4; {rule}"
     );
-    for subject in [
-        &["--half=right"][..],
-        &["--half=left", "--any-log"],
-        &office,
-    ] {
-        refused(["0,1:1", "0,4:1"], subject, 16, &sentence);
-    }
+    refused(["0,1:1", "0,4:1"], &office, 16, &sentence);
 }
 
 /// A quotient that is too large at one point hides no other point: the lines are those of the stored sheet.
@@ -330,7 +221,6 @@ fn too_large_at_some_points() {
         "--line-office",
         "--splitting=0",
         "--known=right",
-        "--point=all",
     ]);
     assert_eq!(ran.text(), expected);
     assert!(expected.contains("refused 17") && expected.contains("machine"));

@@ -15,12 +15,15 @@ fn text_with(section: usize, replaced: &str) -> String {
     sections.concat()
 }
 
-/// Demands a refusal of the text with this section replaced, in the first line: `flaws.rs` has what may follow it.
+/// Demands a refusal of the text with this section replaced.
 fn refused(section: usize, replaced: &str, number: u8, sentence: &str) {
-    let ran = run_with(&["write", "-"], text_with(section, replaced).as_bytes());
-    let complaint = format!("yenuslap: standard input: refused {number}: {sentence}");
-    assert_eq!(ran.err.lines().next(), Some(complaint.as_str()));
-    assert_eq!((ran.status, ran.text().as_str()), (Some(1), ""));
+    let complaint = format!("standard input: refused {number}: {sentence}");
+    complains(
+        &["write", "-"],
+        text_with(section, replaced).as_bytes(),
+        1,
+        &complaint,
+    );
 }
 
 /// Numbers 4 to 10, each with its line; the lines are those of the whole text.
@@ -48,7 +51,7 @@ fn refused_with_its_line() {
     refused(2, "right 2\n 0 2 2\n", 5, "line 6, column 2: row 1 of the right table: to 2 is out of range; the table has 2 states, counted from 0");
     refused(1, "left 2\n  0 3 1\n  0 1 1\n", 6, "line 4, column 3: row 2 of the left table: 0 1 1 is not above the row before it, 0 3 1; rows rise strictly by from, label and to");
     refused(3, "log 0 2\n", 8, "line 8, column 1: the log's start states: right start state 2 is out of range; the right table has 2 states, counted from 0");
-    refused(3, "log 0 0\n  idle 0 0\n\n  1 1 1\n", 8, "line 11, column 3: step 2 of the log: label 1 from (0, 0) to (1, 1) is not real; neither machine makes this step alone, no handshake makes it, and it is no joint idle; the real steps from there are 0 1 1, 1 1 0, 2 0 1, 3 1 0, 4 0 1, idle 0 0");
+    refused(3, "log 0 0\n  idle 0 0\n\n  1 1 1\n", 8, "line 11, column 3: step 2 of the log: label 1 from (0, 0) to (1, 1) is not real; neither machine makes this step alone, no handshake makes it, and it is no joint idle");
     refused(4, "question not\n  <9> true\n", 9, "line 11, column 3: node 2 of the question: label 9 is out of range; with k 2 the labels are 0 to 4");
     refused(4, "question <1><1><1><1>\n<idle> true\n", 10, "line 11, column 1: node 5 of the question: it is a forward modality under four others; forward modalities nest at most 4 deep");
 }
@@ -57,21 +60,18 @@ fn refused_with_its_line() {
 #[test]
 fn too_many_entries() {
     let rows: String = (0..9).map(|to| format!("0 0 {to}\n")).collect();
-    refused(1, &format!("left 9\n{rows}"), 7, "line 11, column 1: row 9 of the left table: with it over 8 rows leave state 0; at most 8 rows leave one state");
+    refused(1, &format!("left 9\n{rows}"), 7, "line 11, column 1: row 9 of the left table: it is a ninth row from state 0; at most 8 rows leave one state");
     let rows: String = (0..=64)
         .flat_map(|from| (0..8).map(move |to| format!("{from} 0 {to}\n")))
         .collect();
-    refused(1, &format!("left 64\n{rows}"), 3, "line 515, column 1: row 513 of the left table: with this row the table is too long; a table has at most 512 rows");
+    refused(1, &format!("left 64\n{rows}"), 3, "line 515, column 1: row 513 of the left table: with this row the table is too long; its record has a length of at most 1,539");
     // The length is judged before the rows, so an earlier fault is not meant.
     let faulty = rows.replacen("0 0 0", "0 99 0", 1);
-    refused(1, &format!("left 64\n{faulty}"), 3, "line 515, column 1: row 513 of the left table: with this row the table is too long; a table has at most 512 rows");
+    refused(1, &format!("left 64\n{faulty}"), 3, "line 515, column 1: row 513 of the left table: with this row the table is too long; its record has a length of at most 1,539");
     let steps = "idle 0 0\n".repeat(250);
     refused(3, &format!("log 0 0\n{steps}"), 3, "line 209, column 1: step 201 of the log: with this step the log is too long; it has at most 200 steps");
     let nots = "not ".repeat(64);
-    refused(4, &format!("question {nots}true"), 9, "line 10, column 262: node 64 of the question: with this node, and the operands still due, the tree has over 64 nodes; a question has at most 64 nodes");
-    // The last node that square brackets stand for is one too many, and it stands at the bracket.
-    let boxed = format!("question {}\n [1] true", "not ".repeat(61));
-    refused(4, &boxed, 9, "line 11, column 2: node 64 of the question: with this node, and the operands still due, the tree has over 64 nodes; a question has at most 64 nodes");
+    refused(4, &format!("question {nots}true"), 9, "line 10, column 262: node 64 of the question: with this node the tree is too large; a question has at most 64 nodes");
     let most = "not ".repeat(63);
     assert_eq!(
         run_with(
@@ -94,7 +94,7 @@ fn wrong(text: &str, place: &str, message: &str) {
 fn syntax_errors() {
     let byte = "(a number from 0 to 255)";
     wrong(
-        "\n",
+        "",
         "line 1, column 1",
         "expected `pairs`, found the end of the text",
     );
@@ -178,19 +178,6 @@ fn syntax_errors() {
         "line 9, column 3",
         "expected a step (label, left target, right target) or `question`, found `rest`",
     );
-    // The word that is nearest is offered; in a row `idle` is none.
-    let step = "expected a step (label, left target, right target) or `question`, found";
-    for (found, hint) in [("idl", "idle"), ("Idle", "idle"), ("questoin", "question")] {
-        let log = format!("log 0 0\n  {found} 0 0\n");
-        let expected = format!("{step} `{found}` (did you mean {hint}?)");
-        wrong(&text_with(3, &log), "line 9, column 3", &expected);
-    }
-    let row = "expected a row (from, label, to) or `right`, found";
-    for (found, hint) in [("idl", ""), ("rigth", " (did you mean right?)")] {
-        let left = format!("left 2\n  {found} 0 0\n");
-        let expected = format!("{row} `{found}`{hint}");
-        wrong(&text_with(1, &left), "line 3, column 3", &expected);
-    }
     wrong(&text_with(4, ""), "line 9, column 8", "expected a step (label, left target, right target) or `question`, found the end of the text");
     // Columns are characters: this blank has two bytes.
     let expected = format!("expected the number of pairs {byte}, found `x`");
@@ -205,9 +192,9 @@ fn syntax_errors() {
 /// The same for statements.
 #[test]
 fn wrong_statements() {
-    let statement = "expected a statement (true, false, not, <label>, [label] or a parenthesis)";
-    let label = "expected idle or a label (a number from 0 to 255)";
-    let after = "expected `and`, `or`, or the end of the statement";
+    let statement = "expected a statement (true, false, not, <label> or a parenthesis)";
+    let label = "expected a label or idle (a number from 0 to 255)";
+    let after = "expected and, or, or the end of the statement";
     let faults = [
         ("", 9, format!("{statement}, found the end of the text")),
         ("yes", 10, format!("{statement}, found `yes`")),
@@ -225,23 +212,7 @@ fn wrong_statements() {
         ("<1 true", 13, "expected `>`, found `true`".to_string()),
         ("true false", 15, format!("{after}, found `false`")),
         ("true)", 14, format!("{after}, found `)`")),
-        ("true => true", 15, format!("{after}, found `=`")),
-        ("true &&& true", 17, format!("{statement}, found `&`")),
-        ("true | | true", 17, format!("{statement}, found `|`")),
-        ("⊤", 10, format!("{statement}, found `⊤`")),
-        (
-            "tt ∧",
-            14,
-            format!("{statement}, found the end of the text"),
-        ),
-        ("⟨⟩ tt", 11, format!("{label}, found `⟩`")),
-        ("[-] tt", 12, format!("{label}, found `]`")),
-        ("[true] tt", 11, format!("{label}, found `true`")),
-        ("<1⟩ tt", 12, "expected `>`, found `⟩`".to_string()),
-        ("⟨1> tt", 12, "expected `⟩`, found `>`".to_string()),
-        ("[1> tt", 12, "expected `]`, found `>`".to_string()),
-        ("<idle] tt", 15, "expected `>`, found `]`".to_string()),
-        ("tt ]", 13, format!("{after}, found `]`")),
+        ("true & true", 15, format!("{after}, found `&`")),
         (
             "(true",
             15,
@@ -251,7 +222,7 @@ fn wrong_statements() {
         (
             "(true true)",
             16,
-            "expected `and`, `or`, or `)`, found `true`".to_string(),
+            "expected and, or, or `)`, found `true`".to_string(),
         ),
     ];
     for (text, column, message) in faults {
@@ -267,8 +238,6 @@ fn deep_nesting() {
         ("(", 1),
         ("not ", 4),
         ("<1>", 3),
-        ("[1]", 3),
-        ("¬", 1),
         ("true and ", 9),
         ("(true or ", 9),
     ] {
@@ -290,14 +259,6 @@ fn deep_nesting() {
     assert_eq!(run_with(&["write", "-"], text.as_bytes()).status, Some(0));
     let text = text_with(4, &format!("question {}true", "not ".repeat(4_096)));
     assert_eq!(run_with(&["write", "-"], text.as_bytes()).status, Some(1));
-    // Square brackets count for three.
-    for (count, status) in [(1_365, 1), (1_366, 2)] {
-        let text = text_with(4, &format!("question {}true", "[1]".repeat(count)));
-        assert_eq!(
-            run_with(&["write", "-"], text.as_bytes()).status,
-            Some(status)
-        );
-    }
     // Chains to the left are no nesting.
     let text = text_with(
         4,
