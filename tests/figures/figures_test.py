@@ -14,6 +14,18 @@ figures = module_from_spec(spec_from_loader("figures", loader))
 loader.exec_module(figures)
 
 TEST_LOG = """kept: commit abc1234, 2026-11-16, on 2 cores
+rt: low proved (4 s)
+rt: high proved (11 s)
+rt: high ran as nobody, and wrote what its file 'stdout' has (1 s)
+rt: must-fail low/one: refused, as it must be (first at proofs/one/Proof.antt:3:5; 7 s)
+rt: must-fail low/other: refused, as it must be (2 s)
+rt: must-fail low/bad: NOT REFUSED: the crate is still proved with this edit (9 s)
+test result: ok. 12 passed; 0 failed; 0 ignored
+18 passed, 1 failed
+kept: 125 s
+"""
+
+TODAY_LOG = """kept: commit abc1234, 2026-11-16, on 2 cores
 == low
 fn low::a: proved
 logic=proved functions=2 sum=dac8208d650f15bf native=nat,char,string logic-built=trusted libraries-built=trusted
@@ -36,7 +48,7 @@ kept: 125 s
 """
 
 BENCH_LOG = """kept: commit abc1234, 2026-11-16, on 2 cores
-rt: sheet proved (after 12 s)
+rt: sheet proved (12 s)
 median time of one call, engine and plain implementation interleaved
     engine      plain engine/plain  what
 verdict: small calls
@@ -52,7 +64,7 @@ kept: 9 s
 def made_up_repository(root):
     """Two crates, the lower one with all kinds of lines."""
     files = {
-        "crates.txt": "# lines\nlow:\nhigh staticlib: low\n",
+        "crates.txt": "# lines\nlow:\nhigh: low io\n",
         "crates/low/src/lib.rt": "pub fn a() {}\nfn b() {}\n    pub extern \"C\" fn c() {}\n",
         "crates/low/specs/A.antt": "λ" * 121 + "\n" + "λ" * 120 + "\n",
         "crates/low/proofs/Laws.antt": "x" * 201 + "\n",
@@ -85,12 +97,25 @@ class Figures(unittest.TestCase):
         self.assertIn("| **all** | 4 | 2 | 1 | 2 | 1 | 2 | 2 | 1 |", text)
 
     def test_times(self):
-        text = figures.times_section(TEST_LOG, ["low", "kept", "high"])
+        text = figures.times_section(TEST_LOG, ["low", "high"])
+        self.assertIn("commit abc1234, 2026-11-16, on 2 cores: 2 minutes 5 seconds, `18 passed, 1 failed`", text)
+        self.assertIn("| low | 4 | 2 | 9 | 7 |", text)
+        self.assertIn("| high | 11 | 0 | 0 | 0 |", text)
+        self.assertIn("| **all** | 15 | 2 | 9 | 7 |", text)
+
+    def test_times_today(self):
+        text = figures.times_section(TODAY_LOG, ["low", "kept", "high"])
         self.assertIn("commit abc1234, 2026-11-16, on 2 cores: 2 minutes 5 seconds, `18 passed, 1 failed`", text)
         self.assertIn("| low | 4 | 2 | 2 |", text)
         self.assertIn("| kept |  |  | 1 |", text)
         self.assertIn("| high | 11 | 1 | 0 |", text)
         self.assertIn("| **all** | 11 | 3 | 3 |", text)
+
+    def test_static_library(self):
+        with tempfile.TemporaryDirectory() as folder:
+            root = Path(folder)
+            (root / "crates.txt").write_text("# lines\nlow:\nhigh staticlib: low\n")
+            self.assertEqual(figures.crates_of(root), ["low", "high"])
 
     def test_ratios(self):
         text = figures.ratios_section(BENCH_LOG)

@@ -126,9 +126,9 @@ module _ (f : List ℕ) (room : 2 ≤ length f) where
       pub first_missing : n ≡ 0 → 0 ≡ tree_size f
       first_missing z = sym (no_tree f (λ t. tree-size (drop 2 f) (first_operand f t no_leaf) (sym q ∙ z)))
 
-      module _ (some_IsFirst : n ≡ 0 → ⊥) where
+      module _ (some_first : n ≡ 0 → ⊥) where
         first-tree : Tree (drop 2 f)
-        first-tree = size-tree (drop 2 f) (λ z. some_IsFirst (q ∙ z))
+        first-tree = size-tree (drop 2 f) (λ z. some_first (q ∙ z))
 
         pub one_size : k ≡ 1 → 1 + n ≡ tree_size f
         unfolding Tree

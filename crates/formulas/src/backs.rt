@@ -11,7 +11,8 @@ pub fn back_depth(f: &[u8]) -> usize
 {
     match tree_end(f) {
         TreeEnd::At(end) => {
-            if end != f.len() {
+            let longer = end != f.len();
+            if longer {
                 return 0;
             }
         }

@@ -8,6 +8,7 @@ pub mod EndingLaws
 pub mod PointTurns
 pub mod TurnLaws
 pub mod WindowLines
+pub mod WindowTexts
 pub mod PointLines
 pub mod FillLaws
 pub mod PartsLines

@@ -24,7 +24,7 @@ use Rattle.sheet_lines.specs.declared.kept.Kept.{Kept}
 use Rattle.sheet_lines.specs.declared.point.Point.{Point}
 use Rattle.sheet_lines.proofs.CaseLaws.{between_end}
 use Rattle.sheet_lines.proofs.Filling.{listed-agree}
-use Rattle.sheet_lines.proofs.WindowLines.{line_windowed}
+use Rattle.sheet_lines.proofs.WindowTexts.{line_windowed}
 
 -- the count of a log that can be numbered
 pub counted-log : (c : Case) → Splits c → counted_as (count_in c) ≡ ways_of c

@@ -1,5 +1,5 @@
--- A line of the sheet, by its window: the quotient is that by a splitting of the window (Windows of quotient), and the
--- left half's verdict is the joint one (demand 3).
+-- A line of the sheet and its window (Windows of quotient): the left half's verdict is the joint one (demand 3), and the
+-- question reaches no further back than the window. WindowTexts has what the line shows.
 use Prim.Native.Nat.{ℕ, ◌-◌, ◌/◌, ◌%◌, ◌≤◌, ◌<◌}
 use mathlib.Core.Path.{◌≡◌, refl, sym, ◌∙◌, ap, ap₂}
 use mathlib.Core.Bool.{Bool, true, false}
@@ -38,14 +38,14 @@ use Rattle.sheet_lines.specs.Working.{line_in}
 -- a point of a log that no check refuses, and one of its splittings, where they can be numbered
 module _ (c : Case) (asked : Asked c) (p : ℕ) (within : p ≤ steps (joint_of c.run)) (n : ℕ) (below : n < ways_of c)
     (few : ways_of c ≤ splitting_limit) where
-  abbrev left : List ℕ
+  abbrev pub left : List ℕ
   left = left_half c.labels c.left c.right c.run n
 
-  decomposed : Decomposed c left (half_in c n) side.Right p (answer_at c p n) (output_at c p n)
+  pub decomposed : Decomposed c left (half_in c n) side.Right p (answer_at c p n) (output_at c p n)
   decomposed = (demand_three c side.Right p asked.log asked.question within).by_numbers n below few
 
   -- the left half's letter is the log's, or is not shown
-  same_letter : ending_of (quotient_at c p n) (text_at c p n)
+  pub same_letter : ending_of (quotient_at c p n) (text_at c p n)
       (letter_of (half_verdict c.labels c.left left (text_at c p n) p))
       ≡ ending_of (quotient_at c p n) (text_at c p n) (letter_at c p)
   unfolding quotient_at text_at ending_of tree_by_number text_of
@@ -64,50 +64,22 @@ module _ (c : Case) (asked : Asked c) (p : ℕ) (within : p ≤ steps (joint_of 
 
   -- with a window that reaches as far back as the question does
   module _ (b : ℕ) (back : b ≡ backs_of c.question) where
-    abbrev w : Case
+    abbrev pub w : Case
     w = with_run c (window_of c.run p b)
 
-    abbrev t : ℕ
+    abbrev pub t : ℕ
     t = n / ways_of (with_run c (rest_of c.run p)) % ways_of w
 
-    window : Windowed c.labels c.left c.right c.run p b
+    pub window : Windowed c.labels c.left c.right c.run p b
     window = windowed _ _ _ _ p b asked.log within
 
-    points : length w.run / 3 ≡ p - (p - b)
+    pub points : length w.run / 3 ≡ p - (p - b)
     points = sym (sound_log _ _ _ _ window.window).run.counted ∙ window.points
 
     -- the question reaches no further
-    reach : backs decomposed.question ≤ b
+    pub reach : backs decomposed.question ≤ b
     unfolding backs_of backs_in
     reach =
         let e : backs_of c.question ≡ backs decomposed.question = ap backs_in
         (ap formula_of decomposed.asked ∙ formula_spell decomposed.question) in
         omega (arith, e, back)
-
-    -- the tree is the window's
-    same-tree : tree_at c p n ≡ tree_at w (length w.run / 3) t
-    same-tree =
-        rw points (window.tree c.question decomposed.question
-        (ap formula_of decomposed.asked ∙ formula_spell decomposed.question) reach n below side.Right)
-
-    -- so is what the call answers
-    same_answer : quotient_at c p n ≡ quotient_at w (length w.run / 3) t
-    unfolding quotient_at by_number splitting_limit
-    same_answer =
-        let here = by_number_sound _ _ _ _ (log_parts _ _ _ _ asked.log) p within _ asked.question n below few in
-        let there = by_number_sound _ _ _ _ (log_parts _ _ _ _ window.window) (length w.run / 3)
-        (omega (arith, window.points, points)) _ asked.question t
-        (mod-lt (n / ways_of (with_run c (rest_of c.run p))) window.some_window)
-        (omega (arith, window.few_window, few)) in
-        rw (here, there) (ap (λ x. answer_of Sound x text_room) same-tree)
-
-    same_text : text_at c p n ≡ text_at w (length w.run / 3) t
-    unfolding text_at
-    same_text = ap text_of same-tree
-
-    -- the line
-    pub line_windowed : line_of c p n ≡ line_in w (letter_at c p) p n t
-    unfolding line_of line_in ending_in
-    line_windowed =
-        ap (head_of p n (letter_at c p) ++◌)
-        (same_letter ∙ ap₂ (λ a x. ending_of a x (letter_at c p)) same_answer same_text)

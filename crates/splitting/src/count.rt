@@ -27,7 +27,8 @@ pub fn count(labels: Labels, left: &[u8], right: &[u8], run: &[u8]) -> Counted
         Check::Refused(refusal) => return Counted::Refused(refusal),
     }
     let splittings = count_splittings(labels, left, right, run);
-    if 65535 < splittings {
+    let too_many = 65535 < splittings;
+    if too_many {
         return Counted::Refused(Refusal::TooManySplittings);
     }
     Counted::Splittings(splittings)

@@ -10,11 +10,11 @@ returns-in-Refused c = log_refused _ _ _ _ _ (sym c.check_log.ensures ∙ c.in-R
 pub count_splittings-splittings-requires : goal.count_splittings-splittings-requires
 count_splittings-splittings-requires c = sound_ready _ _ _ _ (sym c.check_log.ensures ∙ c.in-Sound.is)
 
-pub returns-then-splittings-gt65535 : goal.returns-then-splittings-gt65535
-returns-then-splittings-gt65535 c = too_many _ _ _ _ (sym c.check_log.ensures
-    ∙ c.in-Sound.is) _ c.count_splittings-splittings.ensures c.if-splittings-gt65535.true
+pub returns-then-too_many : goal.returns-then-too_many
+returns-then-too_many c = too_many _ _ _ _ (sym c.check_log.ensures
+    ∙ c.in-Sound.is) _ c.count_splittings-splittings.ensures c.if-too_many.true
 
 pub returns : goal.returns
 returns c = few_enough _ _ _ _
     (sym c.check_log.ensures ∙ c.in-Sound.is) _
-    c.count_splittings-splittings.ensures c.if-splittings-gt65535.false
+    c.count_splittings-splittings.ensures c.if-too_many.false
