@@ -73,7 +73,8 @@ module _ (ψ : Formula) where
 
     pub rest_kept : (out : List ℕ) → 2 * size ψ ≤ length out
         → drop (2 * size ψ) (output_after Sound (some ψ) out) ≡ drop (2 * size ψ) out
-    rest_kept out i = rw (text_output_lem out i) (drop_at (spell ψ []) (drop (2 * size ψ) out) (2 * size ψ) (text-length ψ))
+    rest_kept out i = rw (text_output_lem out i) (drop_at (spell ψ []) (drop (2 * size ψ) out) (2 * size ψ)
+        (text-length ψ))
 
   -- 17 comes for no other reason
   pub exactly_too_large : (room : ℕ)

@@ -7,8 +7,6 @@ mod answers;
 mod frame;
 mod line;
 
-ghost use Rattle.std.specs.Prelude.{◌≤◌, length, IfOk};
-
 use answers::{
     put_call, put_has, put_known, put_label, put_leaving, put_partners, put_row, put_step,
     put_then, side_of,
@@ -19,7 +17,8 @@ use halves::side::cut;
 use labels::label::{Label, Labels};
 use line::{put_bytes, put_check, put_end, put_mark};
 use machines::joint::check_joint;
-use std::io::{self, Read};
+use reading::read_full;
+use std::io;
 use tables::check::check_table;
 use tables::row::Row;
 
@@ -124,21 +123,6 @@ fn print_trials(rt: &impl Print, input: &[u8]) -> io::Result<()> {
         at = end;
     }
     Ok(())
-}
-
-// Reads until the buffer is full or the input ends; how many bytes then stand in its front.
-fn read_full(input: &mut impl Read, buffer: &mut [u8]) -> io::Result<usize>
-    ensures { IfOk result (λ n. n ≤ length buffer.new) }
-{
-    let mut n = 0;
-    while n < buffer.len() {
-        let read = input.read(&mut buffer[n..])?;
-        if read == 0 {
-            break;
-        }
-        n += read;
-    }
-    Ok(n)
 }
 
 fn main(rt: HostRuntime) -> io::Result<()> {

@@ -1,4 +1,4 @@
-// The refusals of document 01, and its labels; the smaller of two numbers.
+// The refusals of document 01, and its labels; the smaller of two numbers, and bytes copied.
 #![tactic(auto)]
 
 pub mod copying;

@@ -3,15 +3,16 @@
 
 mod output;
 
-ghost use Rattle.std.specs.Prelude.{◌≡◌, true, List, ℕ, ◌+◌, ◌≤◌, ◌<◌, length, take, IfOk};
+ghost use Rattle.std.specs.Prelude.{◌≡◌, true, List, ℕ, ◌+◌, ◌≤◌, ◌<◌, length, take};
 ghost use Rattle.casebook.specs.Reading.{longest_casebook};
 ghost use Rattle.sheet_lines.specs.Sheets.{sheet_of};
 ghost use Rattle.sheet_lines.specs.Blocks.{block_from};
 
 use crate::output::Printed;
 use casebook::read::LONGEST;
+use reading::read_full;
 use sheet_lines::block::write_block;
-use std::io::{self, Read};
+use std::io;
 
 // No casebook is longer than the longest, so one byte more is enough to judge any input. A read or a write that fails
 // ends the program with an error.
@@ -24,21 +25,6 @@ fn main(rt: HostRuntime) -> io::Result<()> {
         return Err(io::Error::other("standard output did not take all lines"));
     }
     Ok(())
-}
-
-// Reads until the buffer is full or the input ends; how many bytes then stand in its front.
-fn read_full(input: &mut impl Read, buffer: &mut [u8]) -> io::Result<usize>
-    ensures { IfOk result (λ n. n ≤ length buffer.new) }
-{
-    let mut n = 0;
-    while n < buffer.len() {
-        let read = input.read(&mut buffer[n..])?;
-        if read == 0 {
-            break;
-        }
-        n += read;
-    }
-    Ok(n)
 }
 
 // Prints the sheet of an input whose first bytes, as many as there is room for, stand in the front of `input`.

@@ -1,10 +1,9 @@
 -- A line of the sheet and its window (Windows of quotient): the left half's verdict is the joint one (demand 3), and the
 -- question reaches no further back than the window. WindowTexts has what the line shows.
 use Prim.Native.Nat.{ℕ, ◌-◌, ◌/◌, ◌%◌, ◌≤◌, ◌<◌}
-use mathlib.Core.Path.{◌≡◌, refl, sym, ◌∙◌, ap, ap₂}
+use mathlib.Core.Path.{◌≡◌, refl, sym, ◌∙◌, ap}
 use mathlib.Core.Bool.{Bool, true, false}
-use mathlib.Core.List.{List, [], ◌++◌}
-use native.Mathlib.Nat.{mod-lt}
+use mathlib.Core.List.{List, []}
 use native.Mathlib.Omega.{arith}
 use lib.ListN.{length}
 use lib.Dec.{ltb}
@@ -13,7 +12,6 @@ use Rattle.hml.specs.System.{steps}
 use Rattle.hml.specs.Formula.{size}
 use Rattle.hml.specs.Spell.{spell}
 use Rattle.hml.specs.Working.{backs}
-use Rattle.labels.specs.declared.refusal.Check.TheVariants.{Sound}
 use Rattle.halves.specs.declared.side.Side.TheVariants as side
 use Rattle.machines.specs.Cases.{Case, with_run}
 use Rattle.machines.specs.Joints.{joint_of}
@@ -23,17 +21,15 @@ use Rattle.formulas.proofs.Checking.{formula_spell}
 use Rattle.verdict.specs.Verdicts.{half_verdict}
 use Rattle.splitting.specs.Splittings.{splitting_limit, left_half}
 use Rattle.splitting.proofs.LogRuns.{sound_log}
-use Rattle.dividing.specs.Quotients.{text_of, answer_of}
+use Rattle.dividing.specs.Quotients.{text_of}
 use Rattle.dividing.proofs.Answers.{text-length}
-use Rattle.quotient.specs.Calls.{tree_by_number, by_number}
+use Rattle.quotient.specs.Calls.{tree_by_number}
 use Rattle.quotient.specs.Working.{window_of, rest_of}
-use Rattle.quotient.proofs.SplitRuns.{log_parts, by_number_sound}
 use Rattle.quotient.proofs.Windows.{Windowed, windowed}
 use Rattle.quotient.proofs.DemandThree.{demand_three}
 use Rattle.quotient.specs.Demand.{Decomposed}
-use Rattle.sheet_lines.specs.Sheets.{text_room, head_of, ending_of, quotient_at, text_at, letter_of, line_of}
-use Rattle.sheet_lines.specs.Working.{ways_of, half_in, letter_at, tree_at, answer_at, output_at, Asked, ending_in}
-use Rattle.sheet_lines.specs.Working.{line_in}
+use Rattle.sheet_lines.specs.Sheets.{text_room, ending_of, quotient_at, text_at, letter_of}
+use Rattle.sheet_lines.specs.Working.{ways_of, half_in, letter_at, tree_at, answer_at, output_at, Asked}
 
 -- a point of a log that no check refuses, and one of its splittings, where they can be numbered
 module _ (c : Case) (asked : Asked c) (p : ℕ) (within : p ≤ steps (joint_of c.run)) (n : ℕ) (below : n < ways_of c)

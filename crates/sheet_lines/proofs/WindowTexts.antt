@@ -1,36 +1,26 @@
 -- A line of the sheet, by its window: the quotient is that by a splitting of the window.
-use Prim.Native.Nat.{ℕ, ◌-◌, ◌/◌, ◌%◌, ◌≤◌, ◌<◌}
-use mathlib.Core.Path.{◌≡◌, refl, sym, ◌∙◌, ap, ap₂}
-use mathlib.Core.Bool.{Bool, true, false}
-use mathlib.Core.List.{List, [], ◌++◌}
+use Prim.Native.Nat.{ℕ, ◌-◌, ◌/◌, ◌≤◌, ◌<◌}
+use mathlib.Core.Path.{◌≡◌, ◌∙◌, ap, ap₂}
+use mathlib.Core.List.{◌++◌}
 use native.Mathlib.Nat.{mod-lt}
 use native.Mathlib.Omega.{arith}
 use lib.ListN.{length}
-use lib.Dec.{ltb}
-use borrow.Author.Tests.{ltb-true, ltb-false}
 use Rattle.hml.specs.System.{steps}
-use Rattle.hml.specs.Formula.{size}
-use Rattle.hml.specs.Spell.{spell}
-use Rattle.hml.specs.Working.{backs}
 use Rattle.labels.specs.declared.refusal.Check.TheVariants.{Sound}
 use Rattle.halves.specs.declared.side.Side.TheVariants as side
 use Rattle.machines.specs.Cases.{Case, with_run}
 use Rattle.machines.specs.Joints.{joint_of}
-use Rattle.formulas.specs.Formulas.{formula_of, quotient_limit}
-use Rattle.formulas.specs.Working.{backs_in, backs_of}
+use Rattle.formulas.specs.Formulas.{formula_of}
+use Rattle.formulas.specs.Working.{backs_of}
 use Rattle.formulas.proofs.Checking.{formula_spell}
-use Rattle.verdict.specs.Verdicts.{half_verdict}
-use Rattle.splitting.specs.Splittings.{splitting_limit, left_half}
-use Rattle.splitting.proofs.LogRuns.{sound_log}
+use Rattle.splitting.specs.Splittings.{splitting_limit}
 use Rattle.dividing.specs.Quotients.{text_of, answer_of}
-use Rattle.dividing.proofs.Answers.{text-length}
-use Rattle.quotient.specs.Calls.{tree_by_number, by_number}
-use Rattle.quotient.specs.Working.{window_of, rest_of}
+use Rattle.quotient.specs.Calls.{by_number}
+use Rattle.quotient.specs.Working.{rest_of}
 use Rattle.quotient.proofs.SplitRuns.{log_parts, by_number_sound}
-use Rattle.quotient.proofs.Windows.{Windowed, windowed}
-use Rattle.quotient.proofs.DemandThree.{demand_three}
+use Rattle.quotient.proofs.Windows.{Windowed}
 use Rattle.quotient.specs.Demand.{Decomposed}
-use Rattle.sheet_lines.specs.Sheets.{text_room, head_of, ending_of, quotient_at, text_at, letter_of, line_of}
+use Rattle.sheet_lines.specs.Sheets.{text_room, head_of, ending_of, quotient_at, text_at, line_of}
 use Rattle.sheet_lines.specs.Working.{ways_of, half_in, letter_at, tree_at, answer_at, output_at, Asked, ending_in}
 use Rattle.sheet_lines.specs.Working.{line_in}
 use Rattle.sheet_lines.proofs.WindowLines as lines

@@ -12,4 +12,5 @@ returns-in-Written c = gives quotient_answer refl c.in-Written.is only (_ ∷ []
 
 pub returns-in-Refused : goal.returns-in-Refused
 unfolding only quotient_answer
-returns-in-Refused c = refuses quotient_answer refl c.in-Refused.is only c.in-Refused.refusal refl refl c.refused.ensures
+returns-in-Refused c = refuses quotient_answer refl c.in-Refused.is only c.in-Refused.refusal refl refl
+    c.refused.ensures

@@ -15,4 +15,5 @@ returns-in-Casebook c = gives read_answer c.read.ensures c.in-Casebook.is (place
 
 pub returns-in-Refused : goal.returns-in-Refused
 unfolding read_answer
-returns-in-Refused c = refuses read_answer c.read.ensures c.in-Refused.is (place_in _) c.in-Refused.refusal (no_places _) refl c.refused.ensures
+returns-in-Refused c = refuses read_answer c.read.ensures c.in-Refused.is (place_in _) c.in-Refused.refusal
+    (no_places _) refl c.refused.ensures

@@ -11,4 +11,5 @@ returns-in-Casebook c = gives read_answer c.read.ensures c.in-Casebook.is nothin
 
 pub returns-in-Refused : goal.returns-in-Refused
 unfolding read_answer nothing
-returns-in-Refused c = refuses read_answer c.read.ensures c.in-Refused.is nothing c.in-Refused.refusal refl refl c.refused.ensures
+returns-in-Refused c = refuses read_answer c.read.ensures c.in-Refused.is nothing c.in-Refused.refusal refl refl
+    c.refused.ensures

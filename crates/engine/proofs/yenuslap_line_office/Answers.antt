@@ -13,12 +13,20 @@ pub overflow_mul-result : goal.overflow_mul-result
 overflow_mul-result c = omega (arith, c.bit.ensures, bit_small c.in-Verdicts.line)
 
 pub overflow_add-result : goal.overflow_add-result
-overflow_add-result c = omega (arith, c.bit.ensures, c.bit-in-Verdicts.ensures, bit_small c.in-Verdicts.line, bit_small c.in-Verdicts.machine)
+overflow_add-result c = omega (
+  arith,
+  c.bit.ensures,
+  c.bit-in-Verdicts.ensures,
+  bit_small c.in-Verdicts.line,
+  bit_small
+      c.in-Verdicts.machine,
+)
 
 pub returns-in-Verdicts : goal.returns-in-Verdicts
 unfolding line_answer two_bits
 returns-in-Verdicts c = let e = rw (c.of_pairs-labels.ensures, c.side_of-side.ensures) at c.line_office.ensures.value in
-    gives line_answer e c.in-Verdicts.is two_bits (bit_of _ ∷ bit_of _ ∷ []) refl (rw (c.bit.ensures, c.bit-in-Verdicts.ensures))
+    gives line_answer e c.in-Verdicts.is two_bits (bit_of _ ∷ bit_of _ ∷ []) refl
+    (rw (c.bit.ensures, c.bit-in-Verdicts.ensures))
 
 pub returns-in-Refused : goal.returns-in-Refused
 unfolding line_answer two_bits

@@ -17,9 +17,11 @@ overflow_add-next g c = omega (
 pub hand_over-requires : goal.hand_over-requires
 hand_over-requires g c = record {
   taken_value = c.requires.0;
-  out_value = rw (← c.next-first.ensures) (next-bytes _ _ _ c.write_block-block.ensures.value _ _ c.write_block-block.ensures.out_after);
-  bytes_in_bounds = omega (arith, bytes_in_room _ _ _ c.write_block-block.ensures.value, c.write_block-block.auto.out);
+  out_value = rw (← c.next-first.ensures) (next-bytes _ _ _ c.write_block-block.ensures.value _ _
+      c.write_block-block.ensures.out_after);
+  bytes_in_bounds = omega (arith, bytes_in_room _ _ _ c.write_block-block.ensures.value);
 }
 
 pub returns : goal.returns
-returns g c = rw (← c.next-first.ensures) (omega (arith, c.hand_over.ensures, lines-counted _ _ _ c.write_block-block.ensures.value))
+returns g c = rw (← c.next-first.ensures) (omega
+    (arith, c.hand_over.ensures, lines-counted _ _ _ c.write_block-block.ensures.value))

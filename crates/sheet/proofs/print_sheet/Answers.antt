@@ -33,12 +33,14 @@ loop-first-smaller g c = omega (
 pub loop-first-preserved : goal.loop-first-preserved
 loop-first-preserved g c = (
   omega (arith, c.next-first.ensures, c.loop-first.invariant, block_left c.args.casebook.now c.loop-first.first),
-  c.print_block-printed-in-loop-first.ensures ∙ ap (λ n. n + length (block_from c.args.casebook.now n)) (sym c.next-first.ensures),
+  c.print_block-printed-in-loop-first.ensures ∙ ap (λ n. n + length (block_from c.args.casebook.now n))
+      (sym c.next-first.ensures),
 )
 
 pub returns-else-first-next : goal.returns-else-first-next
 returns-else-first-next g c = λ e.
-    let last = block_last c.args.casebook.now c.loop-first.first (omega (arith, c.if-first-next.false, c.next.ensures, c.loop-first.invariant)) in
+    let last = block_last c.args.casebook.now c.loop-first.first
+    (omega (arith, c.if-first-next.false, c.next.ensures, c.loop-first.invariant)) in
     omega (arith, c.loop-first.invariant, block_left c.args.casebook.now c.loop-first.first, last)
 
 pub returns-after-loop-first : goal.returns-after-loop-first

@@ -4,7 +4,8 @@ use Rattle.aldebaran_form.proofs.LabelReading.{no_mark, with_mark}
 use Rattle.aldebaran_form.proofs.label.marked.Goals as goal
 
 pub returns-then-mark-second : goal.returns-then-mark-second
-returns-then-mark-second c = no_mark _ _ (λ e. c.if-mark-second.true (omega (arith, e))) (λ e. c.if-mark-second.true (omega (arith, e)))
+returns-then-mark-second c = no_mark _ _ (λ e. c.if-mark-second.true (omega (arith, e)))
+    (λ e. c.if-mark-second.true (omega (arith, e)))
 
 pub returns : goal.returns
 returns c = with_mark _ _ c.requires.0 c.requires.1 c.if-mark-second.false

@@ -1,3 +1,4 @@
+-- What was read up to `end` gives what will be read (`NumberRead`); the bytes left fall.
 use Prim.Native.Nat.{◌-◌}
 use lib.ListN.{length}
 use Rattle.aldebaran_form.proofs.Scanning.{NumberRead}

@@ -1,3 +1,4 @@
+-- The label from `end` on ends where the one from `at` on does; the bytes left fall.
 use Prim.Native.Nat.{◌+◌, ◌-◌}
 use mathlib.Core.Path.{◌≡◌}
 use lib.ListN.{length, drop}

@@ -8,8 +8,10 @@ put_row-requires c = row_fits c.args.table.now _ _ c.requires.i_in_bounds c.row_
     c.requires.i_in_bounds_2
 
 pub returns-in-Row : goal.returns-in-Row
-returns-in-Row c = to_value_out_after (row_written c.args.table.now _ _ c.requires.i_in_bounds c.row_at.ensures _ c.in-Row.is _ _ _ _
+returns-in-Row c = to_value_out_after (row_written c.args.table.now _ _ c.requires.i_in_bounds c.row_at.ensures _
+    c.in-Row.is _ _ _ _
     c.put_row.ensures.value c.put_row.ensures.out_after)
 
 pub returns-in-NoRow : goal.returns-in-NoRow
-returns-in-NoRow c = to_value_out_after (absurd (no_row c.args.table.now _ _ c.requires.i_in_bounds c.row_at.ensures c.in-NoRow.is))
+returns-in-NoRow c = to_value_out_after (absurd
+    (no_row c.args.table.now _ _ c.requires.i_in_bounds c.row_at.ensures c.in-NoRow.is))

@@ -1,3 +1,4 @@
+-- The header and the lines of the first i rows stand in the text; the rows left fall.
 use Prim.Native.Nat.{◌-◌, ◌≤◌}
 use lib.ListN.{length, take}
 use Rattle.tables.specs.Tables.{rows_of}

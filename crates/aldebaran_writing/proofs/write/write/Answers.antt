@@ -59,7 +59,8 @@ returns c = let sound = table_judged _ _ _ _ c.of_pairs.ensures c.check_table.en
     c.in-Sound.is in
     let short = text_short c.args.table.now c.args.first sound (omega (arith, c.if-table-first.false)) in
     let kept = buffer_kept _ _ c.put_text-len.ensures.text_after in
-    to_value_out_after (text-given c.args.table.now c.args.first _ sound (omega (arith, c.if-table-first.false)) _ _ c.put_text-len.ensures.value
+    to_value_out_after (text-given c.args.table.now c.args.first _ sound (omega (arith, c.if-table-first.false)) _ _
+    c.put_text-len.ensures.value
     (omega arith)
     (text_copied _ _ _ _ _ _ (omega (arith, short, kept)) c.put_text-len.ensures.value c.put_text-len.ensures.text_after
     (copied_whole _ _ _ _ (simp length-take (omega arith)) c.copy.ensures.count c.copy.ensures.copied)))

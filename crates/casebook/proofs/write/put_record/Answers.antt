@@ -27,9 +27,11 @@ slice_bounds-copy-start c = simp length-set (omega (arith, c.requires.0))
 pub shape_of-out : goal.shape_of-out
 shape_of-out c = front_length (record_bytes c.args.kind c.args.body.now) c.args.out.now _
     (record-put c.args.out.now c.args.body.now _ c.args.kind _ _ (omega (arith, c.requires.0)) c.requires.1
-    (omega arith) refl refl (copied_whole _ _ _ _ (simp (length-take, length-drop, length-set) (omega (arith, c.requires.0))) c.copy.ensures.count c.copy.ensures.copied))
+    (omega arith) refl refl (copied_whole _ _ _ _ (simp (length-take, length-drop, length-set)
+    (omega (arith, c.requires.0))) c.copy.ensures.count c.copy.ensures.copied))
     (omega (arith, c.requires.0, record-length c.args.kind c.args.body.now))
 
 pub returns : goal.returns
 returns c = record-put c.args.out.now c.args.body.now _ c.args.kind _ _ (omega (arith, c.requires.0)) c.requires.1
-    (omega arith) refl refl (copied_whole _ _ _ _ (simp (length-take, length-drop, length-set) (omega (arith, c.requires.0))) c.copy.ensures.count c.copy.ensures.copied)
+    (omega arith) refl refl (copied_whole _ _ _ _ (simp (length-take, length-drop, length-set)
+    (omega (arith, c.requires.0))) c.copy.ensures.count c.copy.ensures.copied)

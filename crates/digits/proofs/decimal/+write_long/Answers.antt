@@ -19,7 +19,7 @@ pub returns-then-n-lt100000 : goal.returns-then-n-lt100000
 returns-then-n-lt100000 t c = c.write_short.ensures
 
 pub write_long-to-requires : goal.write_long-to-requires
-write_long-to-requires t c = (omega (arith), omega (arith, c.requires, count_fours c.args.n (omega arith)))
+write_long-to-requires t c = (omega arith, omega (arith, c.requires, count_fours c.args.n (omega arith)))
 
 pub put_four-requires : goal.put_four-requires
 put_four-requires t c = (
@@ -34,7 +34,14 @@ put_four-requires t c = (
 )
 
 pub overflow_add-result : goal.overflow_add-result
-overflow_add-result t c = omega (arith, c.requires, c.well_formed, c.write_long-to.ensures.value, count_fours c.args.n (omega arith))
+overflow_add-result t c = omega (
+  arith,
+  c.requires,
+  c.well_formed,
+  c.write_long-to.ensures.value,
+  count_fours c.args.n
+      (omega arith),
+)
 
 pub shape_of-out : goal.shape_of-out
 shape_of-out t c = put-kept c.write_long-to.new.out c.put_four.new.out c.write_long-to.result _
@@ -44,6 +51,7 @@ shape_of-out t c = put-kept c.write_long-to.new.out c.put_four.new.out c.write_l
 pub returns : goal.returns
 returns t c = record {
   value = omega (arith, c.write_long-to.ensures.value, count_fours c.args.n (omega arith));
-  out_after = put-more _ _ _ _ c.args.n _ _ (omega arith) refl c.write_long-to.ensures.value c.write_long-to.ensures.out_after
+  out_after = put-more _ _ _ _ c.args.n _ _ (omega arith) refl c.write_long-to.ensures.value
+      c.write_long-to.ensures.out_after
       c.put_four.ensures;
 }

@@ -33,10 +33,12 @@ pub bounds-out-at-then-n-lt1000 : goal.bounds-out-at-then-n-lt1000
 bounds-out-at-then-n-lt1000 c = omega (arith, c.requires.n_in_bounds, count_3 c.args.n (omega arith) (omega arith))
 
 pub put_two-requires-then-n-lt1000 : goal.put_two-requires-then-n-lt1000
-put_two-requires-then-n-lt1000 c = simp length-set (omega (arith, c.requires.n_in_bounds, count_3 c.args.n (omega arith) (omega arith)))
+put_two-requires-then-n-lt1000 c = simp length-set (omega
+    (arith, c.requires.n_in_bounds, count_3 c.args.n (omega arith) (omega arith)))
 
 pub shape_of-out-then-n-lt1000 : goal.shape_of-out-then-n-lt1000
-shape_of-out-then-n-lt1000 c = put-set-kept c.args.out.now c.put_two-then-n-lt1000.new.out c.args.at (48 + c.args.n / 100)
+shape_of-out-then-n-lt1000 c = put-set-kept c.args.out.now c.put_two-then-n-lt1000.new.out c.args.at
+    (48 + c.args.n / 100)
     (c.args.at + 1) _ c.put_two-then-n-lt1000.ensures
 
 pub returns-then-n-lt1000 : goal.returns-then-n-lt1000
@@ -62,10 +64,16 @@ returns-then-n-lt10000 c = record {
 }
 
 pub bounds-out-at-2 : goal.bounds-out-at-2
-bounds-out-at-2 c = omega (arith, c.requires.n_in_bounds, count_5 c.args.n (omega arith) (omega (arith, c.requires.n_bound)))
+bounds-out-at-2 c = omega (
+  arith,
+  c.requires.n_in_bounds,
+  count_5 c.args.n (omega arith)
+      (omega (arith, c.requires.n_bound)),
+)
 
 pub put_four-requires-2 : goal.put_four-requires-2
-put_four-requires-2 c = simp length-set (omega (arith, c.requires.n_in_bounds, count_5 c.args.n (omega arith) (omega (arith, c.requires.n_bound))))
+put_four-requires-2 c = simp length-set (omega
+    (arith, c.requires.n_in_bounds, count_5 c.args.n (omega arith) (omega (arith, c.requires.n_bound))))
 
 pub shape_of-out : goal.shape_of-out
 shape_of-out c = put-set-kept c.args.out.now c.put_four-2.new.out c.args.at (48 + c.args.n / 10000)

@@ -1,9 +1,6 @@
-use Prim.Native.Nat.{◌+◌}
-use Prim.Native.Nat.{ℕ}
+-- What falls from call to call: the formula's bytes, then the disjuncts left.
+use Prim.Native.Nat.{◌+◌, ℕ, ◌*◌}
 use lib.ListN.{length}
-use Prim.Native.Nat.{ℕ, ◌+◌, ◌*◌}
-use lib.ListN.{length}
-use Prim.Native.Nat.{ℕ, ◌+◌, ◌*◌}
 use Rattle.dividing.proofs.count.+counting.Given as goal
 
 -- at one formula's size there are fewer steps down than this: the disjuncts of a forward modality have 68 bytes at most

@@ -1,3 +1,4 @@
+-- The rows left fall from call to call.
 use lib.ListN.{length}
 use Rattle.dividing.proofs.disjuncts.+list_shaken.Given as goal
 

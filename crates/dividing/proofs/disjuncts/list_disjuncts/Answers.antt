@@ -27,7 +27,8 @@ shape_of-out-then-operator-eq7 c = front_length _ _ _ c.put_disjunct.ensures
     (omega (arith, c.requires.in_bounds))
 
 pub returns-then-operator-eq7 : goal.returns-then-operator-eq7
-returns-then-operator-eq7 c = to_value_out_after (one_piece _ _ _ _ 4 (idle-listed _ _ _ _ _ c.if-operator-eq7.true) refl
+returns-then-operator-eq7 c = to_value_out_after (one_piece _ _ _ _ 4 (idle-listed _ _ _ _ _ c.if-operator-eq7.true)
+    refl
     c.put_disjunct.ensures)
 
 pub put_disjunct-requires-2 : goal.put_disjunct-requires-2
@@ -52,7 +53,8 @@ list_alone-n-requires c = second_fits _ _ _ _
     (joined (5 ∷ c.args.label.0 ∷ 255 ∷ c.args.state ∷ [])
     (alone_in c.args.label.0 (moves_in c.rows_leaving-rows.result.now)))
     (alone_room c.args.labels c.args.table.now c.args.operator c.args.label.0 c.args.state _
-    (rows_are c.requires.sound_table _ _ c.rows_leaving-rows.ensures.exact) _ _ c.requires.sound_table c.requires.in_bounds) _ _ 4 refl refl
+    (rows_are c.requires.sound_table _ _ c.rows_leaving-rows.ensures.exact) _ _ c.requires.sound_table
+    c.requires.in_bounds) _ _ 4 refl refl
     c.put_disjunct-2.ensures
 
 pub overflow_add-at : goal.overflow_add-at
@@ -63,7 +65,8 @@ overflow_add-at c = omega (
       (joined (5 ∷ c.args.label.0 ∷ 255 ∷ c.args.state ∷ [])
       (alone_in c.args.label.0 (moves_in c.rows_leaving-rows.result.now)))
       (alone_room c.args.labels c.args.table.now c.args.operator c.args.label.0 c.args.state _
-      (rows_are c.requires.sound_table _ _ c.rows_leaving-rows.ensures.exact) _ _ c.requires.sound_table c.requires.in_bounds) _ _ 4 refl refl
+      (rows_are c.requires.sound_table _ _ c.rows_leaving-rows.ensures.exact) _ _ c.requires.sound_table
+      c.requires.in_bounds) _ _ 4 refl refl
       c.put_disjunct-2.ensures,
 )
 
@@ -73,7 +76,8 @@ shape_of-out-then-not-is_silent c = second_length _ _ _ _ _ _ 4
     (alone_in c.args.label.0 (moves_in c.rows_leaving-rows.result.now))) refl
     c.put_disjunct-2.ensures c.list_alone-n.ensures.out_after
     (alone_room c.args.labels c.args.table.now c.args.operator c.args.label.0 c.args.state _
-    (rows_are c.requires.sound_table _ _ c.rows_leaving-rows.ensures.exact) _ _ c.requires.sound_table c.requires.in_bounds)
+    (rows_are c.requires.sound_table _ _ c.rows_leaving-rows.ensures.exact) _ _ c.requires.sound_table
+    c.requires.in_bounds)
 
 pub returns-then-not-is_silent : goal.returns-then-not-is_silent
 returns-then-not-is_silent c = to_value_out_after (one_piece _ _ _ _ _
@@ -97,14 +101,16 @@ slice_bounds-list_shaken-count c = omega (
       (alone_in c.args.label.0 (moves_in c.rows_leaving-rows.result.now))) refl c.put_disjunct-2.ensures
       c.list_alone-n.ensures.value c.list_alone-n.ensures.out_after).0,
   (alone_room c.args.labels c.args.table.now c.args.operator c.args.label.0 c.args.state _
-      (rows_are c.requires.sound_table _ _ c.rows_leaving-rows.ensures.exact) _ _ c.requires.sound_table c.requires.in_bounds),
+      (rows_are c.requires.sound_table _ _ c.rows_leaving-rows.ensures.exact) _ _ c.requires.sound_table
+      c.requires.in_bounds),
   front_length _ _ _
       (two_pieces _ _ _ _ _ _ 4 _
       (joined (5 ∷ c.args.label.0 ∷ 255 ∷ c.args.state ∷ [])
       (alone_in c.args.label.0 (moves_in c.rows_leaving-rows.result.now))) refl c.put_disjunct-2.ensures
       c.list_alone-n.ensures.value c.list_alone-n.ensures.out_after).1
       (alone_room c.args.labels c.args.table.now c.args.operator c.args.label.0 c.args.state _
-      (rows_are c.requires.sound_table _ _ c.rows_leaving-rows.ensures.exact) _ _ c.requires.sound_table c.requires.in_bounds),
+      (rows_are c.requires.sound_table _ _ c.rows_leaving-rows.ensures.exact) _ _ c.requires.sound_table
+      c.requires.in_bounds),
 )
 
 pub slice_bounds-list_shaken-start : goal.slice_bounds-list_shaken-start
@@ -115,14 +121,16 @@ slice_bounds-list_shaken-start c = omega (
       (alone_in c.args.label.0 (moves_in c.rows_leaving-rows.result.now))) refl c.put_disjunct-2.ensures
       c.list_alone-n.ensures.value c.list_alone-n.ensures.out_after).0,
   (alone_room c.args.labels c.args.table.now c.args.operator c.args.label.0 c.args.state _
-      (rows_are c.requires.sound_table _ _ c.rows_leaving-rows.ensures.exact) _ _ c.requires.sound_table c.requires.in_bounds),
+      (rows_are c.requires.sound_table _ _ c.rows_leaving-rows.ensures.exact) _ _ c.requires.sound_table
+      c.requires.in_bounds),
   front_length _ _ _
       (two_pieces _ _ _ _ _ _ 4 _
       (joined (5 ∷ c.args.label.0 ∷ 255 ∷ c.args.state ∷ [])
       (alone_in c.args.label.0 (moves_in c.rows_leaving-rows.result.now))) refl c.put_disjunct-2.ensures
       c.list_alone-n.ensures.value c.list_alone-n.ensures.out_after).1
       (alone_room c.args.labels c.args.table.now c.args.operator c.args.label.0 c.args.state _
-      (rows_are c.requires.sound_table _ _ c.rows_leaving-rows.ensures.exact) _ _ c.requires.sound_table c.requires.in_bounds),
+      (rows_are c.requires.sound_table _ _ c.rows_leaving-rows.ensures.exact) _ _ c.requires.sound_table
+      c.requires.in_bounds),
 )
 
 pub list_shaken-m-requires : goal.list_shaken-m-requires
@@ -149,7 +157,8 @@ overflow_add-result c = omega (
       (alone_in c.args.label.0 (moves_in c.rows_leaving-rows.result.now))) refl c.put_disjunct-2.ensures
       c.list_alone-n.ensures.value c.list_alone-n.ensures.out_after).0,
   (alone_room c.args.labels c.args.table.now c.args.operator c.args.label.0 c.args.state _
-      (rows_are c.requires.sound_table _ _ c.rows_leaving-rows.ensures.exact) _ _ c.requires.sound_table c.requires.in_bounds),
+      (rows_are c.requires.sound_table _ _ c.rows_leaving-rows.ensures.exact) _ _ c.requires.sound_table
+      c.requires.in_bounds),
   c.list_shaken-m.ensures.value,
   second_fits _ _ _ _
       (silent-listed c.args.labels c.args.table.now c.args.operator c.args.label.0

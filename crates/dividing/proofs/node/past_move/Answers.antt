@@ -14,9 +14,11 @@ returns-then-not-is_silent c = move_other _ _ _ _ c.if-operator-ne6.false c.if-m
     (sym c.is_silent.ensures ∙ c.if-not-is_silent.true)
 
 pub returns-in-Label : goal.returns-in-Label
-returns-in-Label c = move-shaken _ _ _ _ c.if-operator-ne6.false c.if-moved-label.false (sym c.is_silent.ensures ∙ c.if-not-is_silent.false) _
+returns-in-Label c = move-shaken _ _ _ _ c.if-operator-ne6.false c.if-moved-label.false
+    (sym c.is_silent.ensures ∙ c.if-not-is_silent.false) _
     (sym c.in-Label.is ∙ c.partner.ensures)
 
 pub returns-in-Nobody : goal.returns-in-Nobody
-returns-in-Nobody c = move_alone _ _ _ _ c.if-operator-ne6.false c.if-moved-label.false (sym c.is_silent.ensures ∙ c.if-not-is_silent.false)
+returns-in-Nobody c = move_alone _ _ _ _ c.if-operator-ne6.false c.if-moved-label.false
+    (sym c.is_silent.ensures ∙ c.if-not-is_silent.false)
     (sym c.in-Nobody.is ∙ c.partner.ensures)

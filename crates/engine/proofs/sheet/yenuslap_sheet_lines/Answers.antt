@@ -14,6 +14,7 @@ returns-in-Written c = record {
 pub returns-in-Refused : goal.returns-in-Refused
 unfolding lines_answer
 returns-in-Refused c = record {
-  value = lines_refused lines_answer c.write_lines.ensures.value c.in-Refused.is c.in-Refused.refusal refl c.number.ensures;
+  value = lines_refused lines_answer c.write_lines.ensures.value c.in-Refused.is c.in-Refused.refusal refl
+      c.number.ensures;
   out_after = c.write_lines.ensures.out_after;
 }

@@ -23,6 +23,7 @@ returns-in-Table c = record {
 pub returns-in-Refused : goal.returns-in-Refused
 unfolding table_answer table_told
 returns-in-Refused c = record {
-  value = refuses table_answer c.read.ensures.value c.in-Refused.is table_told c.in-Refused.refusal refl refl c.refused.ensures;
+  value = refuses table_answer c.read.ensures.value c.in-Refused.is table_told c.in-Refused.refusal refl refl
+      c.refused.ensures;
   table_out_after = c.read.ensures.out_after;
 }

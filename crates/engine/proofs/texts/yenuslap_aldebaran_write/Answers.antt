@@ -16,6 +16,7 @@ returns-in-Written c = record {
 pub returns-in-Refused : goal.returns-in-Refused
 unfolding text_answer only
 returns-in-Refused c = record {
-  value = refuses text_answer c.write.ensures.value c.in-Refused.is only c.in-Refused.refusal refl refl c.refused.ensures;
+  value = refuses text_answer c.write.ensures.value c.in-Refused.is only c.in-Refused.refusal refl refl
+      c.refused.ensures;
   out_after = c.write.ensures.out_after;
 }

@@ -1,3 +1,4 @@
+-- The labels in `rest` fit just when all of them do; its bytes fall.
 use mathlib.Core.Path.{◌≡◌}
 use lib.ListN.{length}
 use Rattle.labels.specs.Labels.{count}

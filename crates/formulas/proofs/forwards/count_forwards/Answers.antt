@@ -17,8 +17,10 @@ pub loop-rest-preserved : goal.loop-rest-preserved
 loop-rest-preserved c =
     let seen = sym c.is_forward.ensures in
     elim c.if-is_forward.branch [
-      | then-is_forward w ↦ count-forward _ _ _ c.loop-rest.invariant c.loop-rest-test.true (seen ∙ w.if-is_forward.true) _ w.count-is
-      | else-is_forward w ↦ count_other _ _ _ c.loop-rest.invariant c.loop-rest-test.true (seen ∙ w.if-is_forward.false) _ w.count-is
+      | then-is_forward w ↦ count-forward _ _ _ c.loop-rest.invariant c.loop-rest-test.true
+          (seen ∙ w.if-is_forward.true) _ w.count-is
+      | else-is_forward w ↦ count_other _ _ _ c.loop-rest.invariant c.loop-rest-test.true (seen ∙ w.if-is_forward.false)
+          _ w.count-is
     ]
 
 pub returns : goal.returns

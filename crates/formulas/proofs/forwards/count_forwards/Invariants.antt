@@ -1,3 +1,4 @@
+-- `Counting`: the forward modalities counted and those in `rest` are all of them; its bytes fall.
 use lib.ListN.{length}
 use Rattle.formulas.proofs.ForwardCount.{Counting}
 use Rattle.formulas.proofs.forwards.count_forwards.Given as goal

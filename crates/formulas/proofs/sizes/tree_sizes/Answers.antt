@@ -16,7 +16,8 @@ pub slice_bounds-first_size-end-in-loop-i : goal.slice_bounds-first_size-end-in-
 slice_bounds-first_size-end-in-loop-i c = omega (arith, sizing_length _ _ _ _ c.loop-i.invariant)
 
 pub slice_bounds-first_size-end-in-loop-i-2 : goal.slice_bounds-first_size-end-in-loop-i-2
-slice_bounds-first_size-end-in-loop-i-2 c = sym (length-take-le _ _ (omega (arith, sizing_length _ _ _ _ c.loop-i.invariant)))
+slice_bounds-first_size-end-in-loop-i-2 c = sym (length-take-le _ _
+    (omega (arith, sizing_length _ _ _ _ c.loop-i.invariant)))
 
 pub first_size-size-requires : goal.first_size-size-requires
 first_size-size-requires c = to_in_bounds_behind_value (rw (rest_of _ c.args.f.now)

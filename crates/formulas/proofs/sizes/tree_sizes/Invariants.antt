@@ -1,3 +1,4 @@
+-- The sizes of the last i nodes are found (`Sizing`); the nodes left fall.
 use Prim.Native.Nat.{◌-◌}
 use Rattle.formulas.proofs.TreeSizes.{Sizing}
 use Rattle.formulas.proofs.sizes.tree_sizes.Given as goal

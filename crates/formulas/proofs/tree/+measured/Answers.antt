@@ -24,7 +24,12 @@ slice_bounds-body-end t c = omega (arith, (tree-room _ c.requires).0)
 
 pub measured-first-requires : goal.measured-first-requires
 measured-first-requires t c = (
-  omega (arith, (tree-room c.args.f.now c.requires).0, length-take (length c.args.f.now - 2) (drop 2 c.args.f.now), length-drop 2 c.args.f.now),
+  omega (
+    arith,
+    (tree-room c.args.f.now c.requires).0,
+    length-take (length c.args.f.now - 2) (drop 2 c.args.f.now),
+    length-drop 2 c.args.f.now,
+  ),
   body_tree c.args.f.now c.requires (λ z. c.if-operands-eq0.false (c.operands_of-operands.ensures ∙ z)),
 )
 
@@ -87,7 +92,8 @@ measured-second-requires t c = (
   omega (
     arith,
     (tree-room c.args.f.now c.requires).0,
-    length-take (length (body c.args.f.now) - c.measured-first.result.len) (drop c.measured-first.result.len (body c.args.f.now)),
+    length-take (length (body c.args.f.now) - c.measured-first.result.len)
+        (drop c.measured-first.result.len (body c.args.f.now)),
     length-drop c.measured-first.result.len (body c.args.f.now),
     length-take (length c.args.f.now - 2) (drop 2 c.args.f.now),
     length-drop 2 c.args.f.now,

@@ -1,3 +1,4 @@
+-- The bytes fall from call to call: an operand's are fewer.
 use lib.ListN.{length}
 use Rattle.formulas.proofs.tree.+measured.Given as goal
 

@@ -1,3 +1,4 @@
+-- The end is the one that `due` trees from `at` on have (`Seeking`); the bytes left fall.
 use Prim.Native.Nat.{◌-◌}
 use lib.ListN.{length}
 use Rattle.formulas.proofs.Trees.{Seeking}

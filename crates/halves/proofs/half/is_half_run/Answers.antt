@@ -30,31 +30,46 @@ pub bounds-half-i : goal.bounds-half-i
 bounds-half-i c = omega (arith, (step_found _ _ _ (sym c.in-Step.is ∙ c.step_at.ensures)).within)
 
 pub overflow_mul-i-in-Step : goal.overflow_mul-i-in-Step
-overflow_mul-i-in-Step c = omega (arith, (step_found _ _ _ (sym c.in-Step.is ∙ c.step_at.ensures)).within, c.well_formed)
+overflow_mul-i-in-Step c = omega (
+  arith,
+  (step_found _ _ _ (sym c.in-Step.is ∙ c.step_at.ensures)).within,
+  c.well_formed,
+)
 
 pub overflow_add-i : goal.overflow_add-i
 overflow_add-i c = omega (arith, (step_found _ _ _ (sym c.in-Step.is ∙ c.step_at.ensures)).within, c.well_formed)
 
 pub bounds-half-i-in-Step : goal.bounds-half-i-in-Step
-bounds-half-i-in-Step c = omega (arith, (step_found _ _ _ (sym c.in-Step.is ∙ c.step_at.ensures)).within, c.if-n-ne1.false)
+bounds-half-i-in-Step c = omega (
+  arith,
+  (step_found _ _ _ (sym c.in-Step.is ∙ c.step_at.ensures)).within,
+  c.if-n-ne1.false,
+)
 
 pub step_fits-requires : goal.step_fits-requires
 step_fits-requires c = c.requires.rising
 
 pub returns-then-not-step_fits : goal.returns-then-not-step_fits
-returns-then-not-step_fits c = walked_stop _ _ c.if-n-ne1.false c.if-n-gt401.false c.if-table-half.false _ c.loop-step.invariant _
+returns-then-not-step_fits c = walked_stop _ _ c.if-n-ne1.false c.if-n-gt401.false c.if-table-half.false _
+    c.loop-step.invariant _
     (sym c.in-Step.is ∙ c.step_at.ensures) _ c.step_fits.ensures c.if-not-step_fits.true
 
 pub returns-in-NoSuchStep : goal.returns-in-NoSuchStep
-returns-in-NoSuchStep c = walked_end _ _ c.if-n-ne1.false c.if-n-gt401.false c.if-table-half.false _ c.loop-step.invariant
+returns-in-NoSuchStep c = walked_end _ _ c.if-n-ne1.false c.if-n-gt401.false c.if-table-half.false _
+    c.loop-step.invariant
     (sym c.in-NoSuchStep.is ∙ c.step_at.ensures)
 
 pub overflow_add-i-in-loop-step : goal.overflow_add-i-in-loop-step
-overflow_add-i-in-loop-step c = omega (arith, (step_found _ _ _ (sym c.in-Step.is ∙ c.step_at.ensures)).within, c.well_formed)
+overflow_add-i-in-loop-step c = omega (
+  arith,
+  (step_found _ _ _ (sym c.in-Step.is ∙ c.step_at.ensures)).within,
+  c.well_formed,
+)
 
 pub loop-step-smaller : goal.loop-step-smaller
 loop-step-smaller c = omega (arith, (step_found _ _ _ (sym c.in-Step.is ∙ c.step_at.ensures)).within)
 
 pub loop-step-preserved : goal.loop-step-preserved
-loop-step-preserved c = walked_on _ _ c.if-n-ne1.false c.if-n-gt401.false c.if-table-half.false _ c.loop-step.invariant _
+loop-step-preserved c = walked_on _ _ c.if-n-ne1.false c.if-n-gt401.false c.if-table-half.false _ c.loop-step.invariant
+    _
     (sym c.in-Step.is ∙ c.step_at.ensures) _ c.step_fits.ensures c.if-not-step_fits.false

@@ -1,3 +1,4 @@
+-- The steps in front of step i match; the steps left fall.
 use Prim.Native.Nat.{◌-◌, ◌/◌}
 use lib.ListN.{length}
 use Rattle.joining.proofs.Joined.{Matching}

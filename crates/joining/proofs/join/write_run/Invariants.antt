@@ -1,3 +1,4 @@
+-- The joint run of the first i steps stands in the output (`Joining`); the steps left fall.
 use Prim.Native.Nat.{◌-◌, ◌/◌}
 use lib.ListN.{length}
 use Rattle.joining.proofs.Joined.{Joining}

@@ -8,11 +8,13 @@ returns-in-Refused c = tables_refused _ _ _ _ _ (tables-judged _ _ _ c.then.ensu
     c.check_table-2.ensures c.in-Refused.is)
 
 pub returns-then-n-ne2 : goal.returns-then-n-ne2
-returns-then-n-ne2 c = misfit_run _ _ _ _ (tables-judged _ _ _ c.then.ensures c.check_table.ensures c.check_table-2.ensures
+returns-then-n-ne2 c = misfit_run _ _ _ _ (tables-judged _ _ _ c.then.ensures c.check_table.ensures
+    c.check_table-2.ensures
     c.in-Sound.is) c.if-n-ne2.true
 
 pub returns-then-n-gt602 : goal.returns-then-n-gt602
-returns-then-n-gt602 c = long_run _ _ _ _ (tables-judged _ _ _ c.then.ensures c.check_table.ensures c.check_table-2.ensures
+returns-then-n-gt602 c = long_run _ _ _ _ (tables-judged _ _ _ c.then.ensures c.check_table.ensures
+    c.check_table-2.ensures
     c.in-Sound.is) c.if-n-ne2.false c.if-n-gt602.true
 
 pub is_joint_run-requires : goal.is_joint_run-requires
@@ -23,7 +25,8 @@ is_joint_run-requires c = record {
 }
 
 pub returns-then-is_joint_run : goal.returns-then-is_joint_run
-returns-then-is_joint_run c = joint_sound _ _ _ _ (tables-judged _ _ _ c.then.ensures c.check_table.ensures c.check_table-2.ensures
+returns-then-is_joint_run c = joint_sound _ _ _ _ (tables-judged _ _ _ c.then.ensures c.check_table.ensures
+    c.check_table-2.ensures
     c.in-Sound.is) c.if-n-ne2.false c.if-n-gt602.false
     (sym c.is_joint_run.ensures ∙ c.if-is_joint_run.true)
 

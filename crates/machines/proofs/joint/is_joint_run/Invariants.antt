@@ -1,3 +1,4 @@
+-- The steps from step i on decide (`Walked`), and those left fall.
 use Prim.Native.Nat.{◌-◌, ◌/◌}
 use lib.ListN.{length}
 use Rattle.machines.proofs.Joints.{Walked}

@@ -1,3 +1,4 @@
+-- The kind may stand by the kinds from i on just when it may by all; the kinds left fall.
 use Prim.Native.Nat.{◌-◌}
 use mathlib.Core.Path.{◌≡◌}
 use lib.ListN.{length, drop}

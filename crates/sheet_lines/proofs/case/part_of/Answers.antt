@@ -9,20 +9,37 @@ use Rattle.sheet_lines.proofs.case.part_of.Goals as goal
 
 pub overflow_mul-run : goal.overflow_mul-run
 unfolding case_of
-overflow_mul-run c = omega (arith, part-within c.args.casebook.now c.args.parts.run _ _ c.requires.0 c.requires.1, c.well_formed)
+overflow_mul-run c = omega (
+  arith,
+  part-within c.args.casebook.now c.args.parts.run _ _ c.requires.0 c.requires.1,
+  c.well_formed,
+)
 
 pub overflow_add-run : goal.overflow_add-run
 unfolding case_of
-overflow_add-run c = omega (arith, part-within c.args.casebook.now c.args.parts.run _ _ c.requires.0 c.requires.1, c.well_formed)
+overflow_add-run c = omega (
+  arith,
+  part-within c.args.casebook.now c.args.parts.run _ _ c.requires.0 c.requires.1,
+  c.well_formed,
+)
 
 pub overflow_mul-run-2 : goal.overflow_mul-run-2
 unfolding case_of
-overflow_mul-run-2 c = omega (arith, part-within c.args.casebook.now c.args.parts.run _ _ c.requires.0 c.requires.1, c.well_formed)
+overflow_mul-run-2 c = omega (
+  arith,
+  part-within c.args.casebook.now c.args.parts.run _ _ c.requires.0 c.requires.1,
+  c.well_formed,
+)
 
 pub overflow_add-run-2 : goal.overflow_add-run-2
 unfolding case_of
-overflow_add-run-2 c = omega (arith, part-within c.args.casebook.now c.args.parts.run _ _ c.requires.0 c.requires.1, c.well_formed)
+overflow_add-run-2 c = omega (
+  arith,
+  part-within c.args.casebook.now c.args.parts.run _ _ c.requires.0 c.requires.1,
+  c.well_formed,
+)
 
 pub returns : goal.returns
 unfolding case_of between
-returns c = ap (with_run (case_of c.args.casebook.now c.args.parts)) (part_body c.args.casebook.now c.args.parts.run _ _ c.requires.0 c.requires.1)
+returns c = ap (with_run (case_of c.args.casebook.now c.args.parts))
+    (part_body c.args.casebook.now c.args.parts.run _ _ c.requires.0 c.requires.1)

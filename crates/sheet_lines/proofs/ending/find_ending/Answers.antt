@@ -44,7 +44,8 @@ put_fields-requires c = omega (
 )
 
 pub returns-in-Written : goal.returns-in-Written
-returns-in-Written c = let x = fields_ending (case_of c.args.casebook.now c.args.window) c.args.letter _ _ c.requires.halved.1 _
+returns-in-Written c = let x = fields_ending (case_of c.args.casebook.now c.args.window) c.args.letter _ _
+    c.requires.halved.1 _
     _ c.requires.ending_len _ _
     (sym c.quotient_text.ensures.value ∙ c.in-Written.is) _ c.quotient_text.ensures.text_after
     c.put_fields.ensures.value c.put_fields.ensures.out_after in
@@ -55,7 +56,8 @@ returns-in-Written c = let x = fields_ending (case_of c.args.casebook.now c.args
     }
 
 pub returns-in-Refused : goal.returns-in-Refused
-returns-in-Refused c = let x = refusal_ending (case_of c.args.casebook.now c.args.window) c.args.letter _ c.args.text.now
+returns-in-Refused c = let x = refusal_ending (case_of c.args.casebook.now c.args.window) c.args.letter _
+    c.args.text.now
     c.requires.halved.1 _ _
     c.requires.ending_len _ c.in-Refused.refusal (sym c.quotient_text.ensures.value ∙ c.in-Refused.is)
     c.put_refusal.ensures.value c.put_refusal.ensures.out_after in

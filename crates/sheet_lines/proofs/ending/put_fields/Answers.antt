@@ -48,6 +48,11 @@ returns c = let counted = length-hexadecimal c.args.text.now in
     let h : length (hexadecimal c.args.text.now) + 3 ≤ length c.args.out.now
     = omega (arith, c.requires, counted) in
     record {
-      value = omega (arith, counted, field_place _ _ _ _ h c.put_hexadecimal-at.ensures.value c.put_hexadecimal-at.ensures.out_after);
+      value = omega (
+        arith,
+        counted,
+        field_place _ _ _ _ h c.put_hexadecimal-at.ensures.value
+            c.put_hexadecimal-at.ensures.out_after,
+      );
       out_after = field_put _ _ _ _ h c.put_hexadecimal-at.ensures.value c.put_hexadecimal-at.ensures.out_after _ _ _;
     }

@@ -22,7 +22,8 @@ overflow_add-i c = omega (arith, c.requires.n_bound)
 
 pub loop-i-preserved : goal.loop-i-preserved
 loop-i-preserved c = (
-  listed_more _ c.requires.splits.0.log _ _ _ _ (omega (arith, c.requires.splits.1)) (omega (arith, c.requires.n_bound)) c.loop-i.invariant.2
+  listed_more _ c.requires.splits.0.log _ _ _ _ (omega (arith, c.requires.splits.1)) (omega (arith, c.requires.n_bound))
+      c.loop-i.invariant.2
       c.loop-i.invariant.0 c.list_half.ensures,
   front_kept _ _ _ _ c.args.first _ c.list_half.ensures c.loop-i.invariant.1 (omega arith),
   put-kept _ _ _ _ c.list_half.ensures ∙ c.loop-i.invariant.2,

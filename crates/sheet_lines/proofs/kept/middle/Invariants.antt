@@ -1,3 +1,4 @@
+-- The cut stays in the window, and the places left in it fall.
 use Prim.Native.Nat.{◌-◌, ◌≤◌}
 use Rattle.sheet_lines.proofs.kept.middle.Given as goal
 

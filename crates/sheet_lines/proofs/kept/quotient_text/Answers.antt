@@ -29,7 +29,12 @@ pub put_half-len-requires : goal.put_half-len-requires
 put_half-len-requires c = let p = kept_parts _ _ _ c.requires.halved.0 c.if-kept-eq0.false in
     record {
       ways_nonzero = kept_numbers _ c.requires.asked.0.log _ c.requires.asked.1 _ _ p;
-      newer_bound = (kept-steps _ c.requires.asked.0.log _ c.requires.asked.1 _ _ p, c.requires.halved.0.size, omega arith);
+      newer_bound = (
+        kept-steps _ c.requires.asked.0.log _ c.requires.asked.1 _ _ p,
+        c.requires.halved.0.size,
+        omega
+            arith,
+      );
     }
 
 pub slice_bounds-half-end : goal.slice_bounds-half-end
@@ -58,5 +63,6 @@ returns c = let p = kept_parts _ _ _ c.requires.halved.0
     to_value_text_after (kept-quotient _ c.requires.asked.0 _ c.requires.asked.1 c.requires.asked.2 _ _ _
     c.labels-labels.ensures c.body-2.ensures
     c.body-3.ensures _ _ _ _
-    (c.put_half-len.ensures.half_after ∙ half_together _ c.requires.asked.0.log _ c.requires.asked.1 _ _ p) c.divide.ensures.value
+    (c.put_half-len.ensures.half_after ∙ half_together _ c.requires.asked.0.log _ c.requires.asked.1 _ _ p)
+    c.divide.ensures.value
     c.divide.ensures.out_after)

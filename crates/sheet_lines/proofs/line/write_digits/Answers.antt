@@ -70,13 +70,15 @@ pub loop-digit-smaller : goal.loop-digit-smaller
 loop-digit-smaller c = omega (arith, c.loop-digit-test.true)
 
 pub loop-digit-preserved : goal.loop-digit-preserved
-loop-digit-preserved c = let z : c.args.number + (c.loop-digit.digit - (48 + c.args.number % 10)) + 1 ≡ c.args.number + (c.loop-digit.digit + 1 - (48 + c.args.number % 10)) = omega (arith, c.loop-digit.invariant.1) in (
-  rw (← z) (digits_more _ _ _ _ _ _ _ _ _ _ c.loop-digit.invariant.0 (omega (arith, c.loop-digit.invariant.1, c.loop-digit-test.true)) (omega (arith, c.loop-digit.invariant.1)) _
-      (omega (arith, c.if-last-to.false, c.if-out-line.false, kept _ _ _ _ _ _ _ _ c.loop-digit.invariant.0))
-      c.put_line.ensures),
-  omega (arith, c.loop-digit.invariant.1),
-  omega (arith, c.loop-digit-test.true),
-)
+loop-digit-preserved c = let z : c.args.number + (c.loop-digit.digit - (48 + c.args.number % 10)) + 1 ≡ c.args.number +
+    (c.loop-digit.digit + 1 - (48 + c.args.number % 10)) = omega (arith, c.loop-digit.invariant.1) in (
+      rw (← z) (digits_more _ _ _ _ _ _ _ _ _ _ c.loop-digit.invariant.0
+          (omega (arith, c.loop-digit.invariant.1, c.loop-digit-test.true)) (omega (arith, c.loop-digit.invariant.1)) _
+          (omega (arith, c.if-last-to.false, c.if-out-line.false, kept _ _ _ _ _ _ _ _ c.loop-digit.invariant.0))
+          c.put_line.ensures),
+      omega (arith, c.loop-digit.invariant.1),
+      omega (arith, c.loop-digit-test.true),
+    )
 
 pub shape_of-out : goal.shape_of-out
 shape_of-out c = kept _ _ _ _ _ _ _ _ c.loop-digit.invariant.0
@@ -84,5 +86,6 @@ shape_of-out c = kept _ _ _ _ _ _ _ _ c.loop-digit.invariant.0
 pub returns : goal.returns
 returns c = let few = tens_few _ _ c.requires.0 in
     let z : c.args.number + (c.loop-digit.digit - (48 + c.args.number % 10))
-    ≡ c.args.until = omega (arith, c.loop-digit.invariant.1, c.loop-digit.invariant.2, c.loop-digit-test.false, few.0) in
+    ≡ c.args.until = omega (arith, c.loop-digit.invariant.1, c.loop-digit.invariant.2, c.loop-digit-test.false, few.0)
+    in
     filled_end _ _ _ _ _ _ _ _ (rw z at c.loop-digit.invariant.0) (omega arith)

@@ -29,7 +29,8 @@ write_digits-requires c = (
     c.head_length-head.ensures.value,
     length_head c.args.point.number c.args.number c.args.point.letter,
     put-longer c.args.point c.args.number c.args.line.now _ _ c.args.len
-        (omega (arith, c.head_length-head.ensures.value)) (omega (arith, c.head_length-head.ensures.value, c.head_length-head.ensures.few)) c.requires.tens.1
+        (omega (arith, c.head_length-head.ensures.value)) (omega
+        (arith, c.head_length-head.ensures.value, c.head_length-head.ensures.few)) c.requires.tens.1
         c.put_head.ensures.out_after,
   ),
   c.requires.number_bound.2,
@@ -38,10 +39,12 @@ write_digits-requires c = (
 pub returns : goal.returns
 returns c = record {
   full = rw (put-lines c.args.point c.args.number c.args.line.now _ _ c.args.len
-      (omega (arith, c.head_length-head.ensures.value)) (omega (arith, c.head_length-head.ensures.value, c.head_length-head.ensures.few)) c.requires.tens.1
+      (omega (arith, c.head_length-head.ensures.value)) (omega
+      (arith, c.head_length-head.ensures.value, c.head_length-head.ensures.few)) c.requires.tens.1
       c.put_head.ensures.out_after _ _ c.requires.tens.0 c.head_length-head.ensures.value)
       at c.write_digits.ensures;
   line_unchanged = ending-kept c.args.point c.args.number c.args.line.now _ _ c.args.len
-      (omega (arith, c.head_length-head.ensures.value)) (omega (arith, c.head_length-head.ensures.value, c.head_length-head.ensures.few)) c.requires.tens.1
+      (omega (arith, c.head_length-head.ensures.value)) (omega
+      (arith, c.head_length-head.ensures.value, c.head_length-head.ensures.few)) c.requires.tens.1
       c.put_head.ensures.out_after;
 }

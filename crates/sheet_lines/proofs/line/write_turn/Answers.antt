@@ -18,7 +18,11 @@ write_tens-done-requires c = record {
     omega (arith, c.smaller-end.ensures, c.requires.number_bound.2),
     omega (arith, c.loop-i.invariant.0.room, kept _ _ _ _ _ _ _ _ c.loop-i.invariant.0),
   );
-  tens = (tens_of _ _ _ c.smaller-end.ensures (omega arith), omega (arith, c.requires.len_in_bounds, c.loop-i.invariant.2));
+  tens = (
+    tens_of _ _ _ c.smaller-end.ensures (omega arith),
+    omega
+        (arith, c.requires.len_in_bounds, c.loop-i.invariant.2),
+  );
 }
 
 pub shape_of-out-then-i-end : goal.shape_of-out-then-i-end
@@ -31,7 +35,8 @@ shape_of-line-then-i-end c = c.write_tens-done.auto.line
     ∙ c.loop-i.invariant.2
 
 pub returns-then-i-end : goal.returns-then-i-end
-returns-then-i-end c = tens_full _ _ _ _ _ _ _ _ _ _ _ _ _ _ c.loop-i.invariant.1 c.loop-i.invariant.0 (omega (arith, c.smaller-end.ensures))
+returns-then-i-end c = tens_full _ _ _ _ _ _ _ _ _ _ _ _ _ _ c.loop-i.invariant.1 c.loop-i.invariant.0
+    (omega (arith, c.smaller-end.ensures))
     (omega (arith, c.smaller-end.ensures, c.loop-i-test.true))
     c.write_tens-done.ensures.full (omega (arith, c.if-i-end.true))
 

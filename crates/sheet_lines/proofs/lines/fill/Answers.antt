@@ -58,7 +58,11 @@ write_point-done-requires c = let h : c.loop-i.i < c.args.first + c.args.due = o
         point_within _ _ c.requires.numbered _ _ c.requires.due_bound _ h,
       );
       number_le_until = (until.0, until.1, rw (← c.requires.numbered.counted) c.requires.numbered.few);
-      at_in_bounds = (omega (arith, c.loop-i.invariant.0.room, kept _ _ _ _ _ _ _ _ c.loop-i.invariant.0), c.loop-i.invariant.2, c.loop-i.invariant.1);
+      at_in_bounds = (
+        omega (arith, c.loop-i.invariant.0.room, kept _ _ _ _ _ _ _ _ c.loop-i.invariant.0),
+        c.loop-i.invariant.2,
+        c.loop-i.invariant.1,
+      );
     }
 
 pub overflow_sub-i : goal.overflow_sub-i

@@ -21,7 +21,8 @@ returns-then-most-eq0 c = let e = none_most (refused_line c.args.refusal) c.args
     }
 
 pub returns-then-out-len : goal.returns-then-out-len
-returns-then-out-len c = let e = one-due (refused_line c.args.refusal) c.args.first c.args.most (omega arith) c.if-most-eq0.false in
+returns-then-out-len c = let e = one-due (refused_line c.args.refusal) c.args.first c.args.most (omega arith)
+    c.if-most-eq0.false in
     to_value_out_after (refused_short _ _ _ e (omega (arith, c.refused_length-len.ensures)))
 
 pub returns : goal.returns

@@ -11,13 +11,16 @@ pub bounds-out-1 : goal.bounds-out-1
 bounds-out-1 c = simp length-set (omega (arith, c.requires, length_refused c.args.refusal))
 
 pub bounds-out-at : goal.bounds-out-at
-bounds-out-at c = let placed = refused_place c.args.out.now _ _ _ _ c.requires c.number.ensures c.put_decimal-at.ensures.value
+bounds-out-at c = let placed = refused_place c.args.out.now _ _ _ _ c.requires c.number.ensures
+    c.put_decimal-at.ensures.value
     c.put_decimal-at.ensures.out_after in
     omega (arith, c.requires, placed)
 
 pub shape_of-out : goal.shape_of-out
-shape_of-out c = simp length-set (refused_place c.args.out.now _ _ _ _ c.requires c.number.ensures c.put_decimal-at.ensures.value
+shape_of-out c = simp length-set (refused_place c.args.out.now _ _ _ _ c.requires c.number.ensures
+    c.put_decimal-at.ensures.value
     c.put_decimal-at.ensures.out_after).1
 
 pub returns : goal.returns
-returns c = refused_put c.args.out.now _ _ _ _ c.requires c.number.ensures c.put_decimal-at.ensures.value c.put_decimal-at.ensures.out_after
+returns c = refused_put c.args.out.now _ _ _ _ c.requires c.number.ensures c.put_decimal-at.ensures.value
+    c.put_decimal-at.ensures.out_after

@@ -1,3 +1,4 @@
+-- The first i endings are forgotten; the endings left fall.
 use Prim.Native.Nat.{◌-◌, ◌≤◌}
 use mathlib.Core.Path.{◌≡◌}
 use lib.ListN.{length}

@@ -11,10 +11,16 @@ use Rattle.labels.proofs.Slices.{copied_whole, copied_count}
 use Rattle.sheet_lines.proofs.point.take_ending.Goals as goal
 
 pub slice_bounds-copy-count : goal.slice_bounds-copy-count
-slice_bounds-copy-count c = omega (arith, (standing_within _ _ _ _ _ _ _ c.requires.endings_known c.requires.t_lt_ways.0 c.if-end-ne0.true))
+slice_bounds-copy-count c = omega (
+  arith,
+  (standing_within _ _ _ _ _ _ _ c.requires.endings_known c.requires.t_lt_ways.0 c.if-end-ne0.true),
+)
 
 pub slice_bounds-copy-start : goal.slice_bounds-copy-start
-slice_bounds-copy-start c = omega (arith, (standing_within _ _ _ _ _ _ _ c.requires.endings_known c.requires.t_lt_ways.0 c.if-end-ne0.true))
+slice_bounds-copy-start c = omega (
+  arith,
+  (standing_within _ _ _ _ _ _ _ c.requires.endings_known c.requires.t_lt_ways.0 c.if-end-ne0.true),
+)
 
 pub slice_bounds-copy-end : goal.slice_bounds-copy-end
 slice_bounds-copy-end c = omega (
@@ -24,7 +30,8 @@ slice_bounds-copy-end c = omega (
 )
 
 pub returns-then-end-ne0 : goal.returns-then-end-ne0
-returns-then-end-ne0 c = let b = (standing_bytes (ending_in (case_of c.args.casebook.now c.args.window) c.args.point.letter) _ _
+returns-then-end-ne0 c = let b = (standing_bytes
+    (ending_in (case_of c.args.casebook.now c.args.window) c.args.point.letter) _ _
     _ _ _ _ c.requires.endings_known c.requires.t_lt_ways.0 c.if-end-ne0.true) in
     let z = (copied_count _ _ _ (omega (
       arith,
@@ -75,7 +82,11 @@ returns-then-end-ne0 c = let b = (standing_bytes (ending_in (case_of c.args.case
 
 pub find_ending-requires : goal.find_ending-requires
 find_ending-requires c = record {
-  asked = (c.requires.shared.asked, omega (arith, c.requires.t_lt_ways.0, c.requires.shared.counted), c.requires.shared.few);
+  asked = (
+    c.requires.shared.asked,
+    omega (arith, c.requires.t_lt_ways.0, c.requires.shared.counted),
+    c.requires.shared.few,
+  );
   halved = (c.requires.shared.halved, c.requires.scratch.text_size);
   ending_len = rest_length 12 c.args.line.now ∙ omega (arith, c.requires.scratch.line_size);
 }

@@ -8,7 +8,11 @@ use Rattle.sheet_lines.proofs.PointTurns.{ending-within, turn_known, turn_done, 
 use Rattle.sheet_lines.proofs.point.write_numbers.Goals as goal
 
 pub loop-n-init : goal.loop-n-init
-loop-n-init c = (filled_none _ _ _ _ _ c.requires.number_bound.1 c.requires.number_bound.3, c.requires.endings_known, c.requires.scratch)
+loop-n-init c = (
+  filled_none _ _ _ _ _ c.requires.number_bound.1 c.requires.number_bound.3,
+  c.requires.endings_known,
+  c.requires.scratch,
+)
 
 pub nonzero_div-t : goal.nonzero_div-t
 nonzero_div-t c = omega (arith, c.requires.after_nonzero.0)
@@ -27,7 +31,15 @@ overflow_add-n c = omega (arith, c.requires.number_bound.2, c.requires.after_non
 
 pub take_ending-len-requires : goal.take_ending-len-requires
 take_ending-len-requires c = record {
-  t_lt_ways = (mod-lt _ c.requires.after_nonzero.1, omega (arith, c.loop-n.invariant.0.room, kept _ _ _ _ _ _ _ _ c.loop-n.invariant.0));
+  t_lt_ways = (
+    mod-lt _ c.requires.after_nonzero.1,
+    omega (
+      arith,
+      c.loop-n.invariant.0.room,
+      kept _ _ _ _ _ _ _ _
+          c.loop-n.invariant.0,
+    ),
+  );
   shared = c.requires.shared;
   scratch = c.loop-n.invariant.2;
   endings_known = c.loop-n.invariant.1;
@@ -88,7 +100,8 @@ returns-then-n-end c = record {
         c.smaller-end.ensures,
         c.loop-n-test.true,
       )) c.write_turn-done.ensures _
-      _ _ _ c.loop-n.invariant.0 (omega (arith, c.smaller-end.ensures)) (omega (arith, c.smaller-end.ensures)) c.requires.after_nonzero.0
+      _ _ _ c.loop-n.invariant.0 (omega (arith, c.smaller-end.ensures)) (omega (arith, c.smaller-end.ensures))
+      c.requires.after_nonzero.0
       refl
       (omega (arith, c.if-n-end.true));
   scratch_2 = (scratch_kept _ _ _ _ _ _ _ _ _ _ _ _ c.loop-n.invariant.2
@@ -118,7 +131,8 @@ loop-n-preserved c = (
   turn_known (case_of c.args.casebook.now c.args.window) c.args.point _ _ _ _ _ _ _ _ _ _ _ _
       c.take_ending-len.ensures.line_after c.loop-n.invariant.1
       (omega (arith, c.loop-n.invariant.0.room, kept _ _ _ _ _ _ _ _ c.loop-n.invariant.0))
-      (omega (arith, c.smaller-end.ensures, c.loop-n-test.true)) c.write_turn-done.ensures _ c.take_ending-len.ensures.value
+      (omega (arith, c.smaller-end.ensures, c.loop-n-test.true)) c.write_turn-done.ensures _
+      c.take_ending-len.ensures.value
       c.loop-n.invariant.2.froms_size c.loop-n.invariant.2.ends_size _ _ c.remember.ensures.froms_after
       c.remember.ensures.ends_after,
   (scratch_kept _ _ _ _ _ _ _ _ _ _ _ _ c.loop-n.invariant.2 c.remember.ensures.froms_after

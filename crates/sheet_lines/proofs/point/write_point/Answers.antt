@@ -7,7 +7,10 @@ use Rattle.sheet_lines.proofs.PointLines.{numbers_few}
 use Rattle.sheet_lines.proofs.point.write_point.Goals as goal
 
 pub part_of-window-requires : goal.part_of-window-requires
-part_of-window-requires c = (omega (arith, c.window_start-first.ensures), (point_bytes _ c.requires.asked _ c.requires.back_value.1).0)
+part_of-window-requires c = (
+  omega (arith, c.window_start-first.ensures),
+  (point_bytes _ c.requires.asked _ c.requires.back_value.1).0,
+)
 
 pub part_of-rest-requires : goal.part_of-rest-requires
 part_of-rest-requires c = let fits = point_bytes _ c.requires.asked _ c.requires.back_value.1 in
@@ -27,18 +30,21 @@ pub forget-requires : goal.forget-requires
 forget-requires c = c.requires.at_in_bounds.2.ends_size
 
 pub write_numbers-requires : goal.write_numbers-requires
-write_numbers-requires c = let few : c.args.point < 1000 = omega (arith, point_bytes _ c.requires.asked _ c.requires.back_value.1) in
+write_numbers-requires c = let few : c.args.point < 1000 = omega
+    (arith, point_bytes _ c.requires.asked _ c.requires.back_value.1) in
     let end = numbers_few _ _ c.requires.number_le_until.1 c.requires.number_le_until.2 in
     record {
       number_bound = (few, c.requires.number_le_until.0, end, c.requires.at_in_bounds.0);
-      after_nonzero = point_numbers _ c.requires.asked _ c.requires.back_value.1 c.requires.number_le_until.2 _ c.requires.back_value.0 _ _
+      after_nonzero = point_numbers _ c.requires.asked _ c.requires.back_value.1 c.requires.number_le_until.2 _
+          c.requires.back_value.0 _ _
           c.window_start-first.ensures
           c.steps_of.ensures _ _
           c.part_of-window.ensures
           c.part_of-rest.ensures
           _ _ _ c.letter_at-letter.ensures c.splittings_of-ways.ensures
           c.splittings_after-after.ensures;
-      shared = point_shared _ c.requires.asked _ c.requires.back_value.1 c.requires.number_le_until.2 _ c.requires.back_value.0 _ _
+      shared = point_shared _ c.requires.asked _ c.requires.back_value.1 c.requires.number_le_until.2 _
+          c.requires.back_value.0 _ _
           c.window_start-first.ensures
           c.steps_of.ensures _ _
           c.part_of-window.ensures
@@ -55,7 +61,8 @@ write_numbers-requires c = let few : c.args.point < 1000 = omega (arith, point_b
     }
 
 pub returns : goal.returns
-returns c = let lines = point_lines _ c.requires.asked _ c.requires.back_value.1 c.requires.number_le_until.2 _ c.requires.back_value.0 _ _
+returns c = let lines = point_lines _ c.requires.asked _ c.requires.back_value.1 c.requires.number_le_until.2 _
+    c.requires.back_value.0 _ _
     c.window_start-first.ensures
     c.steps_of.ensures _ _
     c.part_of-window.ensures c.part_of-rest.ensures _ _

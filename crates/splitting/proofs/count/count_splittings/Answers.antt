@@ -12,10 +12,15 @@ pub ways_of-requires : goal.ways_of-requires
 ways_of-requires c = c.requires.tables
 
 pub overflow_mul-splittings : goal.overflow_mul-splittings
-overflow_mul-splittings c = omega (arith, product_small _ _ (counted_small c.requires _ _ c.loop-step.invariant.1) c.ways_of.ensures.few)
+overflow_mul-splittings c = omega (
+  arith,
+  product_small _ _ (counted_small c.requires _ _ c.loop-step.invariant.1)
+      c.ways_of.ensures.few,
+)
 
 pub returns-in-NoSuchStep : goal.returns-in-NoSuchStep
-returns-in-NoSuchStep c = counted_end c.requires _ _ (sym c.in-NoSuchStep.is ∙ c.joint_step.ensures) c.loop-step.invariant.0
+returns-in-NoSuchStep c = counted_end c.requires _ _ (sym c.in-NoSuchStep.is ∙ c.joint_step.ensures)
+    c.loop-step.invariant.0
     c.loop-step.invariant.1
 
 pub overflow_add-i : goal.overflow_add-i

@@ -1,3 +1,4 @@
+-- The splittings of the first i steps are counted, up to the cap; the steps left fall.
 use Prim.Native.Nat.{◌-◌, ◌/◌, ◌≤◌}
 use lib.ListN.{length}
 use Rattle.splitting.proofs.Counts.{CountedTo}

@@ -17,16 +17,19 @@ pub put_step-requires-2 : goal.put_step-requires-2
 put_step-requires-2 c = omega (arith, c.requires.i_in_bounds.1)
 
 pub nonzero_div-result : goal.nonzero_div-result
-nonzero_div-result c = let e = ways-options _ _ _ c.requires.tables _ _ _ (c.rows_leaving-left_rows.ensures.exact c.requires.tables.left.rising)
+nonzero_div-result c = let e = ways-options _ _ _ c.requires.tables _ _ _
+    (c.rows_leaving-left_rows.ensures.exact c.requires.tables.left.rising)
     (c.rows_leaving-right_rows.ensures.exact c.requires.tables.right.rising) in
     ways-some _ _ _ _ 0 _ e _ c.count_ways-ways.ensures c.requires.nonzero
 
 pub returns : goal.returns
-returns c = let e = ways-options _ _ _ c.requires.tables _ _ _ (c.rows_leaving-left_rows.ensures.exact c.requires.tables.left.rising)
+returns c = let e = ways-options _ _ _ c.requires.tables _ _ _
+    (c.rows_leaving-left_rows.ensures.exact c.requires.tables.left.rising)
     (c.rows_leaving-right_rows.ensures.exact c.requires.tables.right.rising) in
     record {
       value = number_before _ _ _ _ _ _ e _ c.count_ways-ways.ensures;
-      left_out_after = left-put _ _ _ _ _ _ e _ c.count_ways-ways.ensures _ c.nth_way-way.ensures _ _ _ _ c.put_step.ensures;
+      left_out_after = left-put _ _ _ _ _ _ e _ c.count_ways-ways.ensures _ c.nth_way-way.ensures _ _ _ _
+          c.put_step.ensures;
       right_out_after = right-put _ _ _ _ _ _ e _ c.count_ways-ways.ensures _ c.nth_way-way.ensures _ _ _ _
           c.put_step-2.ensures;
     }

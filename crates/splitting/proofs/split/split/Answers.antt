@@ -5,7 +5,8 @@ use Rattle.hml.proofs.Clauses.{to_value_left_out_after_right_out_after}
 use Rattle.splitting.proofs.split.split.Goals as goal
 
 pub returns-in-Refused : goal.returns-in-Refused
-returns-in-Refused c = to_value_left_out_after_right_out_after (split_refused _ _ _ _ _ _ _ _ (sym c.check_split.ensures ∙ c.in-Refused.is))
+returns-in-Refused c = to_value_left_out_after_right_out_after
+    (split_refused _ _ _ _ _ _ _ _ (sym c.check_split.ensures ∙ c.in-Refused.is))
 
 pub write_halves-requires : goal.write_halves-requires
 write_halves-requires c = let e = sym c.check_split.ensures ∙ c.in-Sound.is in

@@ -18,7 +18,8 @@ put_way-n-requires c = record {
 }
 
 pub loop-i-preserved : goal.loop-i-preserved
-loop-i-preserved c = unrolled_on c.requires.log _ _ _ c.requires.run_in_bounds _ _ _ _ c.loop-i.invariant _ (omega arith) _
+loop-i-preserved c = unrolled_on c.requires.log _ _ _ c.requires.run_in_bounds _ _ _ _ c.loop-i.invariant _
+    (omega arith) _
     (sym c.in-Step.is ∙ c.joint_step.ensures) _ _ _ c.put_way-n.ensures.value c.put_way-n.ensures.left_out_after
     c.put_way-n.ensures.right_out_after
 
@@ -29,20 +30,23 @@ pub shape_of-right_out-in-NoSuchStep : goal.shape_of-right_out-in-NoSuchStep
 shape_of-right_out-in-NoSuchStep c = c.loop-i.invariant.right_size
 
 pub returns-in-NoSuchStep : goal.returns-in-NoSuchStep
-returns-in-NoSuchStep c = to_left_out_after_right_out_after (absurd (put-there c.requires.log _ _ _ c.requires.run_in_bounds _ _ _ _ c.loop-i.invariant _ (omega arith)
+returns-in-NoSuchStep c = to_left_out_after_right_out_after (absurd
+    (put-there c.requires.log _ _ _ c.requires.run_in_bounds _ _ _ _ c.loop-i.invariant _ (omega arith)
     (sym c.in-NoSuchStep.is ∙ c.joint_step.ensures)))
 
 pub bounds-run-0 : goal.bounds-run-0
 bounds-run-0 c = omega (arith, c.requires.log.run.whole)
 
 pub bounds-left_out-0 : goal.bounds-left_out-0
-bounds-left_out-0 c = (first-room c.requires.log _ _ _ c.requires.run_in_bounds _ _ _ _ c.loop-i.invariant (omega arith)).0
+bounds-left_out-0 c = (first-room c.requires.log _ _ _ c.requires.run_in_bounds _ _ _ _ c.loop-i.invariant
+    (omega arith)).0
 
 pub bounds-run-1 : goal.bounds-run-1
 bounds-run-1 c = omega (arith, c.requires.log.run.whole)
 
 pub bounds-right_out-0 : goal.bounds-right_out-0
-bounds-right_out-0 c = (first-room c.requires.log _ _ _ c.requires.run_in_bounds _ _ _ _ c.loop-i.invariant (omega arith)).1
+bounds-right_out-0 c = (first-room c.requires.log _ _ _ c.requires.run_in_bounds _ _ _ _ c.loop-i.invariant
+    (omega arith)).1
 
 pub shape_of-left_out : goal.shape_of-left_out
 shape_of-left_out c = simp length-set c.loop-i.invariant.left_size
@@ -53,5 +57,6 @@ shape_of-right_out c = simp length-set c.loop-i.invariant.right_size
 pub returns : goal.returns
 returns c = record {
   left_out_after = unrolled_left c.requires.log _ _ _ c.requires.run_in_bounds _ _ _ _ c.loop-i.invariant (omega arith);
-  right_out_after = unrolled_right c.requires.log _ _ _ c.requires.run_in_bounds _ _ _ _ c.loop-i.invariant (omega arith);
+  right_out_after = unrolled_right c.requires.log _ _ _ c.requires.run_in_bounds _ _ _ _ c.loop-i.invariant
+      (omega arith);
 }

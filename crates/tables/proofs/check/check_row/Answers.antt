@@ -28,13 +28,15 @@ returns-then-last-row c = new_judged _ _ _ _
     (unseen_from _ _ c.row_of-last.ensures c.row_of-row.ensures c.if-last-row.true)
 
 pub returns-then-earlier-ge8 : goal.returns-then-earlier-ge8
-returns-then-earlier-ge8 c = ninth-judged _ _ _ _ (seen_range _ _ c.row_of-row.ensures c.row_of-row.ensures _ _ c.in_range.ensures c.if-not-in_range.false)
+returns-then-earlier-ge8 c = ninth-judged _ _ _ _ (seen_range _ _ c.row_of-row.ensures c.row_of-row.ensures _ _
+    c.in_range.ensures c.if-not-in_range.false)
     c.if-i-eq0.false
     (seen_below _ _ c.row_of-last.ensures c.row_of-row.ensures c.is_below.ensures c.if-not-is_below.false) _
     c.requires.1 (seen_from _ _ c.row_of-last.ensures c.row_of-row.ensures c.if-last-row.false) c.if-earlier-ge8.true
 
 pub returns : goal.returns
-returns c = more-judged _ _ _ _ (seen_range _ _ c.row_of-row.ensures c.row_of-row.ensures _ _ c.in_range.ensures c.if-not-in_range.false)
+returns c = more-judged _ _ _ _ (seen_range _ _ c.row_of-row.ensures c.row_of-row.ensures _ _ c.in_range.ensures
+    c.if-not-in_range.false)
     c.if-i-eq0.false
     (seen_below _ _ c.row_of-last.ensures c.row_of-row.ensures c.is_below.ensures c.if-not-is_below.false) _
     c.requires.1 (seen_from _ _ c.row_of-last.ensures c.row_of-row.ensures c.if-last-row.false) c.if-earlier-ge8.false

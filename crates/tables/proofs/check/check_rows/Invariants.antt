@@ -1,3 +1,4 @@
+-- The rows from row i on decide, and `leaving` are counted in front of it (`Going`); the rows left fall.
 use Prim.Native.Nat.{◌-◌}
 use Rattle.tables.proofs.Judging.{Going}
 use Rattle.tables.proofs.check.check_rows.Given as goal

@@ -1,3 +1,4 @@
+-- Whether a row is the wanted one is left to `rest` (`Searching`); its bytes fall.
 use mathlib.Core.Bool.{Bool, ◌&&◌}
 use Prim.Native.Nat.{ℕ}
 use lib.ListN.{length}

@@ -1,3 +1,4 @@
+-- `Halving`: the place sought stands from `low` to `high`; the rows between them fall.
 use Prim.Native.Nat.{◌-◌}
 use Rattle.tables.proofs.Halving.{Halving}
 use Rattle.tables.proofs.leaving.rows_below.Given as goal

@@ -13,11 +13,16 @@ from_at-requires c = omega (arith, c.loop-end.invariant.0)
 pub returns-then-from_at-state : goal.returns-then-from_at-state
 returns-then-from_at-state c = record {
   leave = c.loop-end.invariant.1;
-  exact = leave_other _ _ _ _ c.loop-end.invariant.1 c.requires.1 (omega (arith, c.loop-end.invariant.0)) (λ e. c.if-from_at-state.true (c.from_at.ensures ∙ e));
+  exact = leave_other _ _ _ _ c.loop-end.invariant.1 c.requires.1 (omega (arith, c.loop-end.invariant.0))
+      (λ e. c.if-from_at-state.true (c.from_at.ensures ∙ e));
 }
 
 pub loop-end-preserved : goal.loop-end-preserved
-loop-end-preserved c = (c.loop-end.invariant.0, leave_on _ _ _ _ c.loop-end.invariant.1 (omega (arith, c.loop-end.invariant.0)) (sym c.from_at.ensures ∙ c.if-from_at-state.false))
+loop-end-preserved c = (
+  c.loop-end.invariant.0,
+  leave_on _ _ _ _ c.loop-end.invariant.1
+      (omega (arith, c.loop-end.invariant.0)) (sym c.from_at.ensures ∙ c.if-from_at-state.false),
+)
 
 pub returns : goal.returns
 returns c = record {

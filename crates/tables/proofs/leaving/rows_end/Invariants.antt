@@ -1,3 +1,4 @@
+-- The rows up to `end` leave the state; the rows behind it fall.
 use mathlib.Core.Path.{◌≡◌}
 use Prim.Native.Nat.{◌-◌}
 use lib.ListN.{length}

@@ -7,7 +7,8 @@ use Rattle.tables.proofs.leaving.rows_leaving.Goals as goal
 pub returns-then-end-start : goal.returns-then-end-start
 returns-then-end-start c = record {
   together = none_together _ _;
-  exact = empty_span _ _ _ _ c.rows_end-end.ensures.leave c.rows_below-start.ensures.exact c.rows_end-end.ensures.exact c.if-end-start.true;
+  exact = empty_span _ _ _ _ c.rows_end-end.ensures.leave c.rows_below-start.ensures.exact c.rows_end-end.ensures.exact
+      c.if-end-start.true;
 }
 
 pub overflow_mul-from : goal.overflow_mul-from

@@ -13,7 +13,8 @@ write_code-forwards-requires c = record {
 pub holds-requires : goal.holds-requires
 holds-requires c = record {
   two_grids = c.look_up.ensures.grids;
-  ready = legal_ready _ _ c.requires.legal _ _ _ c.write_code-forwards.ensures.words c.requires.held.2 c.requires.held.0 c.requires.held.1;
+  ready = legal_ready _ _ c.requires.legal _ _ _ c.write_code-forwards.ensures.words c.requires.held.2 c.requires.held.0
+      c.requires.held.1;
 }
 
 pub returns-then-holds : goal.returns-then-holds

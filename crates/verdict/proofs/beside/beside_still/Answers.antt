@@ -20,7 +20,8 @@ pub bounds-run-i-in-loop-i-2 : goal.bounds-run-i-in-loop-i-2
 bounds-run-i-in-loop-i-2 c = simp length-set (omega (arith, widen_kept _ _ c.args.run.now _ _ c.loop-i.invariant))
 
 pub loop-i-preserved : goal.loop-i-preserved
-loop-i-preserved c = widen_on _ _ _ _ _ c.loop-i.invariant c.requires.0 (simp length-set c.requires.1) c.loop-i-test.true
+loop-i-preserved c = widen_on _ _ _ _ _ c.loop-i.invariant c.requires.0 (simp length-set c.requires.1)
+    c.loop-i-test.true
 
 pub shape_of-run : goal.shape_of-run
 shape_of-run c = widen_kept _ _ c.args.run.now _ _ c.loop-i.invariant

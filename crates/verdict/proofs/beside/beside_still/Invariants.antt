@@ -1,3 +1,4 @@
+-- The first i steps stand in the wider run (`Widening`); the steps left fall.
 use Prim.Native.Nat.{◌-◌}
 use Rattle.verdict.proofs.Widening.{Widening}
 use Rattle.verdict.proofs.beside.beside_still.Given as goal

@@ -16,7 +16,8 @@ pub returns-then-operator-eq0 : goal.returns-then-operator-eq0
 returns-then-operator-eq0 c = chain_true _ _ _ _ _ _ _ c.loop-len.invariant.1 c.if-operator-eq0.true _ c.as_told.ensures
 
 pub returns-then-operator-eq1 : goal.returns-then-operator-eq1
-returns-then-operator-eq1 c = chain_false _ _ _ _ _ _ _ c.loop-len.invariant.1 c.if-operator-eq1.true _ c.as_told-then-operator-eq1.ensures
+returns-then-operator-eq1 c = chain_false _ _ _ _ _ _ _ c.loop-len.invariant.1 c.if-operator-eq1.true _
+    c.as_told-then-operator-eq1.ensures
 
 pub overflow_add-at : goal.overflow_add-at
 overflow_add-at c = omega (arith, chain_room _ _ _ _ _ _ _ c.loop-len.invariant.1, c.well_formed)
@@ -25,7 +26,11 @@ pub loop-len-smaller-then-operator-eq2 : goal.loop-len-smaller-then-operator-eq2
 loop-len-smaller-then-operator-eq2 c = omega (arith, chain_room _ _ _ _ _ _ _ c.loop-len.invariant.1)
 
 pub loop-len-preserved-then-operator-eq2 : goal.loop-len-preserved-then-operator-eq2
-loop-len-preserved-then-operator-eq2 c = (c.loop-len.invariant.0, chain_not _ _ _ _ _ _ _ c.loop-len.invariant.1 c.if-operator-eq2.true)
+loop-len-preserved-then-operator-eq2 c = (
+  c.loop-len.invariant.0,
+  chain_not _ _ _ _ _ _ _ c.loop-len.invariant.1
+      c.if-operator-eq2.true,
+)
 
 pub returns-then-not-is_back : goal.returns-then-not-is_back
 unfolding Tells
@@ -42,7 +47,8 @@ steps_back-requires c = omega (arith, c.loop-len.invariant.1.short, c.requires.h
 
 pub returns-then-not-steps_back : goal.returns-then-not-steps_back
 returns-then-not-steps_back c = let back = sym c.is_back.ensures ∙ c.if-not-is_back.false in
-    chain_nowhere _ _ _ _ _ _ _ c.loop-len.invariant.1 back _ c.steps_back.ensures c.if-not-steps_back.true _ c.as_told-then-not-steps_back.ensures
+    chain_nowhere _ _ _ _ _ _ _ c.loop-len.invariant.1 back _ c.steps_back.ensures c.if-not-steps_back.true _
+    c.as_told-then-not-steps_back.ensures
 
 pub overflow_sub-len : goal.overflow_sub-len
 overflow_sub-len c = let back = sym c.is_back.ensures ∙ c.if-not-is_back.false in
@@ -55,5 +61,8 @@ pub loop-len-smaller : goal.loop-len-smaller
 loop-len-smaller c = omega (arith, chain_room _ _ _ _ _ _ _ c.loop-len.invariant.1)
 
 pub loop-len-preserved : goal.loop-len-preserved
-loop-len-preserved c = let back = sym c.is_back.ensures ∙ c.if-not-is_back.false in
-    (c.loop-len.invariant.0, chain_back _ _ _ _ _ _ _ c.loop-len.invariant.1 back _ c.steps_back.ensures c.if-not-steps_back.false)
+loop-len-preserved c = let back = sym c.is_back.ensures ∙ c.if-not-is_back.false in (
+  c.loop-len.invariant.0,
+  chain_back _ _ _ _ _ _ _ c.loop-len.invariant.1 back _ c.steps_back.ensures
+      c.if-not-steps_back.false,
+)

@@ -1,3 +1,4 @@
+-- The formula from `at` on decides, on the first `len` bytes of the run (`Chain`); its bytes left fall.
 use Prim.Native.Nat.{◌-◌}
 use lib.ListN.{length}
 use Rattle.labels.specs.declared.label.Labels.{Labels}

@@ -12,7 +12,8 @@ pub bounds-f-at : goal.bounds-f-at
 bounds-f-at c = omega (arith, c.loop-at.invariant.nodes, c.loop-at-test.true)
 
 pub size-first-requires : goal.size-first-requires
-size-first-requires c = to_first_le_n_first_bound (sizing_fits _ c.requires.whole _ _ _ _ _ c.loop-at.invariant c.loop-at-test.true)
+size-first-requires c = to_first_le_n_first_bound (sizing_fits _ c.requires.whole _ _ _ _ _ c.loop-at.invariant
+    c.loop-at-test.true)
 
 pub overflow_add-n : goal.overflow_add-n
 overflow_add-n c = omega (arith, sizing_room _ c.requires.whole _ _ _ _ _ c.loop-at.invariant c.loop-at-test.true)
@@ -34,8 +35,10 @@ pub loop-at-smaller : goal.loop-at-smaller
 loop-at-smaller c = omega (arith, c.loop-at-test.true)
 
 pub loop-at-preserved : goal.loop-at-preserved
-loop-at-preserved c = sizing_on _ c.requires.whole _ _ _ _ _ c.loop-at.invariant c.loop-at-test.true _ c.size-first.ensures
+loop-at-preserved c = sizing_on _ c.requires.whole _ _ _ _ _ c.loop-at.invariant c.loop-at-test.true _
+    c.size-first.ensures
     _ c.forward_of-forwards.ensures
 
 pub returns : goal.returns
-returns c = to_sizes_forwards (sizing_end _ c.requires.whole _ _ _ _ _ c.loop-at.invariant (omega (arith, c.loop-at-test.false)))
+returns c = to_sizes_forwards (sizing_end _ c.requires.whole _ _ _ _ _ c.loop-at.invariant
+    (omega (arith, c.loop-at-test.false)))

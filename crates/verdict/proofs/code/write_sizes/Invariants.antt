@@ -1,3 +1,4 @@
+-- The trees of the last n nodes have their sizes (`Sizing`); the bytes in front of them fall.
 use Rattle.verdict.proofs.Coding.{Sizing}
 use Rattle.verdict.proofs.code.write_sizes.Given as goal
 

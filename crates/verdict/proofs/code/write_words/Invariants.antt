@@ -1,3 +1,4 @@
+-- All nodes but the last n have their words (`Wording`); n falls.
 use Rattle.verdict.proofs.Coding.{Wording}
 use Rattle.verdict.proofs.code.write_words.Given as goal
 

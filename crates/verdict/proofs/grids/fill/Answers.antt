@@ -10,7 +10,8 @@ pub slice_bounds-rows_by_state-end : goal.slice_bounds-rows_by_state-end
 slice_bounds-rows_by_state-end c = omega (arith, empty_length _ c.requires.grids_value)
 
 pub slice_bounds-rows_by_state-end-2 : goal.slice_bounds-rows_by_state-end-2
-slice_bounds-rows_by_state-end-2 c = sym (length-take-le 1088 c.args.grids.now (omega (arith, empty_length _ c.requires.grids_value)))
+slice_bounds-rows_by_state-end-2 c = sym (length-take-le 1088 c.args.grids.now
+    (omega (arith, empty_length _ c.requires.grids_value)))
 
 pub rows_by_state-requires : goal.rows_by_state-requires
 rows_by_state-requires c = record {
@@ -31,5 +32,6 @@ rows_by_state-requires-2 c = record {
 }
 
 pub returns : goal.returns
-returns c = to_two_grids_by_index_by_index_2 (both_filled _ c.requires.grids_value _ c.rows_by_state.ensures.grid _ _ _ c.rows_by_state-2.ensures.grid
+returns c = to_two_grids_by_index_by_index_2 (both_filled _ c.requires.grids_value _ c.rows_by_state.ensures.grid _ _ _
+    c.rows_by_state-2.ensures.grid
     c.rows_by_state.ensures.by_index c.rows_by_state-2.ensures.by_index)

@@ -20,7 +20,11 @@ pub overflow_mul-state : goal.overflow_mul-state
 overflow_mul-state c = omega (arith, filling_fits c.requires.sound_table _ _ c.loop-i.invariant c.loop-i-test.true)
 
 pub bounds-grid-state : goal.bounds-grid-state
-bounds-grid-state c = omega (arith, filling_fits c.requires.sound_table _ _ c.loop-i.invariant c.loop-i-test.true, c.loop-i.invariant.whole)
+bounds-grid-state c = omega (
+  arith,
+  filling_fits c.requires.sound_table _ _ c.loop-i.invariant c.loop-i-test.true,
+  c.loop-i.invariant.whole,
+)
 
 pub overflow_cast-end : goal.overflow_cast-end
 overflow_cast-end c = omega (arith, filling_fits c.requires.sound_table _ _ c.loop-i.invariant c.loop-i-test.true)
@@ -35,26 +39,44 @@ pub bounds-table-at-in-loop-i : goal.bounds-table-at-in-loop-i
 bounds-table-at-in-loop-i c = omega (arith, c.requires.sound_table.fits.0)
 
 pub overflow_add-grid-in-loop-i : goal.overflow_add-grid-in-loop-i
-overflow_add-grid-in-loop-i c = omega (arith, filling_fits c.requires.sound_table _ _ c.loop-i.invariant c.loop-i-test.true)
+overflow_add-grid-in-loop-i c = omega (
+  arith,
+  filling_fits c.requires.sound_table _ _ c.loop-i.invariant
+      c.loop-i-test.true,
+)
 
 pub bounds-grid-end : goal.bounds-grid-end
-bounds-grid-end c = omega (arith, filling_fits c.requires.sound_table _ _ c.loop-i.invariant c.loop-i-test.true, c.loop-i.invariant.whole)
+bounds-grid-end c = omega (
+  arith,
+  filling_fits c.requires.sound_table _ _ c.loop-i.invariant c.loop-i-test.true,
+  c.loop-i.invariant.whole,
+)
 
 pub bounds-table-at-in-loop-i-2 : goal.bounds-table-at-in-loop-i-2
 bounds-table-at-in-loop-i-2 c = omega (arith, c.requires.sound_table.fits.0)
 
 pub overflow_add-grid-in-loop-i-3 : goal.overflow_add-grid-in-loop-i-3
-overflow_add-grid-in-loop-i-3 c = omega (arith, filling_fits c.requires.sound_table _ _ c.loop-i.invariant c.loop-i-test.true)
+overflow_add-grid-in-loop-i-3 c = omega (
+  arith,
+  filling_fits c.requires.sound_table _ _ c.loop-i.invariant
+      c.loop-i-test.true,
+)
 
 pub bounds-grid-end-in-loop-i : goal.bounds-grid-end-in-loop-i
-bounds-grid-end-in-loop-i c = let fits = filling_fits c.requires.sound_table _ _ c.loop-i.invariant c.loop-i-test.true in
+bounds-grid-end-in-loop-i c = let fits = filling_fits c.requires.sound_table _ _ c.loop-i.invariant c.loop-i-test.true
+    in
     simp length-set (omega (arith, fits, c.loop-i.invariant.whole))
 
 pub overflow_add-grid-in-loop-i-4 : goal.overflow_add-grid-in-loop-i-4
-overflow_add-grid-in-loop-i-4 c = omega (arith, filling_fits c.requires.sound_table _ _ c.loop-i.invariant c.loop-i-test.true)
+overflow_add-grid-in-loop-i-4 c = omega (
+  arith,
+  filling_fits c.requires.sound_table _ _ c.loop-i.invariant
+      c.loop-i-test.true,
+)
 
 pub bounds-grid-state-in-loop-i : goal.bounds-grid-state-in-loop-i
-bounds-grid-state-in-loop-i c = let fits = filling_fits c.requires.sound_table _ _ c.loop-i.invariant c.loop-i-test.true in
+bounds-grid-state-in-loop-i c = let fits = filling_fits c.requires.sound_table _ _ c.loop-i.invariant c.loop-i-test.true
+    in
     simp length-set (omega (arith, fits, c.loop-i.invariant.whole))
 
 pub loop-i-preserved : goal.loop-i-preserved

@@ -1,3 +1,4 @@
+-- The grid reads as the first i rows of the table (`Filling`); the rows left fall.
 use Prim.Native.Nat.{◌-◌}
 use Rattle.verdict.proofs.FilledGrids.{Filling}
 use Rattle.verdict.proofs.grids.rows_by_state.Given as goal

@@ -1,3 +1,4 @@
+-- The rows passed have other labels (`Sought`); the rows left fall.
 use Rattle.verdict.proofs.TwoGrids.{Sought}
 use Rattle.verdict.proofs.grids.wanted_rows.Given as goal
 

@@ -29,7 +29,8 @@ pub verdict_on-requires : goal.verdict_on-requires
 verdict_on-requires c = let check = sym c.check_half_call.ensures ∙ c.in-Sound.is in
     let call = half_call _ _ _ _ _ check in
     let room = half_room _ _ _ _ call.0 _ call.1 in
-    let held = half_held _ _ _ _ call.0 _ call.1 _ _ c.beside_still.ensures (omega (arith, room, c.beside_still.auto.run)) in
+    let held = half_held _ _ _ _ call.0 _ call.1 _ _ c.beside_still.ensures
+    (omega (arith, room, c.beside_still.auto.run)) in
     record {
       tables = half_tables _ _ _ _ call.0 _ call.1;
       held = (held, omega (arith, room), c.beside_still.auto.run);

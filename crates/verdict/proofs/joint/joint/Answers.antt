@@ -25,7 +25,8 @@ pub judged_joint-requires : goal.judged_joint-requires
 judged_joint-requires c = sym c.check.ensures ∙ c.in-Sound.is
 
 pub returns-then-point-eq0 : goal.returns-then-point-eq0
-returns-then-point-eq0 c = c.judged_joint.ensures ∙ whole-joint _ _ _ _ _ _ ∙ ap (joint_verdict _ _ _ _ _) (sym c.if-point-eq0.true)
+returns-then-point-eq0 c = c.judged_joint.ensures ∙ whole-joint _ _ _ _ _ _ ∙ ap (joint_verdict _ _ _ _ _)
+    (sym c.if-point-eq0.true)
 
 pub slice_bounds-judged_joint-end-2 : goal.slice_bounds-judged_joint-end-2
 slice_bounds-judged_joint-end-2 c = whole_length c.args.left.now

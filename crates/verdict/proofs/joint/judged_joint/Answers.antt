@@ -31,10 +31,12 @@ pub verdict_on-requires : goal.verdict_on-requires
 verdict_on-requires c = let check = sym c.check_joint_call.ensures ∙ c.in-Sound.is in
     let call = joint_call _ _ _ _ _ _ check in
     let room = joint-room _ _ _ _ _ call.0 _ call.1 in
-    let front = front_copied _ _ _ _ room.0 (copied_whole _ _ _ _ (let check = sym c.check_joint_call.ensures ∙ c.in-Sound.is in
+    let front = front_copied _ _ _ _ room.0 (copied_whole _ _ _ _
+    (let check = sym c.check_joint_call.ensures ∙ c.in-Sound.is in
     let call = joint_call _ _ _ _ _ _ check in
     let room = joint-room _ _ _ _ _ call.0 _ call.1 in
-    omega (arith, room, length-take (3 * c.args.point + 2) c.args.run.now)) c.copy.ensures.count c.copy.ensures.copied) in
+    omega (arith, room, length-take (3 * c.args.point + 2) c.args.run.now)) c.copy.ensures.count c.copy.ensures.copied)
+    in
     let held = joint-held _ _ _ _ _ call.0 _ call.1 _ front (omega (arith, room, c.copy.auto.dst)) in
     record {
       tables = call.0.tables;
@@ -46,8 +48,10 @@ pub returns : goal.returns
 returns c = let check = sym c.check_joint_call.ensures ∙ c.in-Sound.is in
     let call = joint_call _ _ _ _ _ _ check in
     let room = joint-room _ _ _ _ _ call.0 _ call.1 in
-    let front = front_copied _ _ _ _ room.0 (copied_whole _ _ _ _ (let check = sym c.check_joint_call.ensures ∙ c.in-Sound.is in
+    let front = front_copied _ _ _ _ room.0 (copied_whole _ _ _ _
+    (let check = sym c.check_joint_call.ensures ∙ c.in-Sound.is in
     let call = joint_call _ _ _ _ _ _ check in
     let room = joint-room _ _ _ _ _ call.0 _ call.1 in
-    omega (arith, room, length-take (3 * c.args.point + 2) c.args.run.now)) c.copy.ensures.count c.copy.ensures.copied) in
+    omega (arith, room, length-take (3 * c.args.point + 2) c.args.run.now)) c.copy.ensures.count c.copy.ensures.copied)
+    in
     joint_answer _ _ _ _ _ call.0 _ call.1 _ front check _ c.verdict_on.ensures

@@ -32,10 +32,12 @@ pub bounds-code-nodes-2 : goal.bounds-code-nodes-2
 bounds-code-nodes-2 c = omega (arith, c.loop-even.invariant.shorter, c.requires.1)
 
 pub returns-then-operator-eq0 : goal.returns-then-operator-eq0
-returns-then-operator-eq0 c odd = turning_top _ _ _ _ c.loop-even.invariant (sym c.operator_in-operator.ensures ∙ c.if-operator-eq0.true) odd
+returns-then-operator-eq0 c odd = turning_top _ _ _ _ c.loop-even.invariant
+    (sym c.operator_in-operator.ensures ∙ c.if-operator-eq0.true) odd
 
 pub returns-then-operator-eq1 : goal.returns-then-operator-eq1
-returns-then-operator-eq1 c even = turning_bottom _ _ _ _ c.loop-even.invariant (sym c.operator_in-operator.ensures ∙ c.if-operator-eq1.true) even
+returns-then-operator-eq1 c even = turning_bottom _ _ _ _ c.loop-even.invariant
+    (sym c.operator_in-operator.ensures ∙ c.if-operator-eq1.true) even
 
 pub returns : goal.returns
 returns c e = absurd (false≢true e)

@@ -1,3 +1,4 @@
+-- The nodes left decide, turned by each "not" (`Turning`); they fall.
 use Rattle.verdict.proofs.Going.{Turning}
 use Rattle.verdict.proofs.never.fails_everywhere.Given as goal
 

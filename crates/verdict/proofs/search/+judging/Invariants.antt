@@ -1,9 +1,8 @@
-use Prim.Native.Nat.{ℕ}
+-- What falls from call to call: the formula's nodes left, then the rows left.
+use Prim.Native.Nat.{ℕ, ◌+◌, ◌*◌}
 use mathlib.Core.Path.{◌≡◌}
 use Rattle.verdict.specs.Working.{left_in, right_in}
 use Rattle.verdict.proofs.Going as going
-use Prim.Native.Nat.{ℕ, ◌+◌, ◌*◌}
-use Prim.Native.Nat.{ℕ}
 use Rattle.verdict.proofs.search.+judging.Given as goal
 
 -- at one number of nodes there are fewer steps down than this: at most eight rows leave a state
@@ -11,7 +10,8 @@ abbrev pub K : ℕ
 K = 100
 
 abbrev pub invariant-holds-loop-word : goal.invariant-holds-loop-word
-invariant-holds-loop-word l = (l.run ≡ l.initial.run) × going.Going l.labels (left_in l.grids) (right_in l.grids) l.code l.initial.run l.len-2 l.nodes-2 l.len l.nodes l.even
+invariant-holds-loop-word l = (l.run ≡ l.initial.run) × going.Going l.labels (left_in l.grids) (right_in l.grids) l.code
+    l.initial.run l.len-2 l.nodes-2 l.len l.nodes l.even
 
 abbrev pub decreases-holds-loop-word : goal.decreases-holds-loop-word
 decreases-holds-loop-word l = l.nodes

@@ -1,3 +1,4 @@
+-- The handshake sought stands behind n others in `rows` (`Seeking`); its bytes fall.
 use lib.ListN.{length}
 use Rattle.labels.specs.Labels.{pairing}
 use Rattle.tables.specs.Working.{moves_in}

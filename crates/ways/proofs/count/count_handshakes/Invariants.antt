@@ -1,3 +1,4 @@
+-- The ways counted and those of `rows` are all of them (`Counting`); its bytes fall.
 use lib.ListN.{length}
 use Rattle.labels.specs.Labels.{pairing}
 use Rattle.tables.specs.Working.{moves_in}

@@ -1,0 +1,90 @@
+-- A forward modality, by its listed disjuncts.
+use Prim.Native.Nat.{◌-◌}
+use native.Mathlib.Omega.{arith}
+use mathlib.Core.Path.{ap}
+use lib.ListN.{get_or, take, length}
+use Rattle.labels.proofs.Slices.{rest_length}
+use Rattle.halves.specs.Halves.{half_of}
+use Rattle.labels.proofs.Outputs.{front_length}
+use Rattle.dividing.proofs.Pieces.{taken, piece_within, piece_length}
+use Rattle.dividing.proofs.Forwards.{forward-texts, forward-listed}
+use Rattle.halves.proofs.HalfBuffers.{half_last}
+use Rattle.formulas.proofs.Operators.{node_room}
+use Rattle.dividing.proofs.Listing.{listed-fits}
+use Rattle.dividing.proofs.Readiness.{forward_ready}
+use Rattle.dividing.proofs.write.+writing.Goals as goal
+
+pub write_forward-bounds-run-len : goal.write_forward-bounds-run-len
+write_forward-bounds-run-len t c = omega (
+  arith,
+  c.requires.ready.held.within,
+  c.requires.ready.held.odd,
+  c.requires.ready.size,
+)
+
+pub write_forward-list_disjuncts-n-requires : goal.write_forward-list_disjuncts-n-requires
+write_forward-list_disjuncts-n-requires t c = record {
+  sound_table = c.requires.sound_table;
+  in_bounds = omega arith;
+}
+
+pub write_forward-slice_bounds-disjuncts-end : goal.write_forward-slice_bounds-disjuncts-end
+write_forward-slice_bounds-disjuncts-end t c = piece_within _ _ _ _ c.list_disjuncts-n.ensures.out_after
+    c.list_disjuncts-n.ensures.value
+
+pub write_forward-slice_bounds-write_disjuncts-end : goal.write_forward-slice_bounds-write_disjuncts-end
+write_forward-slice_bounds-write_disjuncts-end t c = piece_length _ _ _ _ c.list_disjuncts-n.ensures.out_after
+    c.list_disjuncts-n.ensures.value
+
+pub write_forward-write_disjuncts-requires : goal.write_forward-write_disjuncts-requires
+write_forward-write_disjuncts-requires t c = let r = half_of (take c.args.len c.args.run.now) in
+    let q = get_or c.args.run.now (c.args.len - 1) 0 in
+    let listed = taken _ _ _ _ c.list_disjuncts-n.ensures.out_after c.list_disjuncts-n.ensures.value in (
+      omega (
+        arith,
+        rest_length 2 c.args.f.now,
+        node_room _ c.requires.ready.part.tree,
+        ap length listed,
+        listed-fits c.args.labels c.args.table.now (get_or c.args.f.now 0 0) (get_or c.args.f.now 1 0) q _ 68
+            c.requires.sound_table
+            (omega arith),
+      ),
+      (
+        c.requires.sound_table,
+        (
+          forward_ready _ _ _ _ c.requires.ready c.requires.f_value,
+          (
+            rw listed (forward-listed _ _ _ _ _ c.requires.sound_table),
+            rw (
+              listed,
+              forward-texts c.args.labels c.args.table.now c.args.sizes.now c.args.f.now c.requires.ready.part r q
+                  c.requires.sound_table
+                  c.requires.f_value (half_last c.args.run.now c.args.len c.requires.ready.held),
+            ) c.requires.run_in_bounds,
+          ),
+        ),
+      ),
+    )
+
+pub write_forward-shape_of-out : goal.write_forward-shape_of-out
+write_forward-shape_of-out t c = let r = half_of (take c.args.len c.args.run.now) in
+    let q = get_or c.args.run.now (c.args.len - 1) 0 in
+    let listed = taken _ _ _ _ c.list_disjuncts-n.ensures.out_after c.list_disjuncts-n.ensures.value in
+    front_length _ _ _ c.write_disjuncts.ensures.out_after
+    (rw (
+      listed,
+      forward-texts c.args.labels c.args.table.now c.args.sizes.now c.args.f.now c.requires.ready.part r q
+          c.requires.sound_table
+          c.requires.f_value (half_last c.args.run.now c.args.len c.requires.ready.held),
+    ) c.requires.run_in_bounds)
+
+pub write_forward-returns : goal.write_forward-returns
+write_forward-returns t c = let r = half_of (take c.args.len c.args.run.now) in
+    let q = get_or c.args.run.now (c.args.len - 1) 0 in
+    let listed = taken _ _ _ _ c.list_disjuncts-n.ensures.out_after c.list_disjuncts-n.ensures.value in
+    rw (
+      listed,
+      forward-texts c.args.labels c.args.table.now c.args.sizes.now c.args.f.now c.requires.ready.part r q
+          c.requires.sound_table
+          c.requires.f_value (half_last c.args.run.now c.args.len c.requires.ready.held),
+    ) at c.write_disjuncts.ensures
