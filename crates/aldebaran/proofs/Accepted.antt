@@ -16,7 +16,6 @@ use Rattle.hml.specs.Machine.{Row}
 use Rattle.hml.proofs.Tests.{both_true}
 use Rattle.labels.specs.Labels.{count}
 use Rattle.labels.specs.Refusals.{refused_if, first_of}
-use Rattle.labels.specs.declared.refusal.Check.TheVariants.{Sound}
 use Rattle.labels.specs.declared.refusal.Refusal.TheVariants as refusal
 use Rattle.labels.proofs.Refusals.{both_sound, passed, unrefused, judges}
 use Rattle.tables.specs.Tables.{fit_states, in_range, leaving, bytes_of, rows_of, check_table, SoundTable}
@@ -31,6 +30,7 @@ use Rattle.aldebaran.specs.Reading.{in_order, table_bytes}
 use Rattle.aldebaran.proofs.Order.{order_same, order_length, order_rising, order_leaving, ninth-few}
 use Rattle.aldebaran.proofs.Marks.{all-ranged}
 use Rattle.aldebaran.proofs.MarkedRows.{bytes-length}
+use Rattle.std.specs.Prelude.{Ok}
 
 -- what the checks of a form ask for
 pub record SoundForm (g : Form) : Type 0 where
@@ -42,7 +42,7 @@ pub record SoundForm (g : Form) : Type 0 where
   pub few : ninth (rows_in g.lines) ≡ false
 
 -- a form of which nothing is refused has it
-pub sound_form : (g : Form) → check_form g ≡ Sound → SoundForm g
+pub sound_form : (g : Form) → check_form g ≡ Ok tt → SoundForm g
 unfolding check_form first_of fit_rows
 sound_form g e =
     let (a, e1) = both_sound (refused_if (not (fit_header g)) refusal.WrongHeader) _ e in
@@ -99,7 +99,7 @@ table_length g =
     omega (arith, bytes-length (in_order (rows_in g.lines)), order_length (rows_in g.lines))
 
 -- the table is as document 01 says
-pub sound_bytes : (g : Form) → check_form g ≡ Sound → SoundTable fifteen (table_bytes g)
+pub sound_bytes : (g : Form) → check_form g ≡ Ok tt → SoundTable fifteen (table_bytes g)
 unfolding fit_states table_bytes count highest
 sound_bytes g e = go (sound_form g e)
   where
@@ -126,5 +126,5 @@ sound_bytes g e = go (sound_form g e)
         }
 
 -- the table is accepted
-pub accepted : (g : Form) → check_form g ≡ Sound → check_table fifteen (table_bytes g) ≡ Sound
+pub accepted : (g : Form) → check_form g ≡ Ok tt → check_table fifteen (table_bytes g) ≡ Ok tt
 accepted g e = (judges (judged_table fifteen (table_bytes g))).1 (sound_bytes g e)

@@ -16,10 +16,9 @@ use Rattle.aldebaran_form.specs.Lines.{header_in, line_in, same_bytes, label_amo
 use Rattle.aldebaran_writing.specs.Writing.{line_of, form_for, text_of, check_text, write_of}
 use Rattle.aldebaran.specs.Reading.{longer, lines_of, lines_in, form_in, form_of}
 use Rattle.aldebaran.specs.Reading.{is_label, rows_with, rows_in, fit_header, fit_rows, same_row, twice, ninth}
-use Rattle.aldebaran.specs.Reading.{check_form, placed, in_order, table_bytes, check_read, read_of_form, read_of}
+use Rattle.aldebaran.specs.Reading.{check_form, placed, in_order, table_bytes, check_read, gives_table, read_of_form, read_of}
 use Rattle.aldebaran.specs.Reading.{output_of_form, table_output}
-use Rattle.aldebaran.specs.declared.read.TableRead.TheVariants as read
-use Rattle.aldebaran_writing.specs.declared.write.TextWriting.TheVariants as writing
+use Rattle.std.specs.Prelude.{Err, Ok}
 
 -- case A's left table
 abbrev left_a : List ℕ
@@ -41,10 +40,10 @@ text_a = header ++ (first_line ++ second_line)
 
 -- the text of case A's left table with first state 0 is read as that, in either order of its rows; the last lent byte
 -- keeps its value, and an output of six bytes is too short
-pub case_read : (read_of text_a 8 ≡ read.Table 7 0)
+pub case_read : (read_of text_a 8 ≡ gives_table 7 0)
     × (table_output text_a (9 ∷ 9 ∷ 9 ∷ 9 ∷ 9 ∷ 9 ∷ 9 ∷ 9 ∷ []) ≡ left_a ++ (9 ∷ []))
     × (table_output (header ++ (second_line ++ first_line)) (9 ∷ 9 ∷ 9 ∷ 9 ∷ 9 ∷ 9 ∷ 9 ∷ []) ≡ left_a)
-    × (read_of text_a 6 ≡ read.Refused refusal.OutputTooShort)
+    × (read_of text_a 6 ≡ Err refusal.OutputTooShort)
 unfolding read_of read_of_form form_of lines_of longer form_in header_in lines_in line_in behind number_in front digits_in is_digit
     is_number read_from label_in ending check_read check_form first_of fit_header is_label label_of label_among same_bytes
     spelled decimal digits_within fit_rows fit_states in_range count highest rows_in rows_with same_row twice ninth leaving
@@ -52,8 +51,8 @@ unfolding read_of read_of_form form_of lines_of longer form_in header_in lines_i
 case_read = (refl, refl, refl, refl)
 
 -- its text, and a first state that is none of its states
-pub case_written : (text_of left_a 0 ≡ text_a) × (write_of left_a 0 36 ≡ writing.Written 36)
-    × (write_of left_a 2 36 ≡ writing.Refused refusal.WrongHeader)
+pub case_written : (text_of left_a 0 ≡ text_a) × (write_of left_a 0 36 ≡ Ok 36)
+    × (write_of left_a 2 36 ≡ Err refusal.WrongHeader)
 unfolding write_of check_text first_of check_table fit_table fit_states check_rows check_row in_range count highest above_last
     row_below leaving rows_of threes text_of written form_for line_of header_line row_line ended spelled decimal digits_within
 case_written = (refl, refl, refl)
@@ -90,12 +89,12 @@ nine = 100 ∷ 101 ∷ 115 ∷ 32 ∷ 40 ∷ 48 ∷ 44 ∷ 57 ∷ 44 ∷ 57 ∷ 
 
 -- a table without rows, and a text for each refusal: 19, a line feed is missing; 20, the header says a row more; 21; 5;
 -- 6, a row given twice with another between; 7
-pub case_answers : (read_of bare 1 ≡ read.Table 1 0) × (read_of unended 1 ≡ read.Refused refusal.NotOfForm)
-    × (read_of (header ++ first_line) 7 ≡ read.Refused refusal.WrongHeader)
-    × (read_of sixteenth 4 ≡ read.Refused refusal.UnknownLabel) × (read_of many 1 ≡ read.Refused refusal.OutOfRange)
-    × (read_of (three ++ (first_line ++ (second_line ++ first_line))) 10 ≡ read.Refused refusal.RowNotAbove)
+pub case_answers : (read_of bare 1 ≡ gives_table 1 0) × (read_of unended 1 ≡ Err refusal.NotOfForm)
+    × (read_of (header ++ first_line) 7 ≡ Err refusal.WrongHeader)
+    × (read_of sixteenth 4 ≡ Err refusal.UnknownLabel) × (read_of many 1 ≡ Err refusal.OutOfRange)
+    × (read_of (three ++ (first_line ++ (second_line ++ first_line))) 10 ≡ Err refusal.RowNotAbove)
     × (read_of (nine ++ each silent (48 ∷ 49 ∷ 50 ∷ 51 ∷ 52 ∷ 53 ∷ 54 ∷ 55 ∷ 56 ∷ [])) 28
-    ≡ read.Refused refusal.NinthRow)
+    ≡ Err refusal.NinthRow)
 unfolding read_of read_of_form form_of lines_of longer form_in header_in lines_in line_in behind number_in front digits_in is_digit
     is_number read_from label_in ending check_read check_form first_of fit_header is_label label_of label_among same_bytes
     spelled decimal digits_within fit_rows fit_states in_range count highest rows_in rows_with same_row twice ninth leaving

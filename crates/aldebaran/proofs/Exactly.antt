@@ -4,7 +4,6 @@ use mathlib.Core.Path.{◌≡◌, refl, sym, ◌∙◌, ap}
 use mathlib.Core.List.{List, [], ◌∷◌, ◌++◌, map}
 use mathlib.Core.List.Memᴰ
 use mathlib.Core.Logic.{◌↔◌, ⊎_elim}
-use mathlib.Core.Option.{some}
 use Rattle.hml.specs.Lists.{◌∈◌, each}
 use Rattle.hml.proofs.Lists.{each_map}
 use Rattle.hml.proofs.Tests.{apart}
@@ -16,6 +15,7 @@ use Rattle.aldebaran.proofs.LineSplitting.{Plain, plain_nil, plain_cons, plain_f
 use Rattle.aldebaran.proofs.LineSplitting.{WrittenOf, lines-written, lines_read}
 use Rattle.aldebaran_form.proofs.WrittenLines.{next-some, line-written, line_read, row_lacks}
 use Rattle.aldebaran_form.proofs.WrittenLines.{header-written, header_read, header_lacks}
+use Rattle.std.specs.Prelude.{Some}
 
 -- each of the lines is of the form
 abbrev pub PlainLines : List Line → Type 0
@@ -36,13 +36,13 @@ rows_plain (l ∷ lines) w =
     plain_cons (row_line l) (map row_line lines) (row_lacks l (w l (Memᴰ.head refl)))
     (rows_plain lines (plain_tail l lines w))
 
-pub rows_written : (lines : List Line) → PlainLines lines → lines_in (map row_line lines) ≡ some lines
+pub rows_written : (lines : List Line) → PlainLines lines → lines_in (map row_line lines) ≡ Some lines
 unfolding lines_in
 rows_written [] w = refl
 rows_written (l ∷ lines) w =
     rw (line-written l (w l (Memᴰ.head refl)), rows_written lines (plain_tail l lines w))
 
-pub form_written : (g : Form) → ShortHeader g.header → PlainLines g.lines → form_of (written g) ≡ some g
+pub form_written : (g : Form) → ShortHeader g.header → PlainLines g.lines → form_of (written g) ≡ Some g
 unfolding form_of form_in
 form_written g h w =
     let lines = header_line g.header ∷ map row_line g.lines in
@@ -52,11 +52,11 @@ form_written g h w =
     ∙ rw (header-written g.header h, rows_written g.lines w)
 
 -- a text of the form is read as what it says
-pub read_written : (text : List ℕ) (g : Form) → Says text g → form_of text ≡ some g
+pub read_written : (text : List ℕ) (g : Form) → Says text g → form_of text ≡ Some g
 read_written text g s = ap form_of s.bytes ∙ form_written g s.header s.lines
 
 -- lines that are read are written there
-pub rows_read : (lines : List (List ℕ)) (ls : List Line) → Plain lines → lines_in lines ≡ some ls
+pub rows_read : (lines : List (List ℕ)) (ls : List Line) → Plain lines → lines_in lines ≡ Some ls
     → (lines ≡ map row_line ls) × PlainLines ls
 unfolding lines_in
 rows_read [] ls p e =
@@ -68,7 +68,7 @@ rows_read (line ∷ lines) ls p e =
     go a.0 b.0 b.2 (line_read line a.0 (plain_front line lines p) a.1)
     (rows_read lines b.0 (plain_rest line lines p) b.1)
   where
-    go : (l : Line) (rest : List Line) → some (l ∷ rest) ≡ some ls → (line ≡ row_line l) × PlainLine l
+    go : (l : Line) (rest : List Line) → Some (l ∷ rest) ≡ Some ls → (line ≡ row_line l) × PlainLine l
         → (lines ≡ map row_line rest) × PlainLines rest → (line ∷ lines ≡ map row_line ls) × PlainLines ls
     go l rest f x y =
         let q : ls ≡ l ∷ rest = cc in
@@ -78,7 +78,7 @@ rows_read (line ∷ lines) ls p e =
         )
 
 -- a text that is read is of the form, and says what it is read as
-form_read : (lines : List (List ℕ)) (g : Form) → Plain lines → form_in lines ≡ some g
+form_read : (lines : List (List ℕ)) (g : Form) → Plain lines → form_in lines ≡ Some g
     → Says (each ended lines) g
 unfolding form_in
 form_read [] g p e = absurd (apart cc)
@@ -87,7 +87,7 @@ form_read (line ∷ lines) g p e =
     let b = next-some (lines_in lines) _ g a.2 in
     go a.0 b.0 b.2 (header_read line a.0 a.1) (rows_read lines b.0 (plain_rest line lines p) b.1)
   where
-    go : (h : Header) (ls : List Line) → some (record { header = h; lines = ls }) ≡ some g
+    go : (h : Header) (ls : List Line) → Some (record { header = h; lines = ls }) ≡ Some g
         → (line ≡ header_line h) × ShortHeader h → (lines ≡ map row_line ls) × PlainLines ls
         → Says (each ended (line ∷ lines)) g
     go h ls f x y =
@@ -99,7 +99,7 @@ form_read (line ∷ lines) g p e =
           lines = y.1;
         })
 
-pub said : (text : List ℕ) (g : Form) → form_of text ≡ some g → Says text g
+pub said : (text : List ℕ) (g : Form) → form_of text ≡ Some g → Says text g
 unfolding form_of WrittenOf
 said text g e =
     let a = next-some (lines_of text) form_in g e in
@@ -107,5 +107,5 @@ said text g e =
     rw w.0 (form_read a.0 g w.1 a.2)
 
 -- a text is read as g exactly if it is of the form and says g
-pub read_exactly : (text : List ℕ) (g : Form) → (form_of text ≡ some g) ↔ Says text g
+pub read_exactly : (text : List ℕ) (g : Form) → (form_of text ≡ Some g) ↔ Says text g
 read_exactly text g = (said text g, read_written text g)

@@ -11,7 +11,6 @@ use mathlib.Core.List.Memᴰ.{head as here}
 use mathlib.Core.List.Memᴰ.{not-nil as nowhere}
 use mathlib.Core.List.Memᴰ.{tail as next}
 use mathlib.Core.List.Memᴰ.{cases_cons as ∈-cons}
-use mathlib.Core.Option.{Option, none, some}
 use lib.ListN.{length, take, drop, length-map}
 use lib.Dec.{eqb, leb}
 use lib.Seq.{take-append_seam}
@@ -22,9 +21,7 @@ use Rattle.hml.specs.Machine.{Row}
 use Rattle.hml.proofs.Tests.{apart, both_true, denied}
 use Rattle.digits.specs.Digits.{decimal}
 use Rattle.labels.specs.Labels.{count}
-use Rattle.labels.specs.Refusals.{refused_if, first_of, in_front}
-use Rattle.labels.specs.declared.refusal.Check.{Check}
-use Rattle.labels.specs.declared.refusal.Check.TheVariants as check
+use Rattle.labels.specs.Refusals.{refused_if, first_of, in_front, Check}
 use Rattle.labels.specs.declared.refusal.Refusal.TheVariants as refusal
 use Rattle.labels.proofs.Refusals.{both_sound, unrefused}
 use Rattle.tables.specs.Tables.{states_of, bytes_of, rows_of, fit_states, in_range, check_table, SoundTable}
@@ -33,12 +30,11 @@ use Rattle.tables.proofs.Rows.{length-rows}
 use Rattle.tables.proofs.SoundTables.{sound_table}
 use Rattle.aldebaran_form.specs.Forms.{line_feed, quote, Header, Line, Form, Short, PlainLine, Says, spelled, fifteen}
 use Rattle.aldebaran.specs.Reading.{form_of, is_label, rows_with, rows_in, all, fit_header}
-use Rattle.aldebaran.specs.Reading.{fit_rows, check_form, table_bytes, check_read, answered}
+use Rattle.aldebaran.specs.Reading.{fit_rows, check_form, table_bytes, check_read, gives_table, answered}
+use Rattle.aldebaran.specs.declared.read.ReadTable as given
 use Rattle.aldebaran.specs.Reading.{read_of_form, read_of, output_of_form, table_output}
 use Rattle.aldebaran_writing.specs.Writing.{line_of, form_for, text_of, check_text, write_of, text_output}
 use Rattle.aldebaran_writing.specs.Writing.{answered as answered-text}
-use Rattle.aldebaran.specs.declared.read.TableRead.TheVariants as read
-use Rattle.aldebaran_writing.specs.declared.write.TextWriting.TheVariants as writing
 use Rattle.aldebaran_form.proofs.Lacks.{Lacks, lacks_nil, lacks_cons, lacks_append}
 use Rattle.aldebaran_form.proofs.WrittenNumbers.{decimal_lacks}
 use Rattle.aldebaran_form.proofs.LabelReading.{label-found}
@@ -49,6 +45,7 @@ use Rattle.aldebaran.proofs.Accepted.{SoundForm, sound_form, accepted, table_row
 use Rattle.aldebaran_writing.proofs.TextLengths.{text_short}
 use Rattle.aldebaran.proofs.Shuffled.{Shuffled, shuffled_length, shuffled_all, shuffled_rows, shuffled_twice}
 use Rattle.aldebaran.proofs.Shuffled.{shuffled_ninth, shuffled_order}
+use Rattle.std.specs.Prelude.{Err, None, Ok, Option, Some}
 
 -- a row in range
 abbrev Ranged : ℕ → Row → Type 0
@@ -112,7 +109,7 @@ rows-ranged n (r ∷ rows) h =
     rw (lt-ltb r.0 n a, le-leb r.1 30 b, lt-ltb r.2 n c) (rows-ranged n rows (λ s i. h s (next i)))
 
 -- a form that has what the checks ask for is not refused
-form_sound : (g : Form) → SoundForm g → check_form g ≡ check.Sound
+form_sound : (g : Form) → SoundForm g → check_form g ≡ Ok tt
 unfolding check_form first_of fit_rows
 form_sound g s = rw (s.header, s.labels, s.states, s.ranged, s.once, s.few)
 
@@ -141,7 +138,7 @@ module _ (t : List ℕ) (s : SoundTable fifteen t) where
 
   module _ (first : ℕ) (h : first < states_of t) where
     -- it is read as what it says
-    pub text_form : form_of (text_of t first) ≡ some (form_for t first)
+    pub text_form : form_of (text_of t first) ≡ Some (form_for t first)
     unfolding text_of form_for
     text_form = form_written (form_for t first)
         (record {
@@ -152,7 +149,7 @@ module _ (t : List ℕ) (s : SoundTable fifteen t) where
         (lines_plain (states_of t) (rows_of t) s.few-states table_ranged)
 
     -- nothing of it is refused
-    pub text_sound : check_form (form_for t first) ≡ check.Sound
+    pub text_sound : check_form (form_for t first) ≡ Ok tt
     unfolding form_for fit_header fit_states
     text_sound = form_sound (form_for t first) (record {
       header = rw (eq-eqb (length (rows_of t)) (length (map line_of (rows_of t))) (sym (length-map (rows_of t) line_of)))
@@ -165,18 +162,19 @@ module _ (t : List ℕ) (s : SoundTable fifteen t) where
     })
 
 -- where the answer is a length, nothing was refused, and it is the length of what was to be written
-text-answered : (c : Check) (m n : ℕ) → answered-text c m ≡ writing.Written n → (c ≡ check.Sound) × (m ≡ n)
-text-answered check.Sound m n e = (refl, cc)
-text-answered (check.Refused x) m n e = absurd (apart cc)
+text-answered : (c : Check) (m n : ℕ) → answered-text c m ≡ Ok n → (c ≡ Ok tt) × (m ≡ n)
+text-answered (Ok _) m n e = (refl, cc)
+text-answered (Err x) m n e = absurd (apart cc)
 
-table_answered : (c : Check) (m f n first : ℕ) → answered c m f ≡ read.Table n first
-    → (c ≡ check.Sound) × (m ≡ n) × (f ≡ first)
-table_answered check.Sound m f n first e = (refl, cc, cc)
-table_answered (check.Refused x) m f n first e = absurd (apart cc)
+table_answered : (c : Check) (m f n first : ℕ) → answered c m f ≡ gives_table n first
+    → (c ≡ Ok tt) × (m ≡ n) × (f ≡ first)
+table_answered (Ok _) m f n first e = let p : ◌≡◌ {A = given.ReadTable} (record { len = m; first = f }) (record { len = n; first = first }) = cc in
+    (refl, ap (λ t. t.len) p, ap (λ t. t.first) p)
+table_answered (Err x) m f n first e = absurd (apart cc)
 
 -- a text that was written is that of an accepted table and a state below its states
-text_answer_lem : (t : List ℕ) (first : ℕ) (out : List ℕ) (n : ℕ) → write_of t first (length out) ≡ writing.Written n
-    → (check_table fifteen t ≡ check.Sound) × (first < states_of t) × (take n (text_output t first out) ≡ text_of t first)
+text_answer_lem : (t : List ℕ) (first : ℕ) (out : List ℕ) (n : ℕ) → write_of t first (length out) ≡ Ok n
+    → (check_table fifteen t ≡ Ok tt) × (first < states_of t) × (take n (text_output t first out) ≡ text_of t first)
 unfolding write_of text_output check_text first_of in_front
 text_answer_lem t first out n e =
     let text = text_of t first in
@@ -189,8 +187,8 @@ text_answer_lem t first out n e =
     )
 
 -- a text is written into each output that is long enough
-text-given : (t : List ℕ) (first : ℕ) (out : List ℕ) → check_table fifteen t ≡ check.Sound → first < states_of t
-    → length (text_of t first) ≤ length out → write_of t first (length out) ≡ writing.Written (length (text_of t first))
+text-given : (t : List ℕ) (first : ℕ) (out : List ℕ) → check_table fifteen t ≡ Ok tt → first < states_of t
+    → length (text_of t first) ≤ length out → write_of t first (length out) ≡ Ok (length (text_of t first))
 unfolding write_of check_text first_of
 text-given t first out e h k =
     rw (e, lt-leb (states_of t) first h, le-ltb (length out) (length (text_of t first)) k) refl
@@ -198,20 +196,20 @@ text-given t first out e h k =
 -- what the answer to a text tells: it says a form of which nothing is refused, and the table is the form's
 record Answered (text out : List ℕ) (n start : ℕ) : Type 0 where
   form : Form
-  said : form_of text ≡ some form
-  sound : check_form form ≡ check.Sound
+  said : form_of text ≡ Some form
+  sound : check_form form ≡ Ok tt
   first : form.header.first ≡ start
   front : take n (table_output text out) ≡ table_bytes form
 
-table_answer_lem : (text out : List ℕ) (n first : ℕ) → read_of text (length out) ≡ read.Table n first
+table_answer_lem : (text out : List ℕ) (n first : ℕ) → read_of text (length out) ≡ gives_table n first
     → Answered text out n first
 unfolding read_of read_of_form table_output output_of_form check_read first_of in_front
 table_answer_lem text out n first e = go (form_of text) refl e
   where
-    go : (o : Option Form) → form_of text ≡ o → read_of_form o (length out) ≡ read.Table n first
+    go : (o : Option Form) → form_of text ≡ o → read_of_form o (length out) ≡ gives_table n first
         → Answered text out n first
-    go none p e = absurd (apart cc)
-    go (some g) p e =
+    go None p e = absurd (apart cc)
+    go (Some g) p e =
         let bytes = table_bytes g in
         let (sound, m, f) = table_answered (check_read g (length out)) (length bytes) g.header.first n first e in
         record {
@@ -223,9 +221,9 @@ table_answer_lem text out n first e = go (form_of text) refl e
         }
 
 -- a form of which nothing is refused is read into each output that is long enough
-form_answer : (text : List ℕ) (g : Form) (out : List ℕ) → form_of text ≡ some g → check_form g ≡ check.Sound
+form_answer : (text : List ℕ) (g : Form) (out : List ℕ) → form_of text ≡ Some g → check_form g ≡ Ok tt
     → length (table_bytes g) ≤ length out
-    → (read_of text (length out) ≡ read.Table (length (table_bytes g)) g.header.first)
+    → (read_of text (length out) ≡ gives_table (length (table_bytes g)) g.header.first)
     × (take (length (table_bytes g)) (table_output text out) ≡ table_bytes g)
 unfolding read_of read_of_form table_output output_of_form check_read first_of in_front
 form_answer text g out p e h =
@@ -237,8 +235,8 @@ form_answer text g out p e h =
 -- Whatever bytes are given as the table: if its text was written, the output's first bytes are read as that table and
 -- first state. They are as many as the answer says, and are read into each output that is long enough.
 pub written_and_read : (t : List ℕ) (first : ℕ) (out : List ℕ) (n : ℕ)
-    → write_of t first (length out) ≡ writing.Written n → (out2 : List ℕ) → length t ≤ length out2
-    → (read_of (take n (text_output t first out)) (length out2) ≡ read.Table (length t) first)
+    → write_of t first (length out) ≡ Ok n → (out2 : List ℕ) → length t ≤ length out2
+    → (read_of (take n (text_output t first out)) (length out2) ≡ gives_table (length t) first)
     × (take (length t) (table_output (take n (text_output t first out)) out2) ≡ t)
 unfolding form_for
 written_and_read t first out n e out2 h =
@@ -253,9 +251,9 @@ written_and_read t first out n e out2 h =
 -- what a table and its first state are that a text was read as
 pub record ReadTable (text table : List ℕ) (start : ℕ) : Type 0 where
   pub form : Form
-  pub said : form_of text ≡ some form
+  pub said : form_of text ≡ Some form
   -- "the table's limits": check_table accepts it for 15 pairs
-  pub sound : check_table fifteen table ≡ check.Sound
+  pub sound : check_table fifteen table ≡ Ok tt
   -- the rows are the text's, one row for each line, and as many as the header says
   pub same_rows : (r : Row) → (r ∈ rows_of table) ↔ (r ∈ rows_in form.lines)
   pub lines : length (rows_of table) ≡ length form.lines
@@ -265,7 +263,7 @@ pub record ReadTable (text table : List ℕ) (start : ℕ) : Type 0 where
   pub below : start < states_of table
 
 -- the table of a form of which nothing is refused
-form_table : (text : List ℕ) (g : Form) → form_of text ≡ some g → check_form g ≡ check.Sound
+form_table : (text : List ℕ) (g : Form) → form_of text ≡ Some g → check_form g ≡ Ok tt
     → ReadTable text (table_bytes g) g.header.first
 unfolding table_bytes fit_header
 form_table text g p e =
@@ -286,7 +284,7 @@ form_table text g p e =
 
 -- Whatever bytes are given as the text: if it was read, the output's first bytes are a table that is accepted, its rows
 -- are the text's, and its states and its first state are the header's.
-pub read_table : (text out : List ℕ) (n first : ℕ) → read_of text (length out) ≡ read.Table n first
+pub read_table : (text out : List ℕ) (n first : ℕ) → read_of text (length out) ≡ gives_table n first
     → ReadTable text (take n (table_output text out)) first
 read_table text out n first e = go (table_answer_lem text out n first e)
   where
@@ -312,20 +310,20 @@ module _ (g g2 : Form) (same-header : g.header ≡ g2.header) (lines : Shuffled 
       )
 
   -- the table, if nothing is refused
-  shuffled_table : check_form g ≡ check.Sound → table_bytes g ≡ table_bytes g2
+  shuffled_table : check_form g ≡ Ok tt → table_bytes g ≡ table_bytes g2
   unfolding table_bytes
   shuffled_table e = rw (same-header, shuffled_order rows_shuffled (sound_form g e).once)
 
   -- the answer and the output
-  same_answer : (out : List ℕ) → (read_of_form (some g) (length out) ≡ read_of_form (some g2) (length out))
-      × (output_of_form (some g) out ≡ output_of_form (some g2) out)
+  same_answer : (out : List ℕ) → (read_of_form (Some g) (length out) ≡ read_of_form (Some g2) (length out))
+      × (output_of_form (Some g) out ≡ output_of_form (Some g2) out)
   unfolding read_of_form output_of_form check_read first_of
   same_answer out = go (check_form g) refl
     where
-      go : (c : Check) → check_form g ≡ c → (read_of_form (some g) (length out) ≡ read_of_form (some g2) (length out))
-          × (output_of_form (some g) out ≡ output_of_form (some g2) out)
-      go check.Sound e = rw (same_check, shuffled_table e, same-header) (refl, refl)
-      go (check.Refused x) e = rw (e, sym same_check ∙ e) (refl, refl)
+      go : (c : Check) → check_form g ≡ c → (read_of_form (Some g) (length out) ≡ read_of_form (Some g2) (length out))
+          × (output_of_form (Some g) out ≡ output_of_form (Some g2) out)
+      go (Ok _) e = rw (same_check, shuffled_table e, same-header) (refl, refl)
+      go (Err x) e = rw (e, sym same_check ∙ e) (refl, refl)
 
 -- "Rows may come in any order and are put in ours": two texts of the form with one header, and with the same lines in
 -- whatever order, are answered alike, and leave the same bytes in the output. So both are read as the same table and
@@ -340,10 +338,10 @@ any_order text text2 g g2 said said2 same-header lines out =
 -- what is written of a table and first state that a text was read as
 pub record WrittenAgain (text table : List ℕ) (start : ℕ) (out : List ℕ) : Type 0 where
   pub form : Form
-  pub said : form_of text ≡ some form
-  pub given : write_of table start (length out) ≡ writing.Written (length (text_of table start))
+  pub said : form_of text ≡ Some form
+  pub given : write_of table start (length out) ≡ Ok (length (text_of table start))
   -- the text written says the table, its rows in our order
-  pub again : form_of (take (length (text_of table start)) (text_output table start out)) ≡ some (form_for table start)
+  pub again : form_of (take (length (text_of table start)) (text_output table start out)) ≡ Some (form_for table start)
   pub ours : rows_in (form_for table start).lines ≡ rows_of table
   -- and says what the text said, but for the order
   pub same-header : (form_for table start).header ≡ form.header
@@ -372,7 +370,7 @@ again_written text t first out w h =
 
 -- A text that is read, and written again from its table and first state: 7,696 bytes are enough, and what is written
 -- into an output that is long enough says the same header and the same rows, in our order.
-pub read_and_written : (text out : List ℕ) (n first : ℕ) → read_of text (length out) ≡ read.Table n first
+pub read_and_written : (text out : List ℕ) (n first : ℕ) → read_of text (length out) ≡ gives_table n first
     → (length (text_of (take n (table_output text out)) first) ≤ 7696)
     × ((out2 : List ℕ) → length (text_of (take n (table_output text out)) first) ≤ length out2
     → WrittenAgain text (take n (table_output text out)) first out2)

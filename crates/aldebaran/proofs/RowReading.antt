@@ -1,10 +1,8 @@
 -- The line at a place of a text.
 use Prim.Native.Nat.{ℕ, ◌-◌, ◌≤◌, ◌<◌}
 use mathlib.Core.Path.{◌≡◌, refl, sym, ◌∙◌, ap}
-use mathlib.Core.Bool.{true, false, true≢false}
 use mathlib.Core.List.{List, [], ◌∷◌, ◌++◌}
 use mathlib.Core.Logic.{◌⊎◌, inl, inr}
-use mathlib.Core.Option.{Option, none, some}
 use native.Mathlib.Omega.{arith}
 use lib.ListN.{length, take, drop, length-append, length-drop}
 use Rattle.aldebaran_form.specs.Forms.{line_feed, Line}
@@ -12,66 +10,65 @@ use Rattle.aldebaran_form.specs.Lines.{next, line_in, label_of}
 use Rattle.aldebaran.specs.Reading.{lines_of, lines_in}
 use Rattle.aldebaran.specs.Working.{RowFound, row_lines}
 use Rattle.aldebaran_form.specs.Working.{rest_at, row_in, line_found, label_found}
-use Rattle.aldebaran_form.specs.declared.label.Spelled.{Spelled}
-use Rattle.aldebaran_form.specs.declared.label.Spelled.TheVariants as label
 use Rattle.aldebaran_form.specs.declared.line.RowLine.{RowLine}
-use Rattle.aldebaran.specs.declared.rows.NextRow.{NextRow}
 use Rattle.hml.proofs.Tests.{apart}
 use Rattle.aldebaran_form.proofs.Lacks.{Lacks}
 use Rattle.aldebaran_form.proofs.Scanning.{rest_in}
 use Rattle.aldebaran_form.proofs.LineReading.{next-next}
 use Rattle.aldebaran_form.proofs.LinesInTexts.{row_feed, row_open, FirstLine, first-line}
 use Rattle.aldebaran.proofs.LineSplitting.{lines-nil, lines_feed, lines_none}
+use Rattle.labels.specs.declared.label.Label.{Label}
+use Rattle.std.specs.Prelude.{None, Option, Some}
 
 -- a line in front of the others
 module _ (line : List ℕ) where
   in_front_lem : (o : Option (List (List ℕ)))
-      → next (next o (λ ls. some (line ∷ ls))) lines_in
-      ≡ next (line_in line) (λ l. next (next o lines_in) (λ ls. some (l ∷ ls)))
+      → next (next o (λ ls. Some (line ∷ ls))) lines_in
+      ≡ next (line_in line) (λ l. next (next o lines_in) (λ ls. Some (l ∷ ls)))
   unfolding lines_in
-  in_front_lem none = go (line_in line)
+  in_front_lem None = go (line_in line)
     where
-      go : (x : Option Line) → ◌≡◌ {A = Option (List Line)} none (next x (λ l. none))
-      go none = refl
-      go (some l) = refl
-  in_front_lem (some ls) = refl
+      go : (x : Option Line) → ◌≡◌ {A = Option (List Line)} None (next x (λ l. None))
+      go None = refl
+      go (Some l) = refl
+  in_front_lem (Some ls) = refl
 
 -- the rows of a text that begins with a line
 pub rows_feed : (line rest : List ℕ) → Lacks line_feed line
     → row_lines (line ++ (line_feed ∷ rest))
-    ≡ next (line_in line) (λ l. next (row_lines rest) (λ ls. some (l ∷ ls)))
+    ≡ next (line_in line) (λ l. next (row_lines rest) (λ ls. Some (l ∷ ls)))
 unfolding row_lines
 rows_feed line rest w = ap (λ o. next o lines_in) (lines_feed line rest w) ∙ in_front_lem line (lines_of rest)
 
-pub rows-nil : row_lines [] ≡ some []
+pub rows-nil : row_lines [] ≡ Some []
 unfolding row_lines lines_in
 rows-nil = rw lines-nil
 
-pub rows_none : (l : List ℕ) → Lacks line_feed l → 1 ≤ length l → row_lines l ≡ none
+pub rows_none : (l : List ℕ) → Lacks line_feed l → 1 ≤ length l → row_lines l ≡ None
 unfolding row_lines
 rows_none l w h = rw (lines_none l w h)
 
 -- a text begins with a line of the form and goes on behind it, or is none of the form
 pub rows_next : (l : List ℕ) → 1 ≤ length l
-    → row_lines l ≡ next (row_in l) (λ p. next (row_lines p.1) (λ ls. some (p.0 ∷ ls)))
+    → row_lines l ≡ next (row_in l) (λ p. next (row_lines p.1) (λ ls. Some (p.0 ∷ ls)))
 rows_next l h = go (first-line l)
   where
     after : Line × List ℕ → Option (List Line)
-    after p = next (row_lines p.1) (λ ls. some (p.0 ∷ ls))
+    after p = next (row_lines p.1) (λ ls. Some (p.0 ∷ ls))
 
     go : FirstLine l ⊎ Lacks line_feed l → row_lines l ≡ next (row_in l) after
     go (inl f) = ap row_lines f.split ∙ rows_feed f.line f.rest f.lacks
-        ∙ next-next (line_in f.line) (λ x. some (x, f.rest)) after
+        ∙ next-next (line_in f.line) (λ x. Some (x, f.rest)) after
         ∙ ap (λ o. next o after) (sym (ap row_in f.split ∙ row_feed f.line f.rest f.lacks))
     go (inr v) = rows_none l v h ∙ ap (λ o. next o after) (sym (row_open l v))
 
 -- what stands behind a line is shorter
-row_shorter : (l : List ℕ) (p : Line × List ℕ) → row_in l ≡ some p → length p.1 < length l
+row_shorter : (l : List ℕ) (p : Line × List ℕ) → row_in l ≡ Some p → length p.1 < length l
 row_shorter l p e = go (first-line l)
   where
-    rest_of : (f : FirstLine l) (o : Option Line) → next o (λ x. some (x, f.rest)) ≡ some p → p.1 ≡ f.rest
-    rest_of f none q = absurd (apart cc)
-    rest_of f (some x) q =
+    rest_of : (f : FirstLine l) (o : Option Line) → next o (λ x. Some (x, f.rest)) ≡ Some p → p.1 ≡ f.rest
+    rest_of f None q = absurd (apart cc)
+    rest_of f (Some x) q =
         let z : ◌≡◌ {A = Line × List ℕ} (x, f.rest) p = cc in
         sym (ap (λ y. y.1) z)
 
@@ -80,42 +77,31 @@ row_shorter l p e = go (first-line l)
         let q : p.1 ≡ f.rest = rest_of f (line_in f.line)
         (sym (row_feed f.line f.rest f.lacks) ∙ sym (ap row_in f.split) ∙ e) in
         omega (arith, ap length q, ap length f.split, length-append f.line (line_feed ∷ f.rest))
-    go (inr v) = let z : ◌≡◌ {A = Option (Line × List ℕ)} none (some p) = sym (row_open l v) ∙ e in absurd (apart cc)
-
--- what next_row promises of its answer
-abbrev pub Next : List ℕ → ℕ → NextRow → Type 0
-Next text at r =
-    (r.formed ≡ true → RowFound text at r) × (r.formed ≡ false → row_lines (drop at text) ≡ none)
-
--- the answer without a line of the form
-abbrev pub no_row : NextRow
-no_row = record { formed = false; from = 0; label = label.Unknown; to = 0; behind = 0 }
+    go (inr v) = let z : ◌≡◌ {A = Option (Line × List ℕ)} None (Some p) = sym (row_open l v) ∙ e in absurd (apart cc)
 
 -- what row_line found at a place
-module _ (text : List ℕ) (at : ℕ) (h : at < length text) (r : RowLine)
-    (e : line_found text r ≡ next (rest_at text at) row_in) where
+module _ (text : List ℕ) (at : ℕ) (h : at < length text) where
   here : next (rest_at text at) row_in ≡ row_in (drop at text)
   here = ap (λ o. next o row_in) (rest_in text at (omega arith))
 
-  pub row_missing : r.formed ≡ false → Next text at no_row
+  pub row_missing : line_found text None ≡ next (rest_at text at) row_in → row_lines (drop at text) ≡ None
   unfolding line_found
-  row_missing f =
-      let none-there : row_in (drop at text) ≡ none = sym here ∙ sym e ∙ rw f in (
-        λ g. absurd (true≢false (sym g)),
-        λ g. rows_next (drop at text) (omega (arith, length-drop at text)) ∙ rw none-there,
-      )
+  row_missing e =
+      let none-there : row_in (drop at text) ≡ None = sym here ∙ sym e in
+      rows_next (drop at text) (omega (arith, length-drop at text)) ∙ rw none-there
 
-  abbrev told : Line
-  told = record { from = r.from; label = take (r.quote - r.label) (drop r.label text); to = r.to }
+  module _ (r : RowLine) (e : line_found text (Some r) ≡ next (rest_at text at) row_in) where
+    abbrev told : Line
+    told = record { from = r.from; label = take (r.quote - r.label) (drop r.label text); to = r.to }
 
-  pub row : (s : Spelled) → r.formed ≡ true → r.behind ≤ length text
-      → s ≡ label_found (label_of (take (r.quote - r.label) (drop r.label text)))
-      → Next text at (record { formed = true; from = r.from; label = s; to = r.to; behind = r.behind })
-  unfolding line_found
-  row s f k g =
-      let found : row_in (drop at text) ≡ some (told, drop r.behind text) = sym here ∙ sym e ∙ rw f in
-      let shorter = row_shorter (drop at text) (told, drop r.behind text) found in (
-        λ x. record {
+    pub row : (s : Option Label) → r.behind ≤ length text
+        → s ≡ label_found (label_of (take (r.quote - r.label) (drop r.label text)))
+        → RowFound text at (record { from = r.from; label = s; to = r.to; behind = r.behind })
+    unfolding line_found
+    row s k g =
+        let found : row_in (drop at text) ≡ Some (told, drop r.behind text) = sym here ∙ sym e in
+        let shorter = row_shorter (drop at text) (told, drop r.behind text) found in
+        record {
           line = told;
           split = rows_next (drop at text) (omega (arith, length-drop at text)) ∙ rw found;
           from = refl;
@@ -123,6 +109,4 @@ module _ (text : List ℕ) (at : ℕ) (h : at < length text) (r : RowLine)
           to = refl;
           further = omega (arith, shorter, length-drop at text, length-drop r.behind text);
           within = k;
-        },
-        λ x. absurd (true≢false x),
-      )
+        }

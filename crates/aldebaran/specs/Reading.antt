@@ -1,49 +1,46 @@
 -- Reading an Aldebaran text into a table and its first state: document 02, 1/12. What texts are of the form, and what
 -- they say, is `Says` (aldebaran_form/specs/Forms); this agrees with it (`read_exactly`, proofs/Exactly).
-use Rattle.std.specs.Prelude.{ℕ, Bool, true, false, cond, ◌&&◌, ◌||◌, not, List, [], ◌∷◌, length, eqb, ltb}
-use Rattle.std.proofs.Math.Option.{Option, none, some}
+use Rattle.std.specs.Prelude.{ℕ, Bool, true, false, cond, ◌&&◌, ◌||◌, not, List, [], ◌∷◌, length, eqb, ltb, Err, None, Ok, Option, Result, Some}
 use Rattle.hml.specs.Lists.{any, each}
 use Rattle.hml.specs.Machine.{Row}
-use Rattle.labels.specs.Refusals.{refused_if, first_of, output_of, Answer, refused_as, giving}
-use Rattle.labels.specs.declared.refusal.Check.{Check}
-use Rattle.labels.specs.declared.refusal.Check.TheVariants as check
+use Rattle.labels.specs.Refusals.{refused_if, first_of, output_of, Answer, refused_as, giving, Check}
 use Rattle.labels.specs.declared.refusal.Refusal.TheVariants as refusal
 use Rattle.tables.specs.Tables.{fit_states, in_range, row_below, leaving, bytes_of}
 use Rattle.aldebaran_form.specs.Forms.{line_feed, Line, Form, fifteen}
 use Rattle.aldebaran_form.specs.Lines.{next, header_in, line_in, label_of}
-use Rattle.aldebaran.specs.declared.read.TableRead.{TableRead}
-use Rattle.aldebaran.specs.declared.read.TableRead.TheVariants as read
+use Rattle.aldebaran.specs.declared.read.ReadTable.{ReadTable}
+use Rattle.labels.specs.declared.refusal.Refusal.{Refusal}
 
 -- a byte in front of the first line; nothing if there is no line, since then no line feed stands behind the byte
 unfoldable pub longer : ℕ → Option (List (List ℕ)) → Option (List (List ℕ))
-longer b none = none
-longer b (some []) = none
-longer b (some (line ∷ lines)) = some ((b ∷ line) ∷ lines)
+longer b None = None
+longer b (Some []) = None
+longer b (Some (line ∷ lines)) = Some ((b ∷ line) ∷ lines)
 
 -- the lines of a text, each without the line feed that ends it; nothing if one is not so ended
 unfoldable pub lines_of : List ℕ → Option (List (List ℕ))
-lines_of [] = some []
+lines_of [] = Some []
 lines_of (b ∷ text) =
-    cond (eqb b line_feed) (next (lines_of text) (λ lines. some ([] ∷ lines))) (longer b (lines_of text))
+    cond (eqb b line_feed) (next (lines_of text) (λ lines. Some ([] ∷ lines))) (longer b (lines_of text))
 
 -- lines, if each is of the form
 unfoldable pub lines_in : List (List ℕ) → Option (List Line)
-lines_in [] = some []
-lines_in (line ∷ lines) = next (line_in line) (λ l. next (lines_in lines) (λ ls. some (l ∷ ls)))
+lines_in [] = Some []
+lines_in (line ∷ lines) = next (line_in line) (λ l. next (lines_in lines) (λ ls. Some (l ∷ ls)))
 
 -- 19: "a missing header or a line not of this form"; what a text of the form says
 unfoldable pub form_in : List (List ℕ) → Option Form
-form_in [] = none
+form_in [] = None
 form_in (line ∷ lines) =
-    next (header_in line) (λ h. next (lines_in lines) (λ ls. some (record { header = h; lines = ls })))
+    next (header_in line) (λ h. next (lines_in lines) (λ ls. Some (record { header = h; lines = ls })))
 
 unfoldable pub form_of : List ℕ → Option Form
 form_of text = next (lines_of text) form_in
 
 -- is there something?
 abbrev pub there : {A : Type 0} → Option A → Bool
-there none = false
-there (some x) = true
+there None = false
+there (Some x) = true
 
 -- 21: "a label .. not so spelled"
 unfoldable pub is_label : List ℕ → Bool
@@ -51,8 +48,8 @@ is_label bytes = there (label_of bytes)
 
 -- the rows of lines, in the text's order; a line with an unknown label gives no row
 unfoldable pub rows_with : Line → Option ℕ → List Row
-rows_with l none = []
-rows_with l (some a) = (l.from, a, l.to) ∷ []
+rows_with l None = []
+rows_with l (Some a) = (l.from, a, l.to) ∷ []
 
 unfoldable pub rows_in : List Line → List Row
 rows_in lines = each (λ l. rows_with l (label_of l.label)) lines
@@ -109,27 +106,30 @@ table_bytes g = g.header.states ∷ bytes_of (in_order (rows_in g.lines))
 unfoldable pub check_read : Form → ℕ → Check
 check_read g room = first_of (check_form g ∷ refused_if (ltb room (length (table_bytes g))) refusal.OutputTooShort ∷ [])
 
+abbrev pub gives_table : ℕ → ℕ → Result ReadTable Refusal
+gives_table n first = Ok (record { len = n; first = first })
+
 -- the answer: how long the table is, and its first state
-abbrev pub answered : Check → ℕ → ℕ → TableRead
-answered check.Sound n first = read.Table n first
-answered (check.Refused x) n first = read.Refused x
+abbrev pub answered : Check → ℕ → ℕ → Result ReadTable Refusal
+answered (Ok _) n first = gives_table n first
+answered (Err x) n first = Err x
 
-unfoldable pub read_of_form : Option Form → ℕ → TableRead
-read_of_form none room = read.Refused refusal.NotOfForm
-read_of_form (some g) room = answered (check_read g room) (length (table_bytes g)) g.header.first
+unfoldable pub read_of_form : Option Form → ℕ → Result ReadTable Refusal
+read_of_form None room = Err refusal.NotOfForm
+read_of_form (Some g) room = answered (check_read g room) (length (table_bytes g)) g.header.first
 
-unfoldable pub read_of : List ℕ → ℕ → TableRead
+unfoldable pub read_of : List ℕ → ℕ → Result ReadTable Refusal
 read_of text room = read_of_form (form_of text) room
 
 -- the number of a reading, and its values: the table's length and the first state
-unfoldable pub table_answer : TableRead → Answer
-table_answer (read.Table n first) = giving (n ∷ first ∷ [])
-table_answer (read.Refused x) = refused_as x
+unfoldable pub table_answer : Result ReadTable Refusal → Answer
+table_answer (Ok t) = giving (t.len ∷ t.first ∷ [])
+table_answer (Err x) = refused_as x
 
 -- the lent output afterwards
 unfoldable pub output_of_form : Option Form → List ℕ → List ℕ
-output_of_form none out = out
-output_of_form (some g) out = output_of (check_read g (length out)) (table_bytes g) out
+output_of_form None out = out
+output_of_form (Some g) out = output_of (check_read g (length out)) (table_bytes g) out
 
 unfoldable pub table_output : List ℕ → List ℕ → List ℕ
 table_output text out = output_of_form (form_of text) out

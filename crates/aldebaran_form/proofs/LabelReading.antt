@@ -4,7 +4,6 @@ use mathlib.Core.Path.{◌≡◌, refl, sym, ◌∙◌, ap}
 use mathlib.Core.Bool.{Bool, true, false, cond}
 use mathlib.Core.List.{List, [], ◌∷◌, ◌++◌}
 use mathlib.Core.Logic.{◌⊎◌, inl, inr}
-use mathlib.Core.Option.{Option, none, some}
 use native.Mathlib.Omega.{arith}
 use native.Mathlib.Numerals.{lt_of_le_of_ne}
 use lib.ListN.{length, get_or}
@@ -17,7 +16,7 @@ use Rattle.digits.proofs.Reading.{decimal-one-to-one}
 use Rattle.aldebaran_form.specs.Forms.{spelled}
 use Rattle.aldebaran_form.specs.Lines.{same_bytes, label_among, label_of}
 use Rattle.aldebaran_form.specs.Working.{label_found}
-use Rattle.aldebaran_form.specs.declared.label.Spelled.TheVariants as label
+use Rattle.std.specs.Prelude.{None, Option, Some}
 
 -- the equality test on bytes
 pub same_refl : (l : List ℕ) → same_bytes l l ≡ true
@@ -106,14 +105,14 @@ spelled-one-to-one (suc a) (suc b) e =
     omega (arith, h, same_sign a b r.1)
 
 -- a label is found by its bytes
-among-found : (n a : ℕ) → a < n → label_among n (spelled a) ≡ some a
+among-found : (n a : ℕ) → a < n → label_among n (spelled a) ≡ Some a
 unfolding label_among
 among-found zero a h = absurd (omega arith)
 among-found (suc n) a h = go (same_bytes (spelled n) (spelled a)) refl (among-found n a)
   where
-    go : (t : Bool) → same_bytes (spelled n) (spelled a) ≡ t → (a < n → label_among n (spelled a) ≡ some a)
-        → label_among (suc n) (spelled a) ≡ some a
-    go true e r = rw e (ap some (spelled-one-to-one n a (same_true _ _ e)))
+    go : (t : Bool) → same_bytes (spelled n) (spelled a) ≡ t → (a < n → label_among n (spelled a) ≡ Some a)
+        → label_among (suc n) (spelled a) ≡ Some a
+    go true e r = rw e (ap Some (spelled-one-to-one n a (same_true _ _ e)))
     go false e r = rw e (r (lt_of_le_of_ne (omega (arith, h)) other))
       where
         other : a ≡ n → ⊥
@@ -121,17 +120,17 @@ among-found (suc n) a h = go (same_bytes (spelled n) (spelled a)) refl (among-fo
             let y : same_bytes (spelled n) (spelled a) ≡ true = rw q (same_refl (spelled n)) in
             apart cc
 
-pub label-found : (a : ℕ) → a ≤ 30 → label_of (spelled a) ≡ some a
+pub label-found : (a : ℕ) → a ≤ 30 → label_of (spelled a) ≡ Some a
 unfolding label_of
 label-found a h = among-found 31 a (omega arith)
 
 -- nothing else is
-among-spelled : (n : ℕ) (l : List ℕ) (a : ℕ) → label_among n l ≡ some a → (l ≡ spelled a) × (a < n)
+among-spelled : (n : ℕ) (l : List ℕ) (a : ℕ) → label_among n l ≡ Some a → (l ≡ spelled a) × (a < n)
 unfolding label_among
 among-spelled zero l a e = absurd (apart cc)
 among-spelled (suc n) l a e = go (same_bytes (spelled n) l) refl (among-spelled n l a)
   where
-    go : (t : Bool) → same_bytes (spelled n) l ≡ t → (label_among n l ≡ some a → (l ≡ spelled a) × (a < n))
+    go : (t : Bool) → same_bytes (spelled n) l ≡ t → (label_among n l ≡ Some a → (l ≡ spelled a) × (a < n))
         → (l ≡ spelled a) × (a < suc n)
     go true q r =
         let y = rw q at e in
@@ -141,18 +140,18 @@ among-spelled (suc n) l a e = go (same_bytes (spelled n) l) refl (among-spelled 
         let w = r (rw q at e) in
         (w.0, omega (arith, w.1))
 
-pub label-spelled : (l : List ℕ) (a : ℕ) → label_of l ≡ some a → (l ≡ spelled a) × (a ≤ 30)
+pub label-spelled : (l : List ℕ) (a : ℕ) → label_of l ≡ Some a → (l ≡ spelled a) × (a ≤ 30)
 unfolding label_of
 label-spelled l a e =
     let w = among-spelled 31 l a e in
     (w.0, omega (arith, w.1))
 
-pub label_unknown : (l : List ℕ) → ((a : ℕ) → a ≤ 30 → l ≡ spelled a → ⊥) → label_of l ≡ none
+pub label_unknown : (l : List ℕ) → ((a : ℕ) → a ≤ 30 → l ≡ spelled a → ⊥) → label_of l ≡ None
 label_unknown l f = go (label_of l) refl
   where
-    go : (o : Option ℕ) → label_of l ≡ o → label_of l ≡ none
-    go none e = e
-    go (some a) e = absurd (f a (label-spelled l a e).1 (label-spelled l a e).0)
+    go : (o : Option ℕ) → label_of l ≡ o → label_of l ≡ None
+    go None e = e
+    go (Some a) e = absurd (f a (label-spelled l a e).1 (label-spelled l a e).0)
 
 -- the three ways in which a label is spelled
 abbrev Mark : ℕ → Type 0
@@ -203,11 +202,11 @@ spelling (suc a) h = go (ltb (suc (a / 2)) 10) refl
         ))
 
 -- bytes that are spelled in none of them
-pub unknown : (l : List ℕ) → (Spelling l → ⊥) → label.Unknown ≡ label_found (label_of l)
+pub unknown : (l : List ℕ) → (Spelling l → ⊥) → None ≡ label_found (label_of l)
 unfolding label_found
 unknown l f = rw (label_unknown l (λ a h e. f (rw e (spelling a h))))
 
-is_label_lem : (l : List ℕ) (a : ℕ) → a ≤ 30 → l ≡ spelled a → label.Label (record { 0 = a }) ≡ label_found (label_of l)
+is_label_lem : (l : List ℕ) (a : ℕ) → a ≤ 30 → l ≡ spelled a → Some (record { 0 = a }) ≡ label_found (label_of l)
 unfolding label_found
 is_label_lem l a h e = rw (e, label-found a h)
 
@@ -231,7 +230,7 @@ four_bytes (b ∷ l) n = ap (b ∷◌) (three_bytes l (omega (arith, n)))
 -- by their length
 module _ (l : List ℕ) where
   pub other_length : (length l ≡ 1 → ⊥) → (length l ≡ 3 → ⊥) → (length l ≡ 4 → ⊥)
-      → label.Unknown ≡ label_found (label_of l)
+      → None ≡ label_found (label_of l)
   other_length f g h = unknown l go
     where
       go : Spelling l → ⊥
@@ -239,11 +238,11 @@ module _ (l : List ℕ) where
       go (inr (inl w)) = g (ap length w.5)
       go (inr (inr w)) = h (ap length w.5)
 
-  pub silent : length l ≡ 1 → get_or l 0 0 ≡ 105 → label.Label (record { 0 = 0 }) ≡ label_found (label_of l)
+  pub silent : length l ≡ 1 → get_or l 0 0 ≡ 105 → Some (record { 0 = 0 }) ≡ label_found (label_of l)
   unfolding spelled
   silent n e = is_label_lem l 0 (omega arith) (one_byte l n ∙ rw e)
 
-  pub not-silent : length l ≡ 1 → (get_or l 0 0 ≡ 105 → ⊥) → label.Unknown ≡ label_found (label_of l)
+  pub not-silent : length l ≡ 1 → (get_or l 0 0 ≡ 105 → ⊥) → None ≡ label_found (label_of l)
   not-silent n f = unknown l go
     where
       go : Spelling l → ⊥
@@ -257,7 +256,7 @@ module _ (letter digit mark : ℕ) where
   three = letter ∷ digit ∷ mark ∷ []
 
   not_low : ((v m : ℕ) → 1 ≤ v → v < 10 → three ≡ 97 ∷ (48 + v) ∷ m ∷ [] → ⊥)
-      → label.Unknown ≡ label_found (label_of three)
+      → None ≡ label_found (label_of three)
   not_low f = unknown three go
     where
       go : Spelling three → ⊥
@@ -265,13 +264,13 @@ module _ (letter digit mark : ℕ) where
       go (inr (inl w)) = f w.0 w.1 w.2 w.3 w.5
       go (inr (inr w)) = omega (arith, ap length w.5)
 
-  pub low_letter : (letter ≡ 97 → ⊥) → label.Unknown ≡ label_found (label_of three)
+  pub low_letter : (letter ≡ 97 → ⊥) → None ≡ label_found (label_of three)
   low_letter f = not_low (λ v m h i e. f (ap (λ k. get_or k 0 0) e))
 
-  pub low_below : digit < 49 → label.Unknown ≡ label_found (label_of three)
+  pub low_below : digit < 49 → None ≡ label_found (label_of three)
   low_below h = not_low (λ v m i j e. omega (arith, h, i, ap (λ k. get_or k 1 0) e))
 
-  pub low_above : 57 < digit → label.Unknown ≡ label_found (label_of three)
+  pub low_above : 57 < digit → None ≡ label_found (label_of three)
   low_above h = not_low (λ v m i j e. omega (arith, h, j, ap (λ k. get_or k 1 0) e))
 
   pub low_there : {A : Type 0} (f : List ℕ → A) → letter ≡ 97 → 49 ≤ digit → digit ≤ 57
@@ -286,7 +285,7 @@ module _ (letter ten digit mark : ℕ) where
   four = letter ∷ ten ∷ digit ∷ mark ∷ []
 
   not_high : ((v m : ℕ) → 10 ≤ v → v ≤ 15 → four ≡ 97 ∷ 49 ∷ (38 + v) ∷ m ∷ [] → ⊥)
-      → label.Unknown ≡ label_found (label_of four)
+      → None ≡ label_found (label_of four)
   not_high f = unknown four go
     where
       go : Spelling four → ⊥
@@ -294,23 +293,23 @@ module _ (letter ten digit mark : ℕ) where
       go (inr (inl w)) = omega (arith, ap length w.5)
       go (inr (inr w)) = f w.0 w.1 w.2 w.3 w.5
 
-  pub high_letter : (letter ≡ 97 → ⊥) → label.Unknown ≡ label_found (label_of four)
+  pub high_letter : (letter ≡ 97 → ⊥) → None ≡ label_found (label_of four)
   high_letter f = not_high (λ v m h i e. f (ap (λ k. get_or k 0 0) e))
 
-  pub high_ten : (ten ≡ 49 → ⊥) → label.Unknown ≡ label_found (label_of four)
+  pub high_ten : (ten ≡ 49 → ⊥) → None ≡ label_found (label_of four)
   high_ten f = not_high (λ v m h i e. f (ap (λ k. get_or k 1 0) e))
 
-  pub high_below : digit < 48 → label.Unknown ≡ label_found (label_of four)
+  pub high_below : digit < 48 → None ≡ label_found (label_of four)
   high_below h = not_high (λ v m i j e. omega (arith, h, i, ap (λ k. get_or k 2 0) e))
 
-  pub high_above : 53 < digit → label.Unknown ≡ label_found (label_of four)
+  pub high_above : 53 < digit → None ≡ label_found (label_of four)
   high_above h = not_high (λ v m i j e. omega (arith, h, j, ap (λ k. get_or k 2 0) e))
 
   pub high_there : {A : Type 0} (f : List ℕ → A) → letter ≡ 97 → ten ≡ 49 → 48 ≤ digit → digit ≤ 53
-      → f (97 ∷ (decimal (digit - 38) ++ (mark ∷ []))) ≡ f four
+      → f (97 ∷ (decimal (digit - 48 + 10) ++ (mark ∷ []))) ≡ f four
   high_there f e g h i =
-      let z : 38 + (digit - 38) ≡ digit = omega arith in
-      ap f (rw (decimal_high (digit - 38) (omega arith) (omega arith), z, e, g))
+      let z : 38 + (digit - 48 + 10) ≡ digit = omega arith in
+      ap f (rw (decimal_high (digit - 48 + 10) (omega arith) (omega arith), z, e, g))
 
 -- a pair and its mark
 module _ (pair mark : ℕ) where
@@ -318,7 +317,7 @@ module _ (pair mark : ℕ) where
   bytes = 97 ∷ (decimal pair ++ (mark ∷ []))
 
   -- no other byte than the marks
-  pub no_mark : (mark ≡ 33 → ⊥) → (mark ≡ 63 → ⊥) → label.Unknown ≡ label_found (label_of bytes)
+  pub no_mark : (mark ≡ 33 → ⊥) → (mark ≡ 63 → ⊥) → None ≡ label_found (label_of bytes)
   unfolding label_found spelled
   no_mark f g = rw (label_unknown bytes none_such)
     where
@@ -336,27 +335,35 @@ module _ (pair mark : ℕ) where
     has_pair : pair ≡ 0 → ⊥
     has_pair e = omega (arith, e, h)
 
-    first_mark : mark ≡ 33 → label.Label (record { 0 = 2 * pair - 1 }) ≡ label_found (label_of bytes)
+    first_mark : mark ≡ 33 → Some (record { 0 = 2 * pair - 1 }) ≡ label_found (label_of bytes)
     first_mark e = is_label_lem bytes (2 * pair - 1) (omega arith)
         (sym (spelled-first pair has_pair ∙ ap (λ m. 97 ∷ (decimal pair ++ (m ∷ []))) (sym e)))
 
-    second_mark : mark ≡ 63 → label.Label (record { 0 = 2 * pair }) ≡ label_found (label_of bytes)
+    second_mark : mark ≡ 63 → Some (record { 0 = 2 * pair }) ≡ label_found (label_of bytes)
     second_mark e = is_label_lem bytes (2 * pair) (omega arith)
         (sym (spelled_second pair has_pair ∙ ap (λ m. 97 ∷ (decimal pair ++ (m ∷ []))) (sym e)))
 
     -- as the code counts it
     pub with_mark : mark ≡ 33 + 30 * (mark / 63)
-        → label.Label (record { 0 = 2 * pair + mark / 63 - 1 }) ≡ label_found (label_of bytes)
+        → Some (record { 0 = 2 * pair + mark / 63 - 1 }) ≡ label_found (label_of bytes)
     with_mark e = go (eqb mark 33) refl
       where
         go : (x : Bool) → eqb mark 33 ≡ x
-            → label.Label (record { 0 = 2 * pair + mark / 63 - 1 }) ≡ label_found (label_of bytes)
+            → Some (record { 0 = 2 * pair + mark / 63 - 1 }) ≡ label_found (label_of bytes)
         go true p =
             let q : mark ≡ 33 = eqb-true mark 33 p in
             let n : 2 * pair + mark / 63 - 1 ≡ 2 * pair - 1 = omega (arith, q) in
-            ap (λ a. label.Label (record { 0 = a })) n ∙ first_mark q
+            ap (λ a. Some (record { 0 = a })) n ∙ first_mark q
         go false p =
             let f : 33 < mark = lt_of_le_of_ne (omega (arith, e)) (λ z. eqb-false mark 33 p (sym z)) in
             let q : mark ≡ 63 = omega (arith, e, f) in
             let n : 2 * pair + mark / 63 - 1 ≡ 2 * pair = omega (arith, q, h) in
-            ap (λ a. label.Label (record { 0 = a })) n ∙ second_mark q
+            ap (λ a. Some (record { 0 = a })) n ∙ second_mark q
+
+-- what no label of two or three bytes is
+pub ruleset low_outside = (low_letter, low_below, low_above)
+
+pub ruleset high_outside = (high_letter, high_ten, high_below, high_above)
+
+-- one byte that is no label's, or bytes of no label's length
+pub ruleset by_length = (silent, not-silent, other_length)

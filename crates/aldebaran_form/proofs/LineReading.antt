@@ -3,27 +3,26 @@ use Prim.Native.Nat.{ℕ, ◌+◌, ◌-◌, ◌≤◌, ◌<◌}
 use mathlib.Core.Path.{◌≡◌, refl, sym, ◌∙◌, ap}
 use mathlib.Core.Bool.{Bool, true, false}
 use mathlib.Core.List.{List, [], ◌∷◌}
-use mathlib.Core.Option.{Option, none, some}
 use native.Mathlib.Omega.{arith}
 use lib.ListN.{length, take, drop, length-drop}
 use lib.Seq.{drop-drop}
 use lib.Dec.{eqb, leb}
-use borrow.Author.Tests.{leb-true, leb-false}
+use borrow.Author.Tests.{le-leb, lt-leb, leb-true, leb-false}
 use Rattle.hml.specs.Lists.{guard}
 use Rattle.hml.proofs.Tests.{apart}
 use Rattle.aldebaran_form.specs.Forms.{line_feed, quote, comma, closing, des, Header, Line}
 use Rattle.aldebaran_form.specs.Lines.{next, behind, number_in}
-use Rattle.aldebaran_form.specs.Working.{rest_at, number_at, label_to, head_in, row_in, header_found, head_found}
-use Rattle.aldebaran_form.specs.declared.line.HeaderLine.{HeaderLine}
+use Rattle.aldebaran_form.specs.Working.{rest_at, number_at, label_to, head_in, row_in}
 use Rattle.aldebaran_form.specs.declared.scan.Number.{Number}
 use Rattle.aldebaran_form.proofs.Fronts.{front_fit, front_taken}
 use Rattle.aldebaran_form.proofs.Scanning.{rest_in, rest_out}
+use Rattle.std.specs.Prelude.{None, Option, Some}
 
 -- two steps, taken one after the other
 pub next-next : {A B C : Type 0} (o : Option A) (f : A → Option B) (g : B → Option C)
     → next o (λ x. next (f x) g) ≡ next (next o f) g
-next-next none f g = refl
-next-next (some x) f g = refl
+next-next None f g = refl
+next-next (Some x) f g = refl
 
 -- bytes one after the other
 pub behind-first : (b : ℕ) (bytes text : List ℕ) → next (behind (b ∷ []) text) (behind bytes) ≡ behind (b ∷ bytes) text
@@ -43,8 +42,8 @@ module _ (text : List ℕ) where
     where
       go : (o : Option (List ℕ)) → rest_at text p ≡ o
           → next (rest_at text p) (behind (b ∷ bytes)) ≡ next (rest_at text q) (behind bytes)
-      go none z = rw (e, z)
-      go (some l) z = rw (e, z) (sym (behind-first b bytes l))
+      go None z = rw (e, z)
+      go (Some l) z = rw (e, z) (sym (behind-first b bytes l))
 
   -- two bytes
   two_steps : (p q r b c : ℕ) → rest_at text q ≡ next (rest_at text p) (behind (b ∷ []))
@@ -66,7 +65,7 @@ module _ (text : List ℕ) where
   unfolding number_at
   number_step p r k e =
       next-next (rest_at text p) number_in (λ n. k n.0 n.1) ∙ ap (λ o. next o (λ n. k n.0 n.1)) (sym e)
-      ∙ sym (next-next (rest_at text r.end) (λ rest. some (r.value, rest)) (λ n. k n.0 n.1))
+      ∙ sym (next-next (rest_at text r.end) (λ rest. Some (r.value, rest)) (λ n. k n.0 n.1))
 
   -- a label, then what follows it
   label_step : {B : Type 0} (p q : ℕ) (k : List ℕ → List ℕ → Option B)
@@ -82,8 +81,8 @@ module _ (text : List ℕ) where
       go true h =
           let fit : length (label_to (drop p text)) ≤ length (drop p text) = front_fit _ (drop p text) in
           let fits : q ≤ length text = omega (arith, e, fit, leb-true p (length text) h, length-drop p text) in
-          let here : rest_at text q ≡ some (drop (length (label_to (drop p text))) (drop p text)) =
-          rest_in text q fits ∙ ap some (ap (λ n. drop n text) e ∙ sym (drop-drop _ p text)) in
+          let here : rest_at text q ≡ Some (drop (length (label_to (drop p text))) (drop p text)) =
+          rest_in text q fits ∙ ap Some (ap (λ n. drop n text) e ∙ sym (drop-drop _ p text)) in
           rw (rest_in text p (leb-true p (length text) h), here)
       go false h =
           let far : length text < q = omega (arith, e, leb-false p (length text) h) in
@@ -91,12 +90,12 @@ module _ (text : List ℕ) where
 
   -- what was read, and what stands behind it
   last_step : {B : Type 0} (p : ℕ) (x : B)
-      → next {B = B × List ℕ} (rest_at text p) (λ rest. some (x, rest)) ≡ guard (leb p (length text)) (x, drop p text)
+      → next {B = B × List ℕ} (rest_at text p) (λ rest. Some (x, rest)) ≡ guard (leb p (length text)) (x, drop p text)
   unfolding rest_at
   last_step {B} p x = go (leb p (length text))
     where
       go : (b : Bool)
-          → next {B = B × List ℕ} (guard b (drop p text)) (λ rest. some (x, rest)) ≡ guard b (x, drop p text)
+          → next {B = B × List ℕ} (guard b (drop p text)) (λ rest. Some (x, rest)) ≡ guard b (x, drop p text)
       go true = refl
       go false = refl
 
@@ -117,7 +116,7 @@ module _ (text : List ℕ) where
 -- the steps of a header, from the last
 abbrev pub header_end : ℕ → ℕ → ℕ → List ℕ → Option (Header × List ℕ)
 header_end a b c l = next (behind (closing ∷ line_feed ∷ []) l)
-    (λ rest. some (record { first = a; rows = b; states = c }, rest))
+    (λ rest. Some (record { first = a; rows = b; states = c }, rest))
 
 abbrev pub header_third : ℕ → ℕ → List ℕ → Option (Header × List ℕ)
 header_third a b l = next (number_in l) (λ n. header_end a b n.0 n.1)
@@ -149,29 +148,21 @@ module _ (text : List ℕ) (opened second third end behind1 : ℕ) (first rows s
       ∙ number_step text second rows (λ x l. next (behind (comma ∷ []) l) (header_third first.value x)) d
       ∙ bytes_step text rows.end third (44 ∷ []) (header_third first.value rows.value) e
       ∙ number_step text third states (header_end first.value rows.value) f
-      ∙ bytes_step text states.end behind1 (41 ∷ 10 ∷ []) (λ rest. some (_, rest))
+      ∙ bytes_step text states.end behind1 (41 ∷ 10 ∷ []) (λ rest. Some (_, rest))
       (two_steps text states.end end behind1 41 10 g h)
       ∙ last_step text behind1 _)
 
--- what header_line found is told whole or not at all
-pub found_head : (text : List ℕ) (r : HeaderLine)
-    → head_found text r
-    ≡ guard r.formed (record { first = r.first; rows = r.rows; states = r.states }, drop r.behind text)
-unfolding head_found header_found
-found_head text r = go r.formed
-  where
-    told : Header
-    told = record { first = r.first; rows = r.rows; states = r.states }
+-- what ends in the text is told, and nothing that ends beyond it
+pub told_within : {A : Type 0} (p n : ℕ) (x : A) → p ≤ n → Some x ≡ guard (leb p n) x
+told_within p n x h = rw (le-leb p n h)
 
-    go : (x : Bool) → next {B = Header × List ℕ} (guard x told) (λ h. some (h, drop r.behind text))
-        ≡ guard x (told, drop r.behind text)
-    go true = refl
-    go false = refl
+pub untold_beyond : {A : Type 0} (p n : ℕ) (x : A) → n < p → None ≡ guard (leb p n) x
+untold_beyond p n x h = rw (lt-leb p n h)
 
 -- the steps of a line, from the last
 abbrev pub row_end : ℕ → List ℕ → ℕ → List ℕ → Option (Line × List ℕ)
 row_end a b c l =
-    next (behind (closing ∷ line_feed ∷ []) l) (λ rest. some (record { from = a; label = b; to = c }, rest))
+    next (behind (closing ∷ line_feed ∷ []) l) (λ rest. Some (record { from = a; label = b; to = c }, rest))
 
 abbrev pub row_to : ℕ → List ℕ → List ℕ → Option (Line × List ℕ)
 row_to a b l = next (number_in l) (λ n. row_end a b n.0 n.1)
@@ -187,16 +178,16 @@ row_from l = next (number_in l) (λ n. next (behind (comma ∷ quote ∷ []) n.1
 
 -- what stands behind a place in the text stands behind one in the text
 module _ (text : List ℕ) where
-  back : (p : ℕ) (o : Option (List ℕ)) → (rest_at text p ≡ none → o ≡ none) → (o ≡ none → ⊥) → p ≤ length text
+  back : (p : ℕ) (o : Option (List ℕ)) → (rest_at text p ≡ None → o ≡ None) → (o ≡ None → ⊥) → p ≤ length text
   back p o f g = go (leb p (length text)) refl
     where
       go : (b : Bool) → leb p (length text) ≡ b → p ≤ length text
       go true h = leb-true p (length text) h
       go false h = absurd (g (f (rest_out text p (leb-false p (length text) h))))
 
-  there : (q : ℕ) → q ≤ length text → rest_at text q ≡ none → ⊥
+  there : (q : ℕ) → q ≤ length text → rest_at text q ≡ None → ⊥
   there q h e =
-      let s : rest_at text q ≡ some (drop q text) = rest_in text q h in
+      let s : rest_at text q ≡ Some (drop q text) = rest_in text q h in
       apart cc
 
   bytes_back : (p q : ℕ) (bytes : List ℕ) → rest_at text q ≡ next (rest_at text p) (behind bytes) → q ≤ length text
@@ -209,9 +200,9 @@ module _ (text : List ℕ) where
   number-back p r e h = back p (rest_at text r.end)
       (λ z. unsaid (rest_at text r.end) (λ l. (r.value, l)) (e ∙ ap (λ o. next o number_in) z)) (there r.end h)
     where
-      unsaid : {A B : Type 0} (o : Option A) (f : A → B) → next o (λ x. some (f x)) ≡ none → o ≡ none
-      unsaid none f e = refl
-      unsaid (some l) f e = absurd (apart cc)
+      unsaid : {A B : Type 0} (o : Option A) (f : A → B) → next o (λ x. Some (f x)) ≡ None → o ≡ None
+      unsaid None f e = refl
+      unsaid (Some l) f e = absurd (apart cc)
 
 -- `(from,"label",to)` and a line feed
 module _ (text : List ℕ) (at opened comma1 label quote1 closed second end behind1 : ℕ) (from to : Number)
@@ -248,7 +239,7 @@ module _ (text : List ℕ) (at opened comma1 label quote1 closed second end behi
       ∙ bytes_step text quote1 second (34 ∷ 44 ∷ []) (row_to from.value bytes)
       (two_steps text quote1 closed second 34 44 f g)
       ∙ number_step text second to (row_end from.value bytes) h
-      ∙ bytes_step text to.end behind1 (41 ∷ 10 ∷ []) (λ rest. some (told bytes, rest))
+      ∙ bytes_step text to.end behind1 (41 ∷ 10 ∷ []) (λ rest. Some (told bytes, rest))
       (two_steps text to.end end behind1 41 10 i j)
       ∙ last_step text behind1 (told bytes)))
 

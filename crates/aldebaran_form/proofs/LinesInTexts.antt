@@ -5,7 +5,6 @@ use mathlib.Core.Path.{◌≡◌, refl, sym, ◌∙◌, ap}
 use mathlib.Core.Bool.{Bool, true, false, cond, not, ◌&&◌}
 use mathlib.Core.List.{List, [], ◌∷◌, ◌++◌, append-nil}
 use mathlib.Core.Logic.{◌⊎◌, inl, inr}
-use mathlib.Core.Option.{Option, none, some}
 use native.Mathlib.Omega.{arith}
 use lib.ListN.{length, take, drop, take-append-drop}
 use lib.Seq.{drop-append-le}
@@ -21,6 +20,7 @@ use Rattle.aldebaran_form.proofs.Lacks.{Lacks, lacks_nil, lacks_cons, lacks_fron
 use Rattle.aldebaran_form.proofs.Fronts.{front_fit, front_before}
 use Rattle.aldebaran_form.proofs.WrittenLines.{behind_read, byte_lacks}
 use Rattle.aldebaran_form.proofs.LineReading.{next-next, behind-first, row_end, row_to, row_quoted}
+use Rattle.std.specs.Prelude.{None, Option, Some}
 
 -- the steps of a line by itself, from the last
 abbrev line_end : ℕ → List ℕ → ℕ → List ℕ → Option Line
@@ -48,7 +48,7 @@ des_lacks = byte_lacks 100 _ (omega arith)
 
 -- what stands behind a line: a line feed and more, or nothing
 pub record Tail (tail : List ℕ) : Type 0 where
-  pub no_bytes : (b : ℕ) (bytes : List ℕ) → (b ≡ line_feed → ⊥) → behind (b ∷ bytes) tail ≡ none
+  pub no_bytes : (b : ℕ) (bytes : List ℕ) → (b ≡ line_feed → ⊥) → behind (b ∷ bytes) tail ≡ None
   pub no_digits : digits_in tail ≡ []
   pub no_label : label_to tail ≡ []
 
@@ -67,14 +67,14 @@ no_tail = record { no_bytes = λ b bytes f. refl; no_digits = refl; no_label = r
 -- what is read of a line without its line feed is read in the text too
 module _ (tail : List ℕ) (w : Tail tail) where
   behind_before : (bytes l : List ℕ) → Lacks line_feed bytes
-      → behind bytes (l ++ tail) ≡ next (behind bytes l) (λ m. some (m ++ tail))
+      → behind bytes (l ++ tail) ≡ next (behind bytes l) (λ m. Some (m ++ tail))
   unfolding behind
   behind_before [] l v = refl
   behind_before (b ∷ bytes) [] v = w.no_bytes b bytes (lacks_front line_feed b bytes v)
   behind_before (b ∷ bytes) (c ∷ l) v = go (eqb c b) refl (behind_before bytes l (lacks_rest line_feed b bytes v))
     where
-      go : (x : Bool) → eqb c b ≡ x → behind bytes (l ++ tail) ≡ next (behind bytes l) (λ m. some (m ++ tail))
-          → behind (b ∷ bytes) (c ∷ (l ++ tail)) ≡ next (behind (b ∷ bytes) (c ∷ l)) (λ m. some (m ++ tail))
+      go : (x : Bool) → eqb c b ≡ x → behind bytes (l ++ tail) ≡ next (behind bytes l) (λ m. Some (m ++ tail))
+          → behind (b ∷ bytes) (c ∷ (l ++ tail)) ≡ next (behind (b ∷ bytes) (c ∷ l)) (λ m. Some (m ++ tail))
       go true e r = rw e r
       go false e r = rw e
 
@@ -83,7 +83,7 @@ module _ (tail : List ℕ) (w : Tail tail) where
   digits_before l = front_before is_digit l tail w.no_digits
 
   abbrev on : ℕ × List ℕ → Option (ℕ × List ℕ)
-  on p = some (p.0, p.1 ++ tail)
+  on p = Some (p.0, p.1 ++ tail)
 
   number_before : (l : List ℕ) → number_in (l ++ tail) ≡ next (number_in l) on
   unfolding number_in digits_in
@@ -115,9 +115,9 @@ module _ (tail : List ℕ) (w : Tail tail) where
     bytes_then bytes f g v r l u = ap (λ o. next o f) (behind_before bytes l v) ∙ go (behind bytes l) refl
       where
         go : (o : Option (List ℕ)) → behind bytes l ≡ o
-            → next (next o (λ m. some (m ++ tail))) f ≡ next (next o g) fin
-        go none e = refl
-        go (some m) e = r m (lacks_right line_feed bytes m (rw (behind_read bytes l m e) at u))
+            → next (next o (λ m. Some (m ++ tail))) f ≡ next (next o g) fin
+        go None e = refl
+        go (Some m) e = r m (lacks_right line_feed bytes m (rw (behind_read bytes l m e) at u))
 
     number_then : (f : ℕ → List ℕ → Option B) (g : ℕ → List ℕ → Option A)
         → ((n : ℕ) (l : List ℕ) → Lacks line_feed l → f n (l ++ tail) ≡ next (g n l) fin)
@@ -148,22 +148,22 @@ module _ (tail : List ℕ) (w : Tail tail) where
   -- the line feed stands where the line ends
   module _ {A : Type 0} where
     abbrev fed : A → Option (A × List ℕ)
-    fed x = next (behind (line_feed ∷ []) tail) (λ rest. some (x, rest))
+    fed x = next (behind (line_feed ∷ []) tail) (λ rest. Some (x, rest))
 
     feed_then : (x : A) (l : List ℕ) → Lacks line_feed l
-        → next {B = A × List ℕ} (behind (line_feed ∷ []) (l ++ tail)) (λ rest. some (x, rest))
+        → next {B = A × List ℕ} (behind (line_feed ∷ []) (l ++ tail)) (λ rest. Some (x, rest))
         ≡ next (ending l x) fed
     unfolding behind ending
     feed_then x [] u = refl
     feed_then x (c ∷ l) u = rw (ne_eqb c line_feed (lacks_front line_feed c l u))
 
     end_then : (x : A) (l : List ℕ) → Lacks line_feed l
-        → next {B = A × List ℕ} (behind (closing ∷ line_feed ∷ []) (l ++ tail)) (λ rest. some (x, rest))
+        → next {B = A × List ℕ} (behind (closing ∷ line_feed ∷ []) (l ++ tail)) (λ rest. Some (x, rest))
         ≡ next (next (behind (closing ∷ []) l) (λ m. ending m x)) fed
     end_then x l u =
-        ap (λ o. next o (λ rest. some (x, rest))) (sym (behind-first closing (line_feed ∷ []) (l ++ tail)))
-        ∙ sym (next-next (behind (closing ∷ []) (l ++ tail)) (behind (line_feed ∷ [])) (λ rest. some (x, rest)))
-        ∙ bytes_then fed (closing ∷ []) (λ m. next (behind (line_feed ∷ []) m) (λ rest. some (x, rest)))
+        ap (λ o. next o (λ rest. Some (x, rest))) (sym (behind-first closing (line_feed ∷ []) (l ++ tail)))
+        ∙ sym (next-next (behind (closing ∷ []) (l ++ tail)) (behind (line_feed ∷ [])) (λ rest. Some (x, rest)))
+        ∙ bytes_then fed (closing ∷ []) (λ m. next (behind (line_feed ∷ []) m) (λ rest. Some (x, rest)))
         (λ m. ending m x) (one_lacks closing (omega arith)) (feed_then x) l u
 
   -- a header, and what stands behind it
@@ -188,25 +188,25 @@ module _ (tail : List ℕ) (w : Tail tail) where
 
 -- a line that a line feed ends
 pub head_feed : (line rest : List ℕ) → Lacks line_feed line
-    → head_in (line ++ (line_feed ∷ rest)) ≡ next (header_in line) (λ h. some (h, rest))
+    → head_in (line ++ (line_feed ∷ rest)) ≡ next (header_in line) (λ h. Some (h, rest))
 unfolding behind
 head_feed line rest v = head_in_lem (line_feed ∷ rest) (feed_tail rest) line v
 
 pub row_feed : (line rest : List ℕ) → Lacks line_feed line
-    → row_in (line ++ (line_feed ∷ rest)) ≡ next (line_in line) (λ l. some (l, rest))
+    → row_in (line ++ (line_feed ∷ rest)) ≡ next (line_in line) (λ l. Some (l, rest))
 unfolding behind
 row_feed line rest v = row_in_lem (line_feed ∷ rest) (feed_tail rest) line v
 
 -- one that none ends
-nothing : {A : Type 0} (o : Option A) → ◌≡◌ {A = Option (A × List ℕ)} (next o (λ l. none)) none
-nothing none = refl
-nothing (some l) = refl
+nothing : {A : Type 0} (o : Option A) → ◌≡◌ {A = Option (A × List ℕ)} (next o (λ l. None)) None
+nothing None = refl
+nothing (Some l) = refl
 
-pub head_open : (line : List ℕ) → Lacks line_feed line → head_in line ≡ none
+pub head_open : (line : List ℕ) → Lacks line_feed line → head_in line ≡ None
 unfolding behind
 head_open line v = ap head_in (sym (append-nil line)) ∙ head_in_lem [] no_tail line v ∙ nothing (header_in line)
 
-pub row_open : (line : List ℕ) → Lacks line_feed line → row_in line ≡ none
+pub row_open : (line : List ℕ) → Lacks line_feed line → row_in line ≡ None
 unfolding behind
 row_open line v = ap row_in (sym (append-nil line)) ∙ row_in_lem [] no_tail line v ∙ nothing (line_in line)
 

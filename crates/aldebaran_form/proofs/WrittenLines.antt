@@ -3,7 +3,6 @@ use Prim.Native.Nat.{ℕ, ◌≤◌}
 use mathlib.Core.Path.{◌≡◌, refl, ◌∙◌, ap}
 use mathlib.Core.Bool.{Bool, true, false, cond, not}
 use mathlib.Core.List.{List, [], ◌∷◌, ◌++◌}
-use mathlib.Core.Option.{Option, none, some}
 use native.Mathlib.Omega.{arith}
 use lib.ListN.{length, drop}
 use lib.Seq.{drop-append_seam}
@@ -19,36 +18,37 @@ use Rattle.aldebaran_form.proofs.Lacks.{Lacks, lacks_nil, lacks_cons, lacks_fron
 use Rattle.aldebaran_form.proofs.Lacks.{lacks_left, lacks_right}
 use Rattle.aldebaran_form.proofs.Fronts.{front-split}
 use Rattle.aldebaran_form.proofs.WrittenNumbers.{decimal_lacks, number-written, number_read}
+use Rattle.std.specs.Prelude.{None, Option, Some}
 
 -- what was read first, and what is read next
 module _ {A B : Type 0} where
-  pub next-some : (o : Option A) (f : A → Option B) (y : B) → next o f ≡ some y
-      → (x : A) × (o ≡ some x) × (f x ≡ some y)
-  next-some none f y e = absurd (apart cc)
-  next-some (some x) f y e = (x, refl, e)
+  pub next-some : (o : Option A) (f : A → Option B) (y : B) → next o f ≡ Some y
+      → (x : A) × (o ≡ Some x) × (f x ≡ Some y)
+  next-some None f y e = absurd (apart cc)
+  next-some (Some x) f y e = (x, refl, e)
 
 -- bytes that a line begins with
-pub behind-written : (bytes rest : List ℕ) → behind bytes (bytes ++ rest) ≡ some rest
+pub behind-written : (bytes rest : List ℕ) → behind bytes (bytes ++ rest) ≡ Some rest
 unfolding behind
 behind-written [] rest = refl
 behind-written (b ∷ bytes) rest = rw (eq-eqb b b refl) (behind-written bytes rest)
 
-pub behind_read : (bytes line rest : List ℕ) → behind bytes line ≡ some rest → line ≡ bytes ++ rest
+pub behind_read : (bytes line rest : List ℕ) → behind bytes line ≡ Some rest → line ≡ bytes ++ rest
 unfolding behind
 behind_read [] line rest e = cc
 behind_read (b ∷ bytes) line rest e = go line e (behind_read bytes)
   where
-    test : (c : ℕ) (l : List ℕ) (x : Bool) → eqb c b ≡ x → cond x (behind bytes l) none ≡ some rest
-        → (behind bytes l ≡ some rest → l ≡ bytes ++ rest) → c ∷ l ≡ b ∷ (bytes ++ rest)
+    test : (c : ℕ) (l : List ℕ) (x : Bool) → eqb c b ≡ x → cond x (behind bytes l) None ≡ Some rest
+        → (behind bytes l ≡ Some rest → l ≡ bytes ++ rest) → c ∷ l ≡ b ∷ (bytes ++ rest)
     test c l true p f r = let q : c ≡ b = eqb-true c b p in ap (◌∷ l) q ∙ ap (b ∷◌) (r f)
     test c l false p f r = absurd (apart cc)
 
-    go : (l : List ℕ) → behind (b ∷ bytes) l ≡ some rest
-        → ((k r : List ℕ) → behind bytes k ≡ some r → k ≡ bytes ++ r) → l ≡ b ∷ (bytes ++ rest)
+    go : (l : List ℕ) → behind (b ∷ bytes) l ≡ Some rest
+        → ((k r : List ℕ) → behind bytes k ≡ Some r → k ≡ bytes ++ r) → l ≡ b ∷ (bytes ++ rest)
     go [] f r = absurd (apart cc)
     go (c ∷ l) f r = test c l (eqb c b) refl f (r l rest)
 
-pub ending_read : {A : Type 0} (l : List ℕ) (x y : A) → ending l x ≡ some y → (l ≡ []) × (x ≡ y)
+pub ending_read : {A : Type 0} (l : List ℕ) (x y : A) → ending l x ≡ Some y → (l ≡ []) × (x ≡ y)
 unfolding ending
 ending_read [] x y e = (refl, cc)
 ending_read (b ∷ l) x y e = absurd (apart cc)
@@ -84,7 +84,7 @@ plain_feed : (l : Line) → PlainLine l → Lacks line_feed l.label
 unfolding Lacks
 plain_feed l w b m e = (w.label b m).1 e
 
-pub line-written : (l : Line) → PlainLine l → line_in (row_line l) ≡ some l
+pub line-written : (l : Line) → PlainLine l → line_in (row_line l) ≡ Some l
 unfolding line_in row_line behind ending is_digit
 line-written l w =
     let end : List ℕ = closing ∷ [] in
@@ -96,7 +96,7 @@ line-written l w =
       number-written l.to end w.to refl,
     )
 
-pub header-written : (h : Header) → ShortHeader h → header_in (header_line h) ≡ some h
+pub header-written : (h : Header) → ShortHeader h → header_in (header_line h) ≡ Some h
 unfolding header_in header_line behind ending is_digit
 header-written h w =
     let end : List ℕ = closing ∷ [] in
@@ -137,15 +137,15 @@ header_lacks h =
 
 -- what is read of a line is what is written there
 module _ {A : Type 0} (l : List ℕ) (k : List ℕ → Option A) (y : A) where
-  bytes_read : (bytes : List ℕ) → next (behind bytes l) k ≡ some y
-      → (rest : List ℕ) × (l ≡ bytes ++ rest) × (k rest ≡ some y)
+  bytes_read : (bytes : List ℕ) → next (behind bytes l) k ≡ Some y
+      → (rest : List ℕ) × (l ≡ bytes ++ rest) × (k rest ≡ Some y)
   bytes_read bytes e =
       let w = next-some (behind bytes l) k y e in
       (w.0, behind_read bytes l w.0 w.1, w.2)
 
 module _ {A : Type 0} (l : List ℕ) (k : ℕ × List ℕ → Option A) (y : A) where
-  digits_read : next (number_in l) k ≡ some y
-      → (p : ℕ × List ℕ) × (l ≡ decimal p.0 ++ p.1) × Short p.0 × (k p ≡ some y)
+  digits_read : next (number_in l) k ≡ Some y
+      → (p : ℕ × List ℕ) × (l ≡ decimal p.0 ++ p.1) × Short p.0 × (k p ≡ Some y)
   digits_read e =
       let w = next-some (number_in l) k y e in
       let r = number_read l w.0.0 w.0.1 w.1 in
@@ -181,7 +181,7 @@ module _ (from to : ℕ) (l₁ x₁ l₂ m x₂ m₂ : List ℕ) where
       let feed = lacks_left line_feed (label_in l₂) second d in
       record { from = p; label = λ x i. (λ z. label_lacks l₂ x i z, λ z. feed x i z); to = q }
 
-pub line_read : (line : List ℕ) (l : Line) → Lacks line_feed line → line_in line ≡ some l
+pub line_read : (line : List ℕ) (l : Line) → Lacks line_feed line → line_in line ≡ Some l
     → (line ≡ row_line l) × PlainLine l
 unfolding line_in
 line_read line l v e =
@@ -211,7 +211,7 @@ header_parts line l₁ x₁ l₂ x₂ l₃ x₃ l₄ h a b c d e f g i =
     d ∙ ap (decimal h.rows ++◌) (e ∙ ap (comma ∷◌) u) in
     a ∙ ap (des ++◌) (b ∙ ap (decimal h.first ++◌) (c ∙ ap (comma ∷◌) v))
 
-pub header_read : (line : List ℕ) (h : Header) → header_in line ≡ some h → (line ≡ header_line h) × ShortHeader h
+pub header_read : (line : List ℕ) (h : Header) → header_in line ≡ Some h → (line ≡ header_line h) × ShortHeader h
 unfolding header_in
 header_read line h e =
     let a = bytes_read line _ h des e in

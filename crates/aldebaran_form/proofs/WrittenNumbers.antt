@@ -3,7 +3,6 @@ use Prim.Native.Nat.{ℕ, zero, suc, ◌+◌, ◌-◌, ◌*◌, ◌≤◌, ◌<�
 use mathlib.Core.Path.{◌≡◌, refl, sym, ◌∙◌, ap}
 use mathlib.Core.Bool.{Bool, true, false, cond, false≢true}
 use mathlib.Core.List.{List, [], ◌∷◌, ◌++◌}
-use mathlib.Core.Option.{Option, some}
 use native.Mathlib.Omega.{arith}
 use lib.ListN.{length, get_or, drop}
 use lib.Seq.{drop-append_seam}
@@ -19,6 +18,7 @@ use Rattle.aldebaran_form.specs.Lines.{front, is_digit, digits_in, is_number, nu
 use Rattle.aldebaran_form.specs.Working.{goes_on, number_from}
 use Rattle.aldebaran_form.proofs.Lacks.{Lacks, lacks_places}
 use Rattle.aldebaran_form.proofs.Fronts.{front-split}
+use Rattle.std.specs.Prelude.{Option, Some}
 
 -- digits are no other bytes
 pub decimal_lacks : (b n : ℕ) → b < 48 → Lacks b (decimal n)
@@ -173,7 +173,7 @@ is_number_lem (suc n) h = go (ltb (length (decimal (suc n))) 2) refl
         (λ q. omega (arith, q, decimal-front (suc n) (omega arith)))
 
 pub number-written : (n : ℕ) (rest : List ℕ) → n < 100000 → is_digit (get_or rest 0 0) ≡ false
-    → number_in (decimal n ++ rest) ≡ some (n, rest)
+    → number_in (decimal n ++ rest) ≡ Some (n, rest)
 unfolding number_in
 number-written n rest h f =
     rw (
@@ -200,18 +200,18 @@ number-decimal (b ∷ c ∷ d) a e = go (ltb 48 b) refl
         let z : b ≡ 48 = omega (arith, ltb-false 48 b p, (a 0 (omega arith)).0) in
         absurd (false≢true (sym (number_led (b ∷ c ∷ d) (omega arith) (number_short (b ∷ c ∷ d) e) z) ∙ e))
 
-pub some_pair : (m n : ℕ) (l k : List ℕ) → ◌≡◌ {A = Option (ℕ × List ℕ)} (some (m, l)) (some (n, k)) → (m ≡ n) × (l ≡ k)
+pub some_pair : (m n : ℕ) (l k : List ℕ) → ◌≡◌ {A = Option (ℕ × List ℕ)} (Some (m, l)) (Some (n, k)) → (m ≡ n) × (l ≡ k)
 some_pair m n l k e =
     let z : ◌≡◌ {A = ℕ × List ℕ} (m, l) (n, k) = cc in
     (ap (λ x. x.0) z, ap (λ x. x.1) z)
 
-pub number_read : (l : List ℕ) (n : ℕ) (rest : List ℕ) → number_in l ≡ some (n, rest)
+pub number_read : (l : List ℕ) (n : ℕ) (rest : List ℕ) → number_in l ≡ Some (n, rest)
     → (l ≡ decimal n ++ rest) × (n < 100000)
 unfolding number_in digits_in
 number_read l n rest e = go (is_number (digits_in l)) refl e
   where
     go : (x : Bool) → is_number (digits_in l) ≡ x
-        → guard {A = ℕ × List ℕ} x (read_from 0 (digits_in l), drop (length (digits_in l)) l) ≡ some (n, rest)
+        → guard {A = ℕ × List ℕ} x (read_from 0 (digits_in l), drop (length (digits_in l)) l) ≡ Some (n, rest)
         → (l ≡ decimal n ++ rest) × (n < 100000)
     go true p f =
         let q = some_pair (read_from 0 (digits_in l)) n (drop (length (digits_in l)) l) rest f in

@@ -1,8 +1,7 @@
 -- Reading a line of the form from left to right: document 02, 1/12. What lines are of the form, and what they say, is
 -- `header_line` and `row_line` (Forms); this agrees with them (`header-written` and `header_read`, `line-written` and
 -- `line_read`, proofs/WrittenLines).
-use Rattle.std.specs.Prelude.{ℕ, zero, suc, Bool, true, false, cond, ◌&&◌, ◌||◌, not, List, [], ◌∷◌, length, get_or, drop, eqb, leb}
-use Rattle.std.proofs.Math.Option.{Option, none, some}
+use Rattle.std.specs.Prelude.{ℕ, zero, suc, Bool, true, false, cond, ◌&&◌, ◌||◌, not, List, [], ◌∷◌, length, get_or, drop, eqb, leb, None, Option, Some}
 use Rattle.hml.specs.Lists.{guard}
 use Rattle.digits.specs.Digits.{read_from}
 use Rattle.aldebaran_form.specs.Forms.{quote, comma, opening, closing, des, Header, Line, spelled}
@@ -10,14 +9,14 @@ use Rattle.aldebaran_form.specs.Forms.{quote, comma, opening, closing, des, Head
 -- if something was read, what is read next; else nothing
 module _ {A B : Type 0} where
   abbrev pub next : Option A → (A → Option B) → Option B
-  next none f = none
-  next (some x) f = f x
+  next None f = None
+  next (Some x) f = f x
 
 -- what stands behind these bytes, if the line begins with them
 unfoldable pub behind : List ℕ → List ℕ → Option (List ℕ)
-behind [] line = some line
-behind (b ∷ bytes) [] = none
-behind (b ∷ bytes) (c ∷ line) = cond (eqb c b) (behind bytes line) none
+behind [] line = Some line
+behind (b ∷ bytes) [] = None
+behind (b ∷ bytes) (c ∷ line) = cond (eqb c b) (behind bytes line) None
 
 -- the bytes that a line begins with, as long as they pass a test
 unfoldable pub front : (ℕ → Bool) → List ℕ → List ℕ
@@ -45,8 +44,8 @@ label_in line = front (λ b. not (eqb b quote)) line
 
 -- nothing else stands on the line
 unfoldable pub ending : {A : Type 0} → List ℕ → A → Option A
-ending [] x = some x
-ending (b ∷ line) x = none
+ending [] x = Some x
+ending (b ∷ line) x = None
 
 -- `des (first,rows,states)`
 unfoldable pub header_in : List ℕ → Option Header
@@ -80,8 +79,8 @@ same_bytes (b ∷ k) (c ∷ l) = eqb b c && same_bytes k l
 
 -- the label from 0 to n - 1 that is spelled so; no two are spelled alike (`spelled-one-to-one`, proofs/LabelReading)
 unfoldable pub label_among : ℕ → List ℕ → Option ℕ
-label_among zero bytes = none
-label_among (suc n) bytes = cond (same_bytes (spelled n) bytes) (some n) (label_among n bytes)
+label_among zero bytes = None
+label_among (suc n) bytes = cond (same_bytes (spelled n) bytes) (Some n) (label_among n bytes)
 
 -- the labels are 0 to 30
 unfoldable pub label_of : List ℕ → Option ℕ

@@ -11,14 +11,24 @@ pub(crate) struct Number {
     pub(crate) end: usize,
 }
 
+impl Number {
+    // No number: the place behind it is beyond the text's end.
+    fn nowhere(text: &[u8]) -> Number
+        ensures { result ≡ record { value = 0; end = length text.now + 1 } }
+    {
+        Number {
+            value: 0,
+            end: text.len() + 1,
+        }
+    }
+}
+
 // The place behind a byte that is due at a place.
 pub(crate) fn past(text: &[u8], at: usize, byte: u8) -> usize
     ensures { rest_at text.now result ≡ next (rest_at text.now at) (behind (byte ∷ [])) }
 {
-    if at < text.len() {
-        if text[at] == byte {
-            return at + 1;
-        }
+    if at < text.len() && text[at] == byte {
+        return at + 1;
     }
     text.len() + 1
 }
@@ -27,21 +37,10 @@ pub(crate) fn past(text: &[u8], at: usize, byte: u8) -> usize
 pub(crate) fn number_at(text: &[u8], at: usize) -> Number
     ensures { number_at text.now result ≡ next (rest_at text.now at) number_in }
 {
-    let nowhere = Number {
-        value: 0,
-        end: text.len() + 1,
-    };
-    if text.len() <= at {
-        return nowhere;
+    if text.len() <= at || !text[at].is_ascii_digit() {
+        return Number::nowhere(text);
     }
-    let byte = text[at];
-    if byte < 48 {
-        return nowhere;
-    }
-    if 57 < byte {
-        return nowhere;
-    }
-    number_from(text, at + 1, (byte - 48) as usize)
+    number_from(text, at + 1, usize::from(text[at] - b'0'))
 }
 
 // The number whose first digit, in front of a place, has a value: no digit follows a 0, and five are the most. It does
@@ -50,47 +49,26 @@ fn number_from(text: &[u8], at: usize, first: usize) -> Number
     requires { at ≤ length text.now }
     ensures { number_at text.now result ≡ number_from first (drop at text.now) }
 {
+    // A chain over the digits would be no plainer: the place behind them is half of what is asked for.
     let mut value = first;
     let mut end = at;
-    while end < text.len() {
-        let byte = text[end];
-        if byte < 48 {
-            return Number { value, end };
+    while end < text.len() && text[end].is_ascii_digit() {
+        if value == 0 || 9999 < value {
+            return Number::nowhere(text);
         }
-        if 57 < byte {
-            return Number { value, end };
-        }
-        if value == 0 {
-            return Number {
-                value: 0,
-                end: text.len() + 1,
-            };
-        }
-        if 9999 < value {
-            return Number {
-                value: 0,
-                end: text.len() + 1,
-            };
-        }
-        value = 10 * value + (byte - 48) as usize;
+        value = 10 * value + usize::from(text[end] - b'0');
         end += 1;
     }
     Number { value, end }
 }
 
 // The place of the next double quote or line feed from a place on, or the text's end; a place beyond it is kept.
+// `position` would be no plainer: the place may lie beyond the end, and is what is asked for.
 pub(crate) fn quote_from(text: &[u8], at: usize) -> usize
     ensures { result ≡ at + length (label_to (drop at text.now)) }
 {
     let mut end = at;
-    while end < text.len() {
-        let byte = text[end];
-        if byte == 34 {
-            return end;
-        }
-        if byte == 10 {
-            return end;
-        }
+    while end < text.len() && text[end] != b'"' && text[end] != b'\n' {
         end += 1;
     }
     end

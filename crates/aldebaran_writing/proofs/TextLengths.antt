@@ -16,7 +16,6 @@ use Rattle.digits.specs.Digits.{decimal}
 use Rattle.digits.proofs.DecimalLaws.{count-within}
 use Rattle.hml.specs.Labels.{highest}
 use Rattle.labels.specs.Labels.{count}
-use Rattle.labels.specs.declared.refusal.Check.TheVariants.{Sound}
 use Rattle.tables.specs.Tables.{states_of, rows_of, check_table, SoundTable}
 use Rattle.tables.proofs.Rows.{length-rows}
 use Rattle.tables.proofs.SoundTables.{sound_table}
@@ -25,6 +24,7 @@ use Rattle.aldebaran_form.specs.Forms.{ended, written, spelled}
 use Rattle.aldebaran_form.specs.Forms.{fifteen}
 use Rattle.aldebaran_writing.specs.Writing.{line_of, form_for, text_of}
 use Rattle.aldebaran_form.specs.Forms.{header_with}
+use Rattle.std.specs.Prelude.{Ok}
 
 -- the silent step has one byte
 pub length-silent : (a : ℕ) → a ≡ 0 → length (spelled a) ≡ 1
@@ -204,6 +204,6 @@ module _ (t : List ℕ) (first rows : ℕ) (p : rows ≡ length (rows_of t)) (s 
       )
 
 -- no text that is written is longer
-pub text_short : (t : List ℕ) (first : ℕ) → check_table fifteen t ≡ Sound → first < states_of t
+pub text_short : (t : List ℕ) (first : ℕ) → check_table fifteen t ≡ Ok tt → first < states_of t
     → length (text_of t first) ≤ 7696
 text_short t first e h = text-room t first (length (rows_of t)) refl (sound_table fifteen t e) h

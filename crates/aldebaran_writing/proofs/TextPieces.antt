@@ -14,13 +14,12 @@ use Rattle.digits.proofs.Puts.{put_one, put-kept, behind_piece, placed, placed-b
 use Rattle.tables.specs.Tables.{states_of, rows_of, row_struct, row_read}
 use Rattle.tables.specs.Working.{triple_of}
 use Rattle.tables.specs.declared.row.Row as declared-row
-use Rattle.tables.specs.declared.row.RowRead.{RowRead}
-use Rattle.tables.specs.declared.row.RowRead.TheVariants as read
 use Rattle.aldebaran_form.specs.Forms.{des, header_with, header_line, row_line, ended, spelled}
 use Rattle.aldebaran_writing.specs.Writing.{line_of, text_of}
 use Rattle.aldebaran_form.proofs.LabelReading.{spelled-odd, spelled_even}
 use Rattle.aldebaran_writing.proofs.TextLengths.{length-spelled, length_row, length-header, rows_text}
 use Rattle.aldebaran_writing.proofs.TextLengths.{rows_behind, text-split}
+use Rattle.std.specs.Prelude.{None, Option, Some}
 
 -- ys is xs with these bytes written from a place on, and n is the place behind them
 pub record Stands (xs ys : List ℕ) (at n : ℕ) (b : List ℕ) : Type 0 where
@@ -250,33 +249,33 @@ text-put {ys} {zs} {at} {n} xs t first rows i p e f s j =
     (omega (arith, whole.0), whole.1)
 
 -- a row that was read by its number
-seen : RowRead → Row
-seen (read.Row r) = triple_of r
-seen read.NoRow = (0, 0, 0)
+seen : (Option declared-row.Row) → Row
+seen (Some r) = triple_of r
+seen None = (0, 0, 0)
 
-found : RowRead → ℕ
-found (read.Row r) = 1
-found read.NoRow = 0
+found : (Option declared-row.Row) → ℕ
+found (Some r) = 1
+found None = 0
 
-module _ (t : List ℕ) (i : ℕ) (x : RowRead) (h : i < length (rows_of t)) (e : x ≡ row_read t i) where
-  told : x ≡ read.Row (row_struct (get_or (rows_of t) i (0, 0, 0)))
+module _ (t : List ℕ) (i : ℕ) (x : (Option declared-row.Row)) (h : i < length (rows_of t)) (e : x ≡ row_read t i) where
+  told : x ≡ Some (row_struct (get_or (rows_of t) i (0, 0, 0)))
   unfolding row_read
   told = e ∙ rw (lt-ltb i (length (rows_of t)) h)
 
-  row_told : (r : declared-row.Row) → x ≡ read.Row r → triple_of r ≡ get_or (rows_of t) i (0, 0, 0)
+  row_told : (r : declared-row.Row) → x ≡ Some r → triple_of r ≡ get_or (rows_of t) i (0, 0, 0)
   unfolding seen
   row_told r f = ap seen (sym f ∙ told)
 
-  pub no_row : x ≡ read.NoRow → ⊥
+  pub no_row : x ≡ None → ⊥
   unfolding found
   no_row f = apart (ap found (sym f ∙ told))
 
-  pub row_fits : (r : declared-row.Row) → x ≡ read.Row r → (at n : ℕ)
+  pub row_fits : (r : declared-row.Row) → x ≡ Some r → (at n : ℕ)
       → at + length (ended (row_line (line_of (get_or (rows_of t) i (0, 0, 0))))) ≤ n
       → at + length (ended (row_line (line_of (triple_of r)))) ≤ n
   row_fits r f at n k = rw (row_told r f) k
 
-  pub row_written : (r : declared-row.Row) → x ≡ read.Row r → (xs ys : List ℕ) (at n : ℕ)
+  pub row_written : (r : declared-row.Row) → x ≡ Some r → (xs ys : List ℕ) (at n : ℕ)
       → n ≡ at + length (ended (row_line (line_of (triple_of r))))
       → ys ≡ put_at xs at (ended (row_line (line_of (triple_of r))))
       → (n ≡ at + length (ended (row_line (line_of (get_or (rows_of t) i (0, 0, 0))))))

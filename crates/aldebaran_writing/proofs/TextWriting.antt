@@ -6,18 +6,16 @@ use native.Mathlib.Omega.{arith}
 use lib.ListN.{length, take, drop, replicate, length-replicate}
 use lib.Seq.{sets-eq, take-length, take-append_seam}
 use borrow.Author.Tests.{le-leb, lt-leb, le-ltb, lt-ltb}
-use Rattle.labels.specs.Refusals.{first_of, in_front}
+use Rattle.labels.specs.Refusals.{first_of, in_front, Check}
 use Rattle.labels.specs.declared.label.Labels.{Labels}
 use Rattle.labels.specs.declared.refusal.Refusal.{Refusal}
-use Rattle.labels.specs.declared.refusal.Check.{Check}
-use Rattle.labels.specs.declared.refusal.Check.TheVariants as check
 use Rattle.labels.specs.declared.refusal.Refusal.TheVariants as refusal
 use Rattle.digits.specs.Outputs.{put_at}
 use Rattle.digits.proofs.Puts.{put-kept}
 use Rattle.tables.specs.Tables.{states_of, check_table}
 use Rattle.aldebaran_form.specs.Forms.{fifteen}
 use Rattle.aldebaran_writing.specs.Writing.{text_of, check_text, write_of, text_output}
-use Rattle.aldebaran_writing.specs.declared.write.TextWriting.TheVariants as writing
+use Rattle.std.specs.Prelude.{Err, Ok}
 
 -- the check of the table, as the code calls it
 pub table_judged : (k : Labels) (t : List ℕ) (c d : Check) → k ≡ fifteen → c ≡ check_table k t → c ≡ d
@@ -26,28 +24,28 @@ table_judged k t c d p e f = ap (λ l. check_table l t) (sym p) ∙ sym e ∙ f
 
 module _ (t : List ℕ) (first : ℕ) (out : List ℕ) where
   -- a refusal
-  refused : (x : Refusal) → check_text t first (length out) ≡ check.Refused x
-      → (writing.Refused x ≡ write_of t first (length out)) × (out ≡ text_output t first out)
+  refused : (x : Refusal) → check_text t first (length out) ≡ Err x
+      → (Err x ≡ write_of t first (length out)) × (out ≡ text_output t first out)
   unfolding write_of text_output
   refused x e = (rw e, rw e)
 
   -- 3, 5, 6 and 7
-  pub refused_table : (x : Refusal) → check_table fifteen t ≡ check.Refused x
-      → (writing.Refused x ≡ write_of t first (length out)) × (out ≡ text_output t first out)
+  pub refused_table : (x : Refusal) → check_table fifteen t ≡ Err x
+      → (Err x ≡ write_of t first (length out)) × (out ≡ text_output t first out)
   unfolding check_text first_of
   refused_table x e = refused x (rw e)
 
-  module _ (sound : check_table fifteen t ≡ check.Sound) where
+  module _ (sound : check_table fifteen t ≡ Ok tt) where
     -- 20
     pub refused_first : states_of t ≤ first
-        → (writing.Refused refusal.WrongHeader ≡ write_of t first (length out)) × (out ≡ text_output t first out)
+        → (Err refusal.WrongHeader ≡ write_of t first (length out)) × (out ≡ text_output t first out)
     unfolding check_text first_of
     refused_first h = refused refusal.WrongHeader (rw (sound, le-leb (states_of t) first h))
 
     module _ (below : first < states_of t) where
       -- 18
       pub refused_room : length out < length (text_of t first)
-          → (writing.Refused refusal.OutputTooShort ≡ write_of t first (length out)) × (out ≡ text_output t first out)
+          → (Err refusal.OutputTooShort ≡ write_of t first (length out)) × (out ≡ text_output t first out)
       unfolding check_text first_of
       refused_room h =
           refused refusal.OutputTooShort
@@ -56,11 +54,11 @@ module _ (t : List ℕ) (first : ℕ) (out : List ℕ) where
       -- the text
       pub text-given : (n : ℕ) (o : List ℕ) → n ≡ length (text_of t first) → n ≤ length out
           → o ≡ in_front (text_of t first) out
-          → (writing.Written n ≡ write_of t first (length out)) × (o ≡ text_output t first out)
+          → (Ok n ≡ write_of t first (length out)) × (o ≡ text_output t first out)
       unfolding write_of text_output check_text first_of
       text-given n o p h e =
           let room = le-ltb (length out) (length (text_of t first)) (omega (arith, p, h)) in (
-            rw (sound, lt-leb (states_of t) first below, room) (ap writing.Written p),
+            rw (sound, lt-leb (states_of t) first below, room) (ap Ok p),
             rw (sound, lt-leb (states_of t) first below, room) e,
           )
 

@@ -1,14 +1,11 @@
 -- Writing a table and its first state as an Aldebaran text: document 02, 1/12.
-use Rattle.std.specs.Prelude.{ℕ, List, [], ◌∷◌, map, length, leb, ltb}
+use Rattle.std.specs.Prelude.{ℕ, List, [], ◌∷◌, map, length, leb, ltb, Err, Ok, Result}
 use Rattle.hml.specs.Machine.{Row}
-use Rattle.labels.specs.Refusals.{refused_if, first_of, output_of, Answer, refused_as, giving}
-use Rattle.labels.specs.declared.refusal.Check.{Check}
-use Rattle.labels.specs.declared.refusal.Check.TheVariants as check
+use Rattle.labels.specs.Refusals.{refused_if, first_of, output_of, Answer, Check, value_answer}
 use Rattle.labels.specs.declared.refusal.Refusal.TheVariants as refusal
 use Rattle.tables.specs.Tables.{states_of, rows_of, check_table}
 use Rattle.aldebaran_form.specs.Forms.{Line, Form, spelled, written, fifteen}
-use Rattle.aldebaran_writing.specs.declared.write.TextWriting.{TextWriting}
-use Rattle.aldebaran_writing.specs.declared.write.TextWriting.TheVariants as writing
+use Rattle.labels.specs.declared.refusal.Refusal.{Refusal}
 
 -- a row as a line
 unfoldable pub line_of : Row → Line
@@ -35,17 +32,16 @@ check_text t first room = first_of
     ∷ [])
 
 -- the answer: how many bytes were written
-abbrev pub answered : Check → ℕ → TextWriting
-answered check.Sound n = writing.Written n
-answered (check.Refused x) n = writing.Refused x
+abbrev pub answered : Check → ℕ → Result ℕ Refusal
+answered (Ok _) n = Ok n
+answered (Err x) n = Err x
 
-unfoldable pub write_of : List ℕ → ℕ → ℕ → TextWriting
+unfoldable pub write_of : List ℕ → ℕ → ℕ → Result ℕ Refusal
 write_of t first room = answered (check_text t first room) (length (text_of t first))
 
 -- the number of a writing, and its value
-unfoldable pub text_answer : TextWriting → Answer
-text_answer (writing.Written n) = giving (n ∷ [])
-text_answer (writing.Refused x) = refused_as x
+abbrev pub text_answer : Result ℕ Refusal → Answer
+text_answer = value_answer
 
 -- the lent output afterwards
 unfoldable pub text_output : List ℕ → ℕ → List ℕ → List ℕ

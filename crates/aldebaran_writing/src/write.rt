@@ -9,36 +9,26 @@ ghost use Rattle.aldebaran_writing.specs.Writing.{line_of, text_of, write_of, te
 use digits::decimal::put_decimal;
 use labels::copying::copy;
 use labels::label::{Label, Labels};
-use labels::refusal::{Check, Refusal};
+use labels::refusal::Refusal;
 use tables::check::check_table;
-use tables::row::{Row, RowRead, row_at};
-
-// How many bytes were written, or why none were.
-#[derive(Clone, Copy)]
-pub enum TextWriting {
-    Written(usize),
-    Refused(Refusal),
-}
+use tables::row::{Row, row_at};
 
 // Writes the text of a table and its first state; nothing if it is refused.
-pub fn write(table: &[u8], first: usize, out: &mut [u8]) -> TextWriting
+pub fn write(table: &[u8], first: usize, out: &mut [u8]) -> Result<usize, Refusal>
     ensures value { result ≡ write_of table.now first (length out.old) }
     ensures out_after { out.new ≡ text_output table.now first out.old }
 {
-    match check_table(Labels::of_pairs(15), table) {
-        Check::Sound => {}
-        Check::Refused(refusal) => return TextWriting::Refused(refusal),
-    }
+    check_table(Labels::of_pairs(15), table)?;
     if table[0] as usize <= first {
-        return TextWriting::Refused(Refusal::WrongHeader);
+        return Err(Refusal::WrongHeader);
     }
     let mut text = [0u8; 7696];
     let len = put_text(&mut text, table, first);
     if out.len() < len {
-        return TextWriting::Refused(Refusal::OutputTooShort);
+        return Err(Refusal::OutputTooShort);
     }
     copy(&text[..len], out);
-    TextWriting::Written(len)
+    Ok(len)
 }
 
 // Writes the whole text at the front of an array in which every text has room, and gives its length.
@@ -49,10 +39,8 @@ fn put_text(text: &mut [u8; 7696], table: &[u8], first: usize) -> usize
 {
     let rows = (table.len() - 1) / 3;
     let mut at = put_header(text, first, rows, table[0] as usize);
-    let mut i: usize = 0;
-    while i < rows {
+    for i in 0..rows {
         at = put_row_at(text, at, table, i);
-        i += 1;
     }
     at
 }
@@ -66,8 +54,8 @@ fn put_row_at(out: &mut [u8], at: usize, table: &[u8], i: usize) -> usize
         ≡ put_at out.old at (ended (row_line (line_of (get_or (rows_of table.now) i (0, 0, 0))))) }
 {
     match row_at(table, i) {
-        RowRead::Row(row) => put_row(out, at, row),
-        RowRead::NoRow => at,
+        Some(row) => put_row(out, at, row),
+        None => at,
     }
 }
 
@@ -120,7 +108,7 @@ fn put_label(out: &mut [u8], at: usize, label: Label) -> usize
 {
     let code = label.0 as usize;
     if code == 0 {
-        out[at] = 105;
+        out[at] = b'i';
         return at + 1;
     }
     out[at] = 97;

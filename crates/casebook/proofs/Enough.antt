@@ -14,21 +14,18 @@ use borrow.Author.Tests.{lt-ltb, le-ltb, ltb-true, ltb-false}
 use Rattle.labels.specs.Labels.{check_labels}
 use Rattle.labels.specs.declared.refusal.Refusal.{Refusal}
 use Rattle.labels.specs.declared.refusal.Refusal.TheVariants.{BytesAfter, Truncated, WrongKind, WrongLength}
-use Rattle.labels.specs.declared.refusal.Check.{Check}
-use Rattle.labels.specs.declared.refusal.Check.TheVariants as check
 use Rattle.tables.specs.Tables.{check_table}
 use Rattle.machines.specs.Joints.{check_joint}
 use Rattle.formulas.specs.Formulas.{question_limit, check_formula}
 use Rattle.records.specs.Records.{word_at, fit_length, longest_record, may_stand, next_at, body_of, labels_of}
 use Rattle.records.specs.declared.record.Cursor.{Cursor}
 use Rattle.records.specs.declared.record.Record.{Record}
-use Rattle.records.specs.declared.record.Next.{Next}
-use Rattle.records.specs.declared.record.Next.TheVariants as next
 use Rattle.records.proofs.Records.{fit_some, fit_longest}
 use Rattle.casebook.specs.Reading.{labels_kinds, left_kinds, right_kinds, run_kinds, question_kinds, longest_casebook}
 use Rattle.casebook.specs.Reading.{after, if_sound, read_question, read_run, read_right, read_left, read_of}
-use Rattle.casebook.specs.declared.read.Reading.{Reading}
-use Rattle.casebook.specs.declared.read.Reading.TheVariants as reading
+use Rattle.casebook.specs.declared.read.Parts.{Parts}
+use Rattle.labels.specs.Refusals.{Check}
+use Rattle.std.specs.Prelude.{Err, Ok, Result}
 
 -- a part that lies in the first n bytes is a part of them
 part_early : (k m n : ℕ) (s : List ℕ) → k + m ≤ n → take m (drop k (take n s)) ≡ take m (drop k s)
@@ -38,13 +35,13 @@ part_early (suc k) m (suc n) [] h = refl
 part_early (suc k) m (suc n) (x ∷ s) h = part_early k m n s (omega arith)
 
 -- two readings that are refused, for the same
-abbrev pub Alike : Reading → Reading → Type 0
-Alike x y = (z : Refusal) × (x ≡ reading.Refused z) × (y ≡ reading.Refused z)
+abbrev pub Alike : Result Parts Refusal → Result Parts Refusal → Type 0
+Alike x y = (z : Refusal) × (x ≡ Err z) × (y ≡ Err z)
 
 -- what is refused alike is so behind any check of contents
-sound_alike : (x : Check) {a b : Reading} → Alike a b → Alike (if_sound x a) (if_sound x b)
-sound_alike check.Sound w = w
-sound_alike (check.Refused z) w = (z, refl, refl)
+sound_alike : (x : Check) {a b : Result Parts Refusal} → Alike a b → Alike (if_sound x a) (if_sound x b)
+sound_alike (Ok _) w = w
+sound_alike (Err z) w = (z, refl, refl)
 
 -- a record that was found from a position on, of one of these kinds
 record Near (at : ℕ) (kinds : List ℕ) (r : Record) (c : Cursor) : Type 0 where
@@ -75,7 +72,7 @@ module _ (n : ℕ) (s : List ℕ) (long : n ≤ length s) where
   -- where a record of these kinds has room in them, stepping over it answers the same, and what is alike behind it is
   -- alike from it on
   after_alike : (at : ℕ) (kinds : List ℕ) → at + longest_record kinds ≤ n
-      → (go go' : Record → Cursor → Reading)
+      → (go go' : Record → Cursor → Result Parts Refusal)
       → ((r : Record) (c : Cursor) → Near at kinds r c → Alike (go r c) (go' r c))
       → Alike (after (next_at (take n s) at kinds) go) (after (next_at s at kinds) go')
   unfolding next_at
@@ -95,14 +92,14 @@ module _ (n : ℕ) (s : List ℕ) (long : n ≤ length s) where
       w : ℕ
       w = word_at s at
 
-      found : Next
-      found = next.Found (record { kind = kind; start = at + 4; len = w - 2 }) (record { at = at + 2 + w })
+      found : Result (Record × Cursor) Refusal
+      found = Ok (record { kind = kind; start = at + 4; len = w - 2 }, record { at = at + 2 + w })
 
       step : (b d : Bool) → may_stand kinds kind ≡ b → fit_length kind w ≡ d
-          → Alike (after (cond (not b) (next.Refused WrongKind)
-          (cond (not d) (next.Refused WrongLength) (cond (ltb n (at + 2 + w)) (next.Refused Truncated) found))) go)
-          (after (cond (not b) (next.Refused WrongKind)
-          (cond (not d) (next.Refused WrongLength) (cond (ltb (length s) (at + 2 + w)) (next.Refused Truncated) found)))
+          → Alike (after (cond (not b) (Err WrongKind)
+          (cond (not d) (Err WrongLength) (cond (ltb n (at + 2 + w)) (Err Truncated) found))) go)
+          (after (cond (not b) (Err WrongKind)
+          (cond (not d) (Err WrongLength) (cond (ltb (length s) (at + 2 + w)) (Err Truncated) found)))
           go')
       step false d p e = (WrongKind, refl, refl)
       step true false p e = (WrongLength, refl, refl)

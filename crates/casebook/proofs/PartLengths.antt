@@ -9,7 +9,6 @@ use Rattle.hml.proofs.Tests.{decides, decided_and, decided_same, decided_le}
 use Rattle.hml.specs.Formula.{size}
 use Rattle.hml.proofs.Spelling.{length-spell}
 use Rattle.labels.specs.Refusals.{first_of}
-use Rattle.labels.specs.declared.refusal.Check.TheVariants.{Sound}
 use Rattle.labels.specs.declared.refusal.Refusal.TheVariants.{WrongLength}
 use Rattle.labels.proofs.Refusals.{judges, judged_unless, both_sound}
 use Rattle.labels.specs.declared.label.Labels.{Labels}
@@ -21,9 +20,10 @@ use Rattle.formulas.proofs.Checking.{judged_formula}
 use Rattle.formulas.proofs.Measures.{size-some}
 use Rattle.records.specs.Records.{lengths_of, fit_length}
 use Rattle.records.proofs.Records.{decided_fit}
+use Rattle.std.specs.Prelude.{Ok}
 
 -- the record of a sound table has a length that fits, on either side
-pub table_fits : (k : Labels) (t : List ℕ) → check_table k t ≡ Sound
+pub table_fits : (k : Labels) (t : List ℕ) → check_table k t ≡ Ok tt
     → (fit_length 2 (2 + length t) ≡ true) × (fit_length 3 (2 + length t) ≡ true) × (length t ≤ 1537)
 unfolding lengths_of
 table_fits k t e =
@@ -34,7 +34,7 @@ table_fits k t e =
     )
 
 -- so has the record of a sound joint run
-pub joint-fits : (k : Labels) (l r j : List ℕ) → check_joint k l r j ≡ Sound
+pub joint-fits : (k : Labels) (l r j : List ℕ) → check_joint k l r j ≡ Ok tt
     → (fit_length 4 (2 + length j) ≡ true) × (length j ≤ 602)
 unfolding lengths_of check_joint first_of fit_joint
 joint-fits k l r j e =
@@ -43,7 +43,7 @@ joint-fits k l r j e =
     ((decides (decided_fit 4 (2 + length j))).1 (omega (arith, c), omega (arith, c), omega (arith, c)), c.1)
 
 -- and that of a sound question
-pub question-fits : (k : Labels) (q : List ℕ) → check_formula k 64 q ≡ Sound
+pub question-fits : (k : Labels) (q : List ℕ) → check_formula k 64 q ≡ Ok tt
     → (fit_length 5 (2 + length q) ≡ true) × (length q ≤ 128)
 unfolding lengths_of Legal
 question-fits k q e =

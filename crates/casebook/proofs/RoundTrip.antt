@@ -9,12 +9,9 @@ use lib.ListN.{length, get_or, drop, length-append, drop_of_length-le}
 use lib.Dec.{ltb}
 use borrow.Author.Tests.{le-ltb}
 use Rattle.hml.proofs.Tests.{apart, decided_lt}
-use Rattle.labels.specs.Refusals.{refused_if, first_of}
+use Rattle.labels.specs.Refusals.{refused_if, first_of, Check}
 use Rattle.labels.specs.Labels.{check_labels}
 use Rattle.labels.specs.declared.label.Labels.{Labels}
-use Rattle.labels.specs.declared.refusal.Check.{Check}
-use Rattle.labels.specs.declared.refusal.Check.TheVariants as check
-use Rattle.labels.specs.declared.refusal.Check.TheVariants.{Sound}
 use Rattle.labels.specs.declared.refusal.Refusal.TheVariants.{BytesAfter}
 use Rattle.labels.proofs.Refusals.{judges, judged_fault, both_sound}
 use Rattle.tables.specs.Tables.{check_table}
@@ -25,8 +22,6 @@ use Rattle.records.specs.Records.{lengths_of, fit_length, may_stand, next_at, bo
 use Rattle.records.specs.Records.{record_bytes}
 use Rattle.records.specs.declared.record.Cursor.{Cursor}
 use Rattle.records.specs.declared.record.Record.{Record}
-use Rattle.records.specs.declared.record.Next.{Next}
-use Rattle.records.specs.declared.record.Next.TheVariants as next
 use Rattle.records.proofs.Records.{only_kind, fit_longest}
 use Rattle.records.proofs.RecordLaws.{Bytes, Lies, placed, behind, next-record, record-next, record-length}
 use Rattle.records.proofs.RecordLaws.{header-fits, first_byte, single}
@@ -34,24 +29,24 @@ use Rattle.casebook.specs.Reading.{labels_kinds, left_kinds, right_kinds, run_ki
 use Rattle.casebook.specs.Reading.{after, if_sound, read_question, read_run, read_right, read_left, read_of, case_of}
 use Rattle.casebook.specs.Writing.{casebook_bytes, check_parts}
 use Rattle.casebook.specs.declared.read.Parts.{Parts}
-use Rattle.casebook.specs.declared.read.Reading.{Reading}
-use Rattle.casebook.specs.declared.read.Reading.TheVariants as reading
 use Rattle.casebook.proofs.PartLengths.{table_fits, joint-fits, question-fits}
+use Rattle.labels.specs.declared.refusal.Refusal.{Refusal}
+use Rattle.std.specs.Prelude.{Err, Ok, Result}
 
 -- a case of which each part is sound by itself
 pub record SoundParts (c : Case) : Type 0 where
-  pub labels : check_labels c.labels ≡ Sound
-  pub left : check_table c.labels c.left ≡ Sound
-  pub right : check_table c.labels c.right ≡ Sound
-  pub run : check_joint c.labels c.left c.right c.run ≡ Sound
-  pub question : check_formula c.labels question_limit c.question ≡ Sound
+  pub labels : check_labels c.labels ≡ Ok tt
+  pub left : check_table c.labels c.left ≡ Ok tt
+  pub right : check_table c.labels c.right ≡ Ok tt
+  pub run : check_joint c.labels c.left c.right c.run ≡ Ok tt
+  pub question : check_formula c.labels question_limit c.question ≡ Ok tt
 
 module _ (c : Case) where
   abbrev k : Labels
   k = c.labels
 
   -- parts that are sound together are sound each
-  pub sound_parts : check_parts c ≡ Sound → SoundParts c
+  pub sound_parts : check_parts c ≡ Ok tt → SoundParts c
   unfolding check_parts first_of
   sound_parts e =
       let (a, b) = both_sound (check_labels k) _ e in
@@ -63,11 +58,11 @@ module _ (c : Case) where
         left = d;
         right = g;
         run = i;
-        question = (both_sound (check_formula k question_limit c.question) Sound j).0;
+        question = (both_sound (check_formula k question_limit c.question) (Ok tt) j).0;
       }
 
   -- parts that are sound each are sound together
-  pub parts_sound : SoundParts c → check_parts c ≡ Sound
+  pub parts_sound : SoundParts c → check_parts c ≡ Ok tt
   unfolding check_parts first_of
   parts_sound s = rw (s.labels, s.left, s.right, s.run, s.question)
 
@@ -78,7 +73,7 @@ module _ (c : Case) where
   casebook_length = simp (length-append, record-length) (omega arith)
 
   -- a casebook of sound parts is no longer than the longest
-  pub casebook_short : check_parts c ≡ Sound → length (casebook_bytes c) ≤ longest_casebook
+  pub casebook_short : check_parts c ≡ Ok tt → length (casebook_bytes c) ≤ longest_casebook
   unfolding longest_casebook may_stand fit_length lengths_of
   casebook_short e =
       let s = sound_parts e in
@@ -96,23 +91,23 @@ module _ (c : Case) where
 
 -- what a casebook that was read shows: contents that are read are sound, a record that is read was found
 module _ {X : Type 0} {p : Parts} where
-  sound_read : (x : Check) {y : Reading} → if_sound x y ≡ reading.Casebook p → (x ≡ Sound → y ≡ reading.Casebook p → X)
+  sound_read : (x : Check) {y : Result Parts Refusal} → if_sound x y ≡ Ok p → (x ≡ Ok tt → y ≡ Ok p → X)
       → X
-  sound_read check.Sound e on = on refl e
-  sound_read (check.Refused z) e on = absurd (apart cc)
+  sound_read (Ok _) e on = on refl e
+  sound_read (Err z) e on = absurd (apart cc)
 
-  record_read : (n : Next) (judge : Record → Check) (go : Record → Cursor → Reading)
-      → after n (λ r c. if_sound (judge r) (go r c)) ≡ reading.Casebook p
-      → ((r : Record) (c : Cursor) → n ≡ next.Found r c → judge r ≡ Sound → go r c ≡ reading.Casebook p → X) → X
-  record_read (next.Found r c) judge go e on = sound_read (judge r) e (on r c refl)
-  record_read (next.Refused x) judge go e on = absurd (apart cc)
+  record_read : (n : Result (Record × Cursor) Refusal) (judge : Record → Check) (go : Record → Cursor → Result Parts Refusal)
+      → after n (λ r c. if_sound (judge r) (go r c)) ≡ Ok p
+      → ((r : Record) (c : Cursor) → n ≡ Ok (r, c) → judge r ≡ Ok tt → go r c ≡ Ok p → X) → X
+  record_read (Ok (r, c)) judge go e on = sound_read (judge r) e (on r c refl)
+  record_read (Err x) judge go e on = absurd (apart cc)
 
 -- equal readings have equal parts
-same_parts : {x y : Parts} → reading.Casebook x ≡ reading.Casebook y → x ≡ y
+same_parts : {x y : Parts} → ◌≡◌ {A = Result Parts Refusal} (Ok x) (Ok y) → x ≡ y
 same_parts e = cc
 
 -- nothing is behind the last record
-nothing-behind : (at n : ℕ) → refused_if (ltb at n) BytesAfter ≡ Sound → n ≤ at
+nothing-behind : (at n : ℕ) → refused_if (ltb at n) BytesAfter ≡ Ok tt → n ≤ at
 nothing-behind at n e = omega (arith, (judges (judged_fault BytesAfter (decided_lt at n))).0 e)
 
 -- the labels' record shows k where its body is that byte alone
@@ -130,17 +125,17 @@ record Chain (s : List ℕ) (p : Parts) : Type 0 where
   c3 : Cursor
   c4 : Cursor
   c5 : Cursor
-  first : next_at s 0 labels_kinds ≡ next.Found p.labels c1
-  second : next_at s c1.at left_kinds ≡ next.Found p.left c2
-  third : next_at s c2.at right_kinds ≡ next.Found p.right c3
-  fourth : next_at s c3.at run_kinds ≡ next.Found p.run c4
-  fifth : next_at s c4.at question_kinds ≡ next.Found p.question c5
+  first : next_at s 0 labels_kinds ≡ Ok (p.labels, c1)
+  second : next_at s c1.at left_kinds ≡ Ok (p.left, c2)
+  third : next_at s c2.at right_kinds ≡ Ok (p.right, c3)
+  fourth : next_at s c3.at run_kinds ≡ Ok (p.run, c4)
+  fifth : next_at s c4.at question_kinds ≡ Ok (p.question, c5)
   sound : SoundParts (case_of s p)
   all : length s ≤ c5.at
 
 module _ (s : List ℕ) (p : Parts) where
   -- such a chain is read
-  chain_read : Chain s p → read_of s ≡ reading.Casebook p
+  chain_read : Chain s p → read_of s ≡ Ok p
   unfolding case_of read_of read_left read_right read_run read_question
   chain_read w =
       let a = w.sound in
@@ -159,7 +154,7 @@ module _ (s : List ℕ) (p : Parts) where
       )
 
   -- what is read is such a chain
-  read_chain : read_of s ≡ reading.Casebook p → Chain s p
+  read_chain : read_of s ≡ Ok p → Chain s p
   unfolding case_of read_of read_left read_right read_run read_question
   read_chain e =
       record_read (next_at s 0 labels_kinds) (λ h. check_labels (labels_of s h)) (λ h c. read_left s h c.at) e
@@ -173,7 +168,7 @@ module _ (s : List ℕ) (p : Parts) where
       (λ j c. read_question s h l r j c.at) e3 (λ j c4 n4 f4 e4.
       record_read (next_at s c4.at question_kinds) (λ q. check_formula k question_limit (body_of s q))
       (λ q c. if_sound (refused_if (ltb c.at (length s)) BytesAfter)
-      (reading.Casebook (record { labels = h; left = l; right = r; run = j; question = q }))) e4 (λ q c5 n5 f5 e5.
+      (Ok (record { labels = h; left = l; right = r; run = j; question = q }))) e4 (λ q c5 n5 f5 e5.
       sound_read (refused_if (ltb c5.at (length s)) BytesAfter) e5 (λ a b. rw (← same_parts b) (record {
         c1 = c1;
         c2 = c2;
@@ -190,17 +185,17 @@ module _ (s : List ℕ) (p : Parts) where
       })))))))
 
   -- the parts of a casebook that was read are sound
-  pub read_sound : read_of s ≡ reading.Casebook p → check_parts (case_of s p) ≡ Sound
+  pub read_sound : read_of s ≡ Ok p → check_parts (case_of s p) ≡ Ok tt
   read_sound e = parts_sound (case_of s p) (read_chain e).sound
 
 -- bytes that read to a casebook, and show this case
 pub record ReadsTo (s : List ℕ) (c : Case) : Type 0 where
   pub parts : Parts
-  pub read : read_of s ≡ reading.Casebook parts
+  pub read : read_of s ≡ Ok parts
   pub shows : case_of s parts ≡ c
 
 -- reading a casebook that was written gives its parts
-pub read_written : (c : Case) → check_parts c ≡ Sound → ReadsTo (casebook_bytes c) c
+pub read_written : (c : Case) → check_parts c ≡ Ok tt → ReadsTo (casebook_bytes c) c
 unfolding casebook_bytes case_of may_stand fit_length lengths_of
 read_written c e =
     let s = casebook_bytes c in
@@ -251,7 +246,7 @@ lies_as : (s : List ℕ) (at k : ℕ) (r : Record) (c : Cursor) → Lies s at (k
 lies_as s at k r c y = rw (← only_kind k r.kind y.may) y.bytes
 
 -- a casebook that was read, of bytes
-module _ (s : List ℕ) (bytes : Bytes s) (p : Parts) (e : read_of s ≡ reading.Casebook p) where
+module _ (s : List ℕ) (bytes : Bytes s) (p : Parts) (e : read_of s ≡ Ok p) where
   w : Chain s p
   w = read_chain s p e
 
@@ -300,8 +295,8 @@ module _ (s : List ℕ) (bytes : Bytes s) (p : Parts) (e : read_of s ≡ reading
 
 -- a casebook is accepted exactly if it is what writing makes of a case with sound parts
 pub accepted_exactly : (s : List ℕ) → Bytes s
-    → ((p : Parts) × (read_of s ≡ reading.Casebook p))
-    ↔ ((c : Case) × (check_parts c ≡ Sound) × (s ≡ casebook_bytes c))
+    → ((p : Parts) × (read_of s ≡ Ok p))
+    ↔ ((c : Case) × (check_parts c ≡ Ok tt) × (s ≡ casebook_bytes c))
 accepted_exactly s b = (
   λ (p, e). (case_of s p, read_sound s p e, sym (written_read s b p e)),
   λ (c, e, z). let t = read_written c e in (t.parts, rw z t.read),
@@ -321,7 +316,7 @@ lies_within : (s : List ℕ) (at : ℕ) (kinds : List ℕ) (r : Record) (c : Cur
     → r.start + r.len ≤ length s
 lies_within s at kinds r c y = omega (arith, y.start_is, y.behind_is, y.room)
 
-pub placing : (s : List ℕ) → Bytes s → (p : Parts) → read_of s ≡ reading.Casebook p → Placing s p
+pub placing : (s : List ℕ) → Bytes s → (p : Parts) → read_of s ≡ Ok p → Placing s p
 placing s bytes p e = record {
   short = omega (arith, casebook_short (case_of s p) (read_sound s p e), ap length (written_read s bytes p e));
   labels = lies_within s _ _ p.labels _ (labels_lies s bytes p e);

@@ -9,12 +9,10 @@ use borrow.Rule.Slice.PartMut.{put_mid}
 use borrow.Author.Tests.{lt-ltb, le-ltb}
 use Rattle.labels.proofs.Slices.{rest}
 use Rattle.labels.proofs.Outputs.{front-none, front-after, put_four, front_length}
-use Rattle.labels.specs.Refusals.{then_of, first_of, in_front}
+use Rattle.labels.specs.Refusals.{then_of, first_of, in_front, Check}
 use Rattle.labels.specs.Labels.{check_labels}
 use Rattle.labels.specs.declared.refusal.Refusal.{Refusal}
 use Rattle.labels.specs.declared.refusal.Refusal.TheVariants.{OutputTooShort}
-use Rattle.labels.specs.declared.refusal.Check.{Check}
-use Rattle.labels.specs.declared.refusal.Check.TheVariants as check
 use Rattle.labels.proofs.Refusals.{then_sound}
 use Rattle.labels.specs.declared.label.Labels.{Labels}
 use Rattle.tables.specs.Tables.{check_table}
@@ -25,9 +23,9 @@ use Rattle.machines.specs.Cases.{case_with}
 use Rattle.records.specs.Records.{labels_bytes, record_bytes}
 use Rattle.records.proofs.RecordLaws.{record-length}
 use Rattle.casebook.specs.Writing.{casebook_bytes, check_parts, check_write, write_of, written_of}
-use Rattle.casebook.specs.declared.write.Writing.TheVariants as writing
 use Rattle.casebook.proofs.PartLengths.{table_fits, joint-fits, question-fits}
 use Rattle.casebook.proofs.RoundTrip.{casebook_length, sound_parts}
+use Rattle.std.specs.Prelude.{Err, Ok}
 
 record-split : (kind : ℕ) (body : List ℕ) (a b c : ℕ) → a ≡ (2 + length body) % 256 → b ≡ (2 + length body) / 256
     → c ≡ kind → kind < 256
@@ -63,28 +61,28 @@ module _ (k : Labels) (l r j q : List ℕ) where
   abbrev c : Case
   c = case_with k l r j q
 
-  pub parts_checked : {x y z w v : Check} → x ≡ then_of y z → y ≡ then_of w v → w ≡ check_labels k
-      → v ≡ check_tables_and_joint k l r j → z ≡ check_formula k question_limit q → x ≡ check_parts c
+  pub parts_checked : then_of (check_labels k) (then_of (check_tables_and_joint k l r j) (check_formula k question_limit q))
+      ≡ check_parts c
   unfolding check_parts check_tables_and_joint first_of
-  parts_checked a b d e f =
-      rw (a, b, d, e, f, then_sound (check_joint k l r j), then_sound (check_formula k question_limit q))
+  parts_checked =
+      rw (then_sound (check_joint k l r j), then_sound (check_formula k question_limit q))
       (regroup (check_labels k) (check_table k l) (check_table k r) (check_joint k l r j) (check_formula k question_limit q))
     where
       regroup : (p t u v w : Check)
-          → then_of (then_of p (then_of t (then_of u v))) w ≡ then_of p (then_of t (then_of u (then_of v w)))
-      regroup check.Sound check.Sound check.Sound v w = refl
-      regroup check.Sound check.Sound (check.Refused x) v w = refl
-      regroup check.Sound (check.Refused x) u v w = refl
-      regroup (check.Refused x) t u v w = refl
+          → then_of p (then_of (then_of t (then_of u v)) w) ≡ then_of p (then_of t (then_of u (then_of v w)))
+      regroup (Ok _) (Ok _) (Ok _) v w = refl
+      regroup (Ok _) (Ok _) (Err x) v w = refl
+      regroup (Ok _) (Err x) u v w = refl
+      regroup (Err x) t u v w = refl
 
-  pub write_refused : (x : Refusal) (out : List ℕ) → check_parts c ≡ check.Refused x
-      → (writing.Refused x ≡ write_of c (length out)) × (out ≡ written_of c out)
+  pub write_refused : (x : Refusal) (out : List ℕ) → check_parts c ≡ Err x
+      → (Err x ≡ write_of c (length out)) × (out ≡ written_of c out)
   unfolding write_of written_of check_write first_of
   write_refused x out e = rw e (refl, refl)
 
-  module _ (sound : check_parts c ≡ check.Sound) (out : List ℕ) where
+  module _ (sound : check_parts c ≡ Ok tt) (out : List ℕ) where
     pub write_short : length out < 21 + length l + length r + length j + length q
-        → (writing.Refused OutputTooShort ≡ write_of c (length out)) × (out ≡ written_of c out)
+        → (Err OutputTooShort ≡ write_of c (length out)) × (out ≡ written_of c out)
     unfolding write_of written_of check_write first_of
     write_short h =
         rw (sound, lt-ltb (length out) (length (casebook_bytes c)) (omega (arith, casebook_length c)))
@@ -92,11 +90,11 @@ module _ (k : Labels) (l r j q : List ℕ) where
 
     pub write_whole : (n : ℕ) (after : List ℕ) → n ≡ 21 + length l + length r + length j + length q → n ≤ length out
         → after ≡ in_front (casebook_bytes c) out
-        → (writing.Written n ≡ write_of c (length out)) × (after ≡ written_of c out)
+        → (Ok n ≡ write_of c (length out)) × (after ≡ written_of c out)
     unfolding write_of written_of check_write first_of
     write_whole n after e h a =
         rw (sound, le-ltb (length out) (length (casebook_bytes c)) (omega (arith, casebook_length c)))
-        (ap writing.Written (omega (arith, e, casebook_length c)), a)
+        (ap Ok (omega (arith, e, casebook_length c)), a)
 
     pub parts_small : (length l ≤ 1537) × (length r ≤ 1537) × (length j ≤ 602) × (length q ≤ 128)
     parts_small =

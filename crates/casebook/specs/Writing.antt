@@ -1,17 +1,14 @@
 -- Writing a casebook from its parts: document 01, "The casebook", and the order of "Calls that take parts".
-use Rattle.std.specs.Prelude.{ℕ, List, [], ◌∷◌, ◌++◌, length, ltb}
-use Rattle.labels.specs.Refusals.{refused_if, first_of, output_of, Answer, refused_as, giving}
+use Rattle.std.specs.Prelude.{ℕ, List, [], ◌∷◌, ◌++◌, length, ltb, Err, Ok, Result}
+use Rattle.labels.specs.Refusals.{refused_if, first_of, output_of, Answer, Check, value_answer}
 use Rattle.labels.specs.Labels.{check_labels}
-use Rattle.labels.specs.declared.refusal.Check.{Check}
-use Rattle.labels.specs.declared.refusal.Check.TheVariants as check
 use Rattle.labels.specs.declared.refusal.Refusal.TheVariants.{OutputTooShort}
 use Rattle.tables.specs.Tables.{check_table}
 use Rattle.machines.specs.Joints.{check_joint}
 use Rattle.machines.specs.Cases.{Case}
 use Rattle.formulas.specs.Formulas.{question_limit, check_formula}
 use Rattle.records.specs.Records.{labels_bytes, record_bytes}
-use Rattle.casebook.specs.declared.write.Writing.{Writing}
-use Rattle.casebook.specs.declared.write.Writing.TheVariants as writing
+use Rattle.labels.specs.declared.refusal.Refusal.{Refusal}
 
 -- the bytes of a casebook
 unfoldable pub casebook_bytes : Case → List ℕ
@@ -37,17 +34,16 @@ unfoldable pub check_write : Case → ℕ → Check
 check_write c room = first_of (check_parts c ∷ refused_if (ltb room (length (casebook_bytes c))) OutputTooShort ∷ [])
 
 -- the answer: how many bytes were written
-abbrev pub answered : Check → ℕ → Writing
-answered check.Sound n = writing.Written n
-answered (check.Refused x) n = writing.Refused x
+abbrev pub answered : Check → ℕ → Result ℕ Refusal
+answered (Ok _) n = Ok n
+answered (Err x) n = Err x
 
-unfoldable pub write_of : Case → ℕ → Writing
+unfoldable pub write_of : Case → ℕ → Result ℕ Refusal
 write_of c room = answered (check_write c room) (length (casebook_bytes c))
 
 -- the number of a writing, and its value: how many bytes were written
-unfoldable pub write_answer : Writing → Answer
-write_answer (writing.Written n) = giving (n ∷ [])
-write_answer (writing.Refused x) = refused_as x
+abbrev pub write_answer : Result ℕ Refusal → Answer
+write_answer = value_answer
 
 -- the lent output afterwards
 unfoldable pub written_of : Case → List ℕ → List ℕ

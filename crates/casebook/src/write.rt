@@ -9,15 +9,8 @@ ghost use Rattle.casebook.specs.Working.{Fitting};
 use formulas::check::check_formula;
 use labels::copying::copy;
 use labels::label::Labels;
-use labels::refusal::{Check, Refusal};
+use labels::refusal::Refusal;
 use machines::joint::check_joint;
-
-// How many bytes were written, or why none were.
-#[derive(Clone, Copy)]
-pub enum Writing {
-    Written(usize),
-    Refused(Refusal),
-}
 
 // Writes the casebook of these parts; nothing if it is refused.
 pub fn write(
@@ -27,7 +20,7 @@ pub fn write(
     run: &[u8],
     question: &[u8],
     out: &mut [u8],
-) -> Writing
+) -> Result<usize, Refusal>
     ensures value { result ≡ write_of (case_with labels left.now right.now run.now
         question.now) (length out.old) }
     ensures out_after { out.new
@@ -35,28 +28,29 @@ pub fn write(
         question.now)
         out.old }
 {
-    match check_parts(labels, left, right, run, question) {
-        Check::Sound => {}
-        Check::Refused(refusal) => return Writing::Refused(refusal),
-    }
+    check_parts(labels, left, right, run, question)?;
     let total = 21 + left.len() + right.len() + run.len() + question.len();
     if out.len() < total {
-        return Writing::Refused(Refusal::OutputTooShort);
+        return Err(Refusal::OutputTooShort);
     }
     put_casebook(labels, left, right, run, question, out);
-    Writing::Written(total)
+    Ok(total)
 }
 
 // The parts' numbers, in record order.
-fn check_parts(labels: Labels, left: &[u8], right: &[u8], run: &[u8], question: &[u8]) -> Check
+fn check_parts(
+    labels: Labels,
+    left: &[u8],
+    right: &[u8],
+    run: &[u8],
+    question: &[u8],
+) -> Result<(), Refusal>
     ensures { result ≡ check_parts (case_with labels left.now right.now run.now
         question.now) }
 {
-    let tables_and_run = check_joint(labels, left, right, run);
-    labels
-        .check()
-        .then(tables_and_run)
-        .then(check_formula(labels, 64, question))
+    labels.check()?;
+    check_joint(labels, left, right, run)?;
+    check_formula(labels, 64, question)
 }
 
 // The five records, one after the other.

@@ -2,14 +2,14 @@
 use crate::show::{
     first, half_output, output, show, show_bytes, show_end, show_refused, show_truth, show_verdict,
 };
-use casebook::read::{Parts, Reading, read};
-use dividing::divide::Quotient;
+use casebook::read::{Parts, read};
 use halves::side::{Known, Side, cut};
 use labels::label::Labels;
+use labels::refusal::Refusal;
 use quotient::half::by_half;
-use quotient::line::{LineOffice, line_office};
+use quotient::line::line_office;
 use quotient::number::by_number;
-use splitting::split::{Splitting, split};
+use splitting::split::split;
 use std::io;
 use verdict::half::half;
 use verdict::joint::joint;
@@ -25,8 +25,8 @@ pub struct Asked {
 // Prints what the calls answer to the question of a casebook.
 pub(crate) fn show_asked(rt: &impl Print, bytes: &[u8], asked: Asked) -> io::Result<()> {
     match read(bytes) {
-        Reading::Casebook(parts) => show_split(rt, bytes, parts, asked)?,
-        Reading::Refused(refusal) => show_refused(rt, refusal)?,
+        Ok(parts) => show_split(rt, bytes, parts, asked)?,
+        Err(refusal) => show_refused(rt, refusal)?,
     }
     show_end(rt)
 }
@@ -47,7 +47,7 @@ fn show_split(rt: &impl Print, bytes: &[u8], parts: Parts, asked: Asked) -> io::
         &mut left_out,
         &mut right_out,
     ) {
-        Splitting::Halves(n) => show_answers(
+        Ok(n) => show_answers(
             rt,
             bytes,
             parts,
@@ -55,7 +55,7 @@ fn show_split(rt: &impl Print, bytes: &[u8], parts: Parts, asked: Asked) -> io::
             first(&right_out, n),
             asked,
         ),
-        Splitting::Refused(refusal) => show_refused(rt, refusal),
+        Err(refusal) => show_refused(rt, refusal),
     }
 }
 
@@ -147,29 +147,33 @@ pub(crate) fn show_by_number<'a>(
 }
 
 // The bytes of a quotient in the output; none where it was refused.
-fn quotient_in(quotient: Quotient, out: &[u8]) -> &[u8] {
-    match quotient {
-        Quotient::Written(n) => first(out, n),
-        Quotient::Refused(_) => first(out, 0),
-    }
+fn quotient_in(quotient: Result<usize, Refusal>, out: &[u8]) -> &[u8] {
+    first(out, quotient.unwrap_or(0))
 }
 
 // Prints a quotient's bytes, or the number of a refusal.
-pub(crate) fn show_quotient(rt: &impl Print, quotient: Quotient, out: &[u8]) -> io::Result<()> {
+pub(crate) fn show_quotient(
+    rt: &impl Print,
+    quotient: Result<usize, Refusal>,
+    out: &[u8],
+) -> io::Result<()> {
     match quotient {
-        Quotient::Written(n) => show_bytes(rt, first(out, n)),
-        Quotient::Refused(refusal) => show_refused(rt, refusal),
+        Ok(n) => show_bytes(rt, first(out, n)),
+        Err(refusal) => show_refused(rt, refusal),
     }
 }
 
 // Prints the line's verdict and the machine's, or the number of a refusal.
-pub(crate) fn show_office(rt: &impl Print, office: LineOffice) -> io::Result<()> {
+pub(crate) fn show_office(
+    rt: &impl Print,
+    office: Result<(bool, bool), Refusal>,
+) -> io::Result<()> {
     match office {
-        LineOffice::Verdicts(line, machine) => {
+        Ok((line, machine)) => {
             show_truth(rt, line)?;
             show(rt, b" ")?;
             show_truth(rt, machine)
         }
-        LineOffice::Refused(refusal) => show_refused(rt, refusal),
+        Err(refusal) => show_refused(rt, refusal),
     }
 }

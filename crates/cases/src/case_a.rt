@@ -1,10 +1,10 @@
 // Case A, whole, and the questions of document 01 on its machines; then those on machines of one state each.
 use crate::answers::{Asked, show_asked};
 use crate::inputs::{CASE_A, LOOPS};
-use crate::show::{first, output, same, show, show_end, show_number, show_refused};
+use crate::show::{first, output, show, show_end, show_number, show_refused};
 use crate::splittings::{show_log_count, show_log_halves};
-use casebook::read::{Parts, Reading, read};
-use casebook::write::{Writing, write};
+use casebook::read::{Parts, read};
+use casebook::write::write;
 use halves::side::Side;
 use records::record::Record;
 use std::io;
@@ -13,8 +13,8 @@ use std::io;
 pub(crate) fn show_records(rt: &impl Print) -> io::Result<()> {
     let bytes = CASE_A;
     match read(&bytes) {
-        Reading::Casebook(parts) => show_parts(rt, &bytes, parts),
-        Reading::Refused(refusal) => show_refused(rt, refusal),
+        Ok(parts) => show_parts(rt, &bytes, parts),
+        Err(refusal) => show_refused(rt, refusal),
     }
 }
 
@@ -48,14 +48,14 @@ fn show_written(rt: &impl Print, bytes: &[u8], parts: Parts) -> io::Result<()> {
     let question = parts.question.body(bytes);
     let mut out = output();
     match write(parts.labels(bytes), left, right, run, question, &mut out) {
-        Writing::Written(n) => {
+        Ok(n) => {
             show_number(rt, n)?;
-            if same(first(&out, n), bytes) {
+            if first(&out, n) == bytes {
                 return show(rt, b" bytes, those that were read");
             }
             show(rt, b" bytes, others than were read")
         }
-        Writing::Refused(refusal) => show_refused(rt, refusal),
+        Err(refusal) => show_refused(rt, refusal),
     }
 }
 
@@ -154,9 +154,9 @@ fn show_side(
         rt,
         bytes,
         Asked {
-            point: point,
-            number: number,
-            side: side,
+            point,
+            number,
+            side,
         },
     )
 }

@@ -6,9 +6,9 @@ use crate::inputs::{
 };
 use crate::show::{checksum, first, output, show, show_end, show_number, show_refused};
 use crate::splittings::{show_count, show_halves, show_joined};
-use dividing::divide::Quotient;
 use halves::side::Side;
 use labels::label::Labels;
+use labels::refusal::Refusal;
 use quotient::half::by_half;
 use quotient::line::line_office;
 use quotient::number::by_number;
@@ -117,13 +117,13 @@ fn show_office_at(rt: &impl Print, name: &[u8], question: &[u8]) -> io::Result<(
 }
 
 // Prints a quotient's nodes, or the number of a refusal.
-fn show_nodes(rt: &impl Print, quotient: Quotient) -> io::Result<()> {
+fn show_nodes(rt: &impl Print, quotient: Result<usize, Refusal>) -> io::Result<()> {
     match quotient {
-        Quotient::Written(n) => {
+        Ok(n) => {
             show_number(rt, n / 2)?;
             show(rt, b" nodes")
         }
-        Quotient::Refused(refusal) => show_refused(rt, refusal),
+        Err(refusal) => show_refused(rt, refusal),
     }
 }
 

@@ -3,9 +3,9 @@ use crate::answers::{Asked, show_by_number};
 use crate::inputs::{CASE_A, LEFT_A, NINE_LOOPS, NO_ROWS, RIGHT_A, RUN_A};
 use crate::show::{first, show, show_bytes, show_end, show_number, show_refused, show_verdict};
 use crate::splittings::{show_count, show_halves};
-use casebook::read::{Reading, read};
+use casebook::read::read;
 use halves::side::{Side, cut};
-use joining::join::{Joining, join};
+use joining::join::join;
 use labels::label::Labels;
 use splitting::count::count;
 use std::io;
@@ -16,8 +16,8 @@ use verdict::joint::joint;
 fn show_reading(rt: &impl Print, name: &[u8], bytes: &[u8]) -> io::Result<()> {
     show(rt, name)?;
     match read(bytes) {
-        Reading::Casebook(_) => show(rt, b"read")?,
-        Reading::Refused(refusal) => show_refused(rt, refusal)?,
+        Ok(_) => show(rt, b"read")?,
+        Err(refusal) => show_refused(rt, refusal)?,
     }
     show_end(rt)
 }
@@ -192,8 +192,8 @@ fn show_join(
         right_half,
         out,
     ) {
-        Joining::Joined(n) => show_bytes(rt, first(out, n))?,
-        Joining::Refused(refusal) => show_refused(rt, refusal)?,
+        Ok(n) => show_bytes(rt, first(out, n))?,
+        Err(refusal) => show_refused(rt, refusal)?,
     }
     show_end(rt)
 }

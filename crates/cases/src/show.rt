@@ -3,7 +3,6 @@ ghost use Rattle.std.specs.Prelude.{◌≡◌, ◌<◌, length};
 
 use labels::refusal::Refusal;
 use std::io;
-use verdict::answer::Verdict;
 
 // 8,192 bytes to lend, two for each of a quotient's 4,096 nodes, all 9. The promise is what a loan of them needs.
 pub(crate) fn output() -> [u8; 8192]
@@ -36,32 +35,23 @@ pub(crate) fn show_number(rt: &impl Print, n: usize) -> io::Result<()> {
 
 // Prints bytes, two digits for each.
 pub(crate) fn show_bytes(rt: &impl Print, bytes: &[u8]) -> io::Result<()> {
-    let mut i = 0;
-    while i < bytes.len() {
-        show_byte(rt, bytes[i])?;
-        i = i + 1;
+    for byte in bytes {
+        print!(rt; "{byte:02x}")?;
     }
     Ok(())
 }
 
-// Prints a byte's two digits.
-fn show_byte(rt: &impl Print, byte: u8) -> io::Result<()> {
-    print!(rt; "{byte:02x}")
-}
-
 // Prints a refusal by its number.
 pub(crate) fn show_refused(rt: &impl Print, refusal: Refusal) -> io::Result<()> {
-    let number = refusal.number();
     show(rt, b"refused ")?;
-    rt.print(number)
+    rt.print(refusal.number())
 }
 
 // Prints T or F, or the number of a refusal.
-pub(crate) fn show_verdict(rt: &impl Print, verdict: Verdict) -> io::Result<()> {
+pub(crate) fn show_verdict(rt: &impl Print, verdict: Result<bool, Refusal>) -> io::Result<()> {
     match verdict {
-        Verdict::Holds => show(rt, b"T"),
-        Verdict::Fails => show(rt, b"F"),
-        Verdict::Refused(refusal) => show_refused(rt, refusal),
+        Ok(holds) => show_truth(rt, holds),
+        Err(refusal) => show_refused(rt, refusal),
     }
 }
 
@@ -81,37 +71,13 @@ pub(crate) fn first(bytes: &[u8], n: usize) -> &[u8] {
     &bytes[..0]
 }
 
-// A byte as a larger number.
-fn wide(byte: u8) -> usize
-    ensures { result < 256 }
-{
-    byte as usize
-}
-
 // A checksum of bytes: each is added to 31 times the sum so far, modulo 65,521.
 pub(crate) fn checksum(bytes: &[u8]) -> usize
     ensures { result < 65521 }
 {
     let mut sum: usize = 0;
-    let mut i = 0;
-    while i < bytes.len() {
-        sum = (31 * sum + wide(bytes[i])) % 65521;
-        i = i + 1;
+    for byte in bytes {
+        sum = (31 * sum + *byte as usize) % 65521;
     }
     sum
-}
-
-// Are the bytes the same?
-pub(crate) fn same(a: &[u8], b: &[u8]) -> bool {
-    if a.len() != b.len() {
-        return false;
-    }
-    let mut i = 0;
-    while i < a.len() {
-        if a[i] != b[i] {
-            return false;
-        }
-        i = i + 1;
-    }
-    true
 }

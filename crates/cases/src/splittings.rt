@@ -1,24 +1,25 @@
 // The splittings of a log: how many there are, the halves of each, and what halves are joined to.
 use crate::show::{first, half_output, output, show, show_bytes, show_number, show_refused};
-use casebook::read::{Reading, read};
-use joining::join::{Joining, join};
+use casebook::read::read;
+use joining::join::join;
 use labels::label::Labels;
-use splitting::count::{Counted, count};
-use splitting::split::{Splitting, split};
+use labels::refusal::Refusal;
+use splitting::count::count;
+use splitting::split::split;
 use std::io;
 
 // Prints a count's answer.
-pub(crate) fn show_count(rt: &impl Print, counted: Counted) -> io::Result<()> {
+pub(crate) fn show_count(rt: &impl Print, counted: Result<usize, Refusal>) -> io::Result<()> {
     match counted {
-        Counted::Splittings(n) => show_number(rt, n),
-        Counted::Refused(refusal) => show_refused(rt, refusal),
+        Ok(n) => show_number(rt, n),
+        Err(refusal) => show_refused(rt, refusal),
     }
 }
 
 // Prints how many splittings the log of a casebook has.
 pub(crate) fn show_log_count(rt: &impl Print, bytes: &[u8]) -> io::Result<()> {
     match read(bytes) {
-        Reading::Casebook(parts) => show_count(
+        Ok(parts) => show_count(
             rt,
             count(
                 parts.labels(bytes),
@@ -27,14 +28,14 @@ pub(crate) fn show_log_count(rt: &impl Print, bytes: &[u8]) -> io::Result<()> {
                 parts.run.body(bytes),
             ),
         ),
-        Reading::Refused(refusal) => show_refused(rt, refusal),
+        Err(refusal) => show_refused(rt, refusal),
     }
 }
 
 // Prints both halves of a splitting of the log of a casebook.
 pub(crate) fn show_log_halves(rt: &impl Print, bytes: &[u8], number: usize) -> io::Result<()> {
     match read(bytes) {
-        Reading::Casebook(parts) => show_halves(
+        Ok(parts) => show_halves(
             rt,
             parts.labels(bytes),
             parts.left.body(bytes),
@@ -42,7 +43,7 @@ pub(crate) fn show_log_halves(rt: &impl Print, bytes: &[u8], number: usize) -> i
             parts.run.body(bytes),
             number,
         ),
-        Reading::Refused(refusal) => show_refused(rt, refusal),
+        Err(refusal) => show_refused(rt, refusal),
     }
 }
 
@@ -66,7 +67,7 @@ pub(crate) fn show_halves(
         &mut left_out,
         &mut right_out,
     ) {
-        Splitting::Halves(n) => {
+        Ok(n) => {
             show(rt, b"left half ")?;
             show_bytes(rt, first(&left_out, n))?;
             show(rt, b", right half ")?;
@@ -81,7 +82,7 @@ pub(crate) fn show_halves(
                 first(&right_out, n),
             )
         }
-        Splitting::Refused(refusal) => show_refused(rt, refusal),
+        Err(refusal) => show_refused(rt, refusal),
     }
 }
 
@@ -96,7 +97,7 @@ pub(crate) fn show_joined(
 ) -> io::Result<()> {
     let mut out = output();
     match join(labels, left, right, left_half, right_half, &mut out) {
-        Joining::Joined(n) => show_bytes(rt, first(&out, n)),
-        Joining::Refused(refusal) => show_refused(rt, refusal),
+        Ok(n) => show_bytes(rt, first(&out, n)),
+        Err(refusal) => show_refused(rt, refusal),
     }
 }

@@ -4,7 +4,7 @@ use mathlib.Core.Path.{◌≡◌, refl, ◌∙◌, ap}
 use mathlib.Core.List.{List, [], ◌∷◌, ◌++◌}
 use native.Mathlib.Omega.{arith}
 use lib.ListN.{length, get_or, set, take}
-use lib.Seq.{length-take-le, take-suc, take-length}
+use lib.Seq.{length-take-le, take-suc}
 use Rattle.digits.specs.Digits.{hex_digit, hexadecimal}
 use Rattle.digits.specs.Outputs.{put_at}
 use Rattle.digits.proofs.HexadecimalLaws.{length-hexadecimal, hexadecimal-behind}
@@ -29,9 +29,3 @@ hex_more xs ys bytes at i a b h p q e =
     rw w (ap (λ o. set (set o (at + 2 * i) a) (at + 2 * i + 1) b) e
     ∙ ap (λ m. set (set (put_at xs at d) (at + m) a) (at + m + 1) b) n ∙ put_two (put_at xs at d) (at + length d) a b
     ∙ put-behind xs at d (a ∷ b ∷ []))
-
--- all
-pub hex_all : (xs ys bytes : List ℕ) (at i : ℕ) → i ≡ length bytes → ys ≡ put_at xs at (hexadecimal (take i bytes))
-    → ys ≡ put_at xs at (hexadecimal bytes)
-hex_all xs ys bytes at i z e =
-    e ∙ ap (λ m. put_at xs at (hexadecimal (take m bytes))) z ∙ ap (λ b. put_at xs at (hexadecimal b)) (take-length bytes)

@@ -1,5 +1,5 @@
 -- Bytes written over those of a list from a place on, and only where all of them have room.
-use Prim.Native.Nat.{ℕ, suc, ◌+◌, ◌-◌, ◌≤◌, ◌<◌}
+use Prim.Native.Nat.{ℕ, suc, ◌+◌, ◌≤◌, ◌<◌}
 use mathlib.Core.Path.{◌≡◌, refl, sym, ◌∙◌, ap}
 use mathlib.Core.Bool.{Bool, true, false}
 use mathlib.Core.List.{List, [], ◌∷◌, ◌++◌}
@@ -92,17 +92,6 @@ module _ (xs : List ℕ) (at : ℕ) (b : List ℕ) (h : length xs < at + length 
   pub behind_no_room : behind_if_room xs at b ≡ at
   unfolding behind_if_room room_at
   behind_no_room = rw (lt-leb _ _ h)
-
--- whether there is room, tested without a sum
-pub no_place : (room at len : ℕ) → room < at → false ≡ leb (at + len) room
-no_place room at len h = sym (lt-leb (at + len) room (omega (arith, h)))
-
-pub place-left : (room at len : ℕ) → at ≤ room → leb len (room - at) ≡ leb (at + len) room
-place-left room at len h = go (leb (at + len) room) refl
-  where
-    go : (b : Bool) → leb (at + len) room ≡ b → leb len (room - at) ≡ b
-    go true e = le-leb len (room - at) (omega (arith, h, leb-true (at + len) room e))
-    go false e = lt-leb len (room - at) (omega (arith, h, leb-false (at + len) room e))
 
 -- what the test says of bytes, and what is answered then
 pub room_enough : (xs : List ℕ) (at : ℕ) (b : List ℕ) (len : ℕ) (x : Bool) → length b ≤ len

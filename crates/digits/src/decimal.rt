@@ -34,10 +34,8 @@ pub fn put_decimal(out: &mut [u8], at: usize, n: usize) -> usize
     ensures value { result ≡ behind_if_room out.old at (decimal n) }
     ensures out_after { out.new ≡ put_if_room out.old at (decimal n) }
 {
-    if n < 100000 {
-        if has_room(out.len(), at, 5) {
-            return write_short(out, at, n);
-        }
+    if n < 100000 && has_room(out.len(), at, 5) {
+        return write_short(out, at, n);
     }
     if has_room(out.len(), at, digit_count(n)) {
         return write_long(out, at, n);

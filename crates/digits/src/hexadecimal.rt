@@ -24,12 +24,9 @@ fn write_hexadecimal(out: &mut [u8], at: usize, bytes: &[u8])
     requires { at + 2 * length bytes.now ≤ length out.old }
     ensures { out.new ≡ put_at out.old at (hexadecimal bytes.now) }
 {
-    let mut i: usize = 0;
-    while i < bytes.len() {
-        let byte = bytes[i];
+    for (i, byte) in bytes.iter().enumerate() {
         out[at + 2 * i] = hex_digit(byte / 16);
         out[at + 2 * i + 1] = hex_digit(byte % 16);
-        i += 1;
     }
 }
 
@@ -38,8 +35,5 @@ fn hex_digit(d: u8) -> u8
     requires { d < 16 }
     ensures { result ≡ hex_digit d }
 {
-    if d < 10 {
-        return 48 + d;
-    }
-    87 + d
+    if d < 10 { b'0' + d } else { b'a' + (d - 10) }
 }

@@ -5,8 +5,5 @@ ghost use Rattle.std.specs.Prelude.{◌≡◌, ◌+◌, leb};
 pub(crate) fn has_room(room: usize, at: usize, len: usize) -> bool
     ensures { result ≡ leb (at + len) room }
 {
-    if room < at {
-        return false;
-    }
-    len <= room - at
+    at <= room && len <= room - at
 }

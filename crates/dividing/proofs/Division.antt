@@ -1,27 +1,25 @@
 -- The division of a question by a half run: what the checks let through, and the answers.
 use Prim.Native.Nat.{ℕ, ◌+◌, ◌*◌, ◌≤◌, ◌<◌, min}
 use mathlib.Core.Path.{◌≡◌, sym, ◌∙◌, ap}
-use mathlib.Core.Bool.{true, false}
-use mathlib.Core.List.{List, []}
-use mathlib.Core.Option.{some}
+use mathlib.Core.Bool.{true}
+use mathlib.Core.List.{List, [], ◌++◌}
 use native.Mathlib.Omega.{arith}
-use lib.ListN.{length, take}
+use lib.ListN.{length, take, drop}
 use lib.Seq.{take-length}
-use lib.Dec.{leb, eqb}
-use borrow.Author.Tests.{le-leb, lt-leb, leb-true, eqb-true}
+use lib.Dec.{leb}
+use borrow.Author.Tests.{leb-true, eqb-true}
 use Rattle.hml.proofs.Tests.{both_true}
 use Rattle.hml.specs.Formula.{Formula, size, nesting}
 use Rattle.hml.specs.Spell.{spell}
 use Rattle.hml.proofs.Spelling.{length-spell}
 use Rattle.hml.specs.Quotient.{quotient}
-use Rattle.labels.specs.Refusals.{then_of, first_of, in_front}
+use Rattle.labels.specs.Refusals.{then_of, first_of, in_front, Check}
 use Rattle.labels.specs.Labels.{check_labels, pairing}
 use Rattle.labels.specs.declared.label.Labels.{Labels}
 use Rattle.labels.specs.declared.refusal.Refusal.{Refusal}
 use Rattle.labels.specs.declared.refusal.Refusal.TheVariants.{QuotientTooLarge, OutputTooShort}
-use Rattle.labels.specs.declared.refusal.Check.{Check}
-use Rattle.labels.specs.declared.refusal.Check.TheVariants.{Sound, Refused}
 use Rattle.labels.proofs.Refusals.{judges, both_sound, passed}
+use Rattle.labels.proofs.Slices.{copied, copied_whole}
 use Rattle.tables.specs.Tables.{table_of, check_table, SoundTable}
 use Rattle.tables.proofs.SoundTables.{sound_table}
 use Rattle.halves.specs.Halves.{half_of, is_half_run, check_half, check_table_and_half}
@@ -36,50 +34,47 @@ use Rattle.formulas.proofs.TreeSizes.{length_over}
 use Rattle.formulas.proofs.Operands.{legal_part, legal_nesting}
 use Rattle.dividing.specs.Quotients.{tree_by, quotient_by, answer_of, output_after, check_division}
 use Rattle.dividing.specs.Working.{text, Ready, surely_fits}
-use Rattle.dividing.specs.declared.divide.Quotient.TheVariants as answer
 use Rattle.dividing.proofs.QuotientSize.{quotient-size}
 use Rattle.dividing.proofs.Answers.{text-length, too_large, too_short, enough_room, text_output_lem, refused_kept}
+use Rattle.std.specs.Prelude.{Err, Ok, Some}
 
 -- the order of the checks
 module _ (k : Labels) (t h f : List ℕ) where
-  pub labels_refused : (x : Refusal) → check_labels k ≡ Refused x → Refused x ≡ check_division k t h f
+  pub labels_refused : (x : Refusal) → check_labels k ≡ Err x → Err x ≡ check_division k t h f
   unfolding check_division first_of
   labels_refused x e = rw e
 
-  module _ (e : check_labels k ≡ Sound) where
+  module _ (e : check_labels k ≡ Ok tt) where
     -- the question is sound: the table and the half of it are left
-    pub question_sound : (c : Check) → check_formula k question_limit f ≡ Sound → c ≡ check_table_and_half k t h
+    pub question_sound : (c : Check) → check_formula k question_limit f ≡ Ok tt → c ≡ check_table_and_half k t h
         → c ≡ check_division k t h f
     unfolding check_division check_table_and_half first_of
     question_sound c q p = rw (e, q) p
 
     -- it is not: the table's numbers come before its own
-    pub question_refused : (c d : Check) (x : Refusal) → check_formula k question_limit f ≡ Refused x → d ≡ check_table k t
-        → c ≡ then_of d (Refused x) → c ≡ check_division k t h f
+    pub question_refused : (x : Refusal) → check_formula k question_limit f ≡ Err x
+        → then_of (check_table k t) (Err x) ≡ check_division k t h f
     unfolding check_division first_of
-    question_refused c d x q b p = rw (e, q, ← b) p
+    question_refused x q = rw (e, q)
 
   -- what no check refuses
-  pub division_sound : check_division k t h f ≡ Sound → SoundTable k t × (is_half_run t h ≡ true) × Legal k question_limit f
+  pub division_sound : check_division k t h f ≡ Ok tt → SoundTable k t × (is_half_run t h ≡ true) × Legal k question_limit f
   unfolding check_division first_of check_half
   division_sound e =
       let (p, a) = both_sound (check_labels k) _ e in
       let (u, b) = both_sound (check_table k t) _ a in
       let (v, c) = both_sound (check_formula k question_limit f) _ b in (
         sound_table k t u,
-        passed (is_half_run t h) _ (both_sound (check_half t h) Sound c).0,
+        passed (is_half_run t h) _ (both_sound (check_half t h) (Ok tt) c).0,
         (judges (judged_formula k question_limit f)).0 v,
       )
 
--- the output is shorter than the question
-pub room_missing : (f : List ℕ) (room : ℕ) → room < length f → false ≡ surely_fits f room
-unfolding surely_fits
-room_missing f room h = rw (lt-leb (length f) room h)
-
--- it is not, so the count of forward modalities decides
-pub forwards_seen : (f : List ℕ) (room : ℕ) → length f ≤ room → (n : ℕ) → n ≡ forwards_in f → eqb n 0 ≡ surely_fits f room
-unfolding surely_fits
-forwards_seen f room h n e = rw (le-leb (length f) room h, e)
+-- the half in the buffer, once it is copied
+pub half_copied : (t h : List ℕ) → is_half_run t h ≡ true → (ys zs : List ℕ) (n : ℕ) → length ys ≡ 409
+    → n ≡ min (length h) (length ys) → zs ≡ take n h ++ drop n ys → take (length h) zs ≡ h
+half_copied t h run ys zs n size count e =
+    let a = accepted_half t h run in
+    copied h zs _ (copied_whole h ys zs n (omega (arith, a.counted, a.few, a.odd, size)) count e)
 
 module _ (labels : Labels) (t h f : List ℕ) (run : is_half_run t h ≡ true) (legal : Legal labels question_limit f)
   where
@@ -87,7 +82,7 @@ module _ (labels : Labels) (t h f : List ℕ) (run : is_half_run t h ≡ true) (
     pub tree : Formula
     tree = quotient (pairing labels) (table_of t) (tree_of f) (half_of h)
 
-    tree_is : quotient_by labels t (half_of h) f ≡ some tree
+    tree_is : quotient_by labels t (half_of h) f ≡ Some tree
     unfolding quotient_by tree_by tree
     tree_is = rw (legal_tree labels question_limit f legal)
 
@@ -99,10 +94,10 @@ module _ (labels : Labels) (t h f : List ℕ) (run : is_half_run t h ≡ true) (
     pub sure_fits : (room : ℕ) → surely_fits f room ≡ true → Fits room
     unfolding surely_fits tree Legal Tree
     sure_fits room e =
-        let (long, none) = both_true {a = leb (length f) room} e in
+        let (long, None) = both_true {a = leb (length f) room} e in
         let (φ, s, z, l, d) = legal in
         let flat : nesting (tree_of f) ≡ 0 = omega
-        (arith, nesting_forwards f (φ, [], s), eqb-true (forwards_in f) _ none) in
+        (arith, nesting_forwards f (φ, [], s), eqb-true (forwards_in f) _ None) in
         omega (
           arith,
           quotient-size (pairing labels) (table_of t) (tree_of f) (half_of h) flat,
@@ -137,24 +132,24 @@ module _ (labels : Labels) (t h f : List ℕ) (run : is_half_run t h ≡ true) (
       -- what the count says of the size
       module _ (n : ℕ) (e : 2 * n ≡ min (length (text labels t f (half_of (take (length h) xs)))) (2 * 4096 + 2)) where
         pub answer_large : (out : List ℕ) → 4096 < n
-            → (answer.Refused QuotientTooLarge
-            ≡ answer_of Sound (quotient_by labels t (half_of h) f) (length out))
-            × (out ≡ output_after Sound (quotient_by labels t (half_of h) f) out)
+            → (Err QuotientTooLarge
+            ≡ answer_of (Ok tt) (quotient_by labels t (half_of h) f) (length out))
+            × (out ≡ output_after (Ok tt) (quotient_by labels t (half_of h) f) out)
         answer_large out h =
             rw tree_is (let a = too_large tree (omega (arith, e, text-size, h))
-            (length out) in (sym a, refused_kept Sound (some tree) out QuotientTooLarge a))
+            (length out) in (sym a, refused_kept (Ok tt) (Some tree) out QuotientTooLarge a))
 
         module _ (small : n ≤ 4096) where
           counted-size : n ≡ size tree
           counted-size = omega (arith, e, text-size, small)
 
           pub answer_short : (out : List ℕ) → length out < 2 * n
-              → (answer.Refused OutputTooShort
-              ≡ answer_of Sound (quotient_by labels t (half_of h) f) (length out))
-              × (out ≡ output_after Sound (quotient_by labels t (half_of h) f) out)
+              → (Err OutputTooShort
+              ≡ answer_of (Ok tt) (quotient_by labels t (half_of h) f) (length out))
+              × (out ≡ output_after (Ok tt) (quotient_by labels t (half_of h) f) out)
           answer_short out h =
               rw tree_is (let a = too_short tree (omega (arith, counted-size, small)) (length out)
-              (omega (arith, counted-size, h)) in (sym a, refused_kept Sound (some tree) out OutputTooShort a))
+              (omega (arith, counted-size, h)) in (sym a, refused_kept (Ok tt) (Some tree) out OutputTooShort a))
 
           -- what is counted within the limit and the room fits
           pub counted-fits : (out : List ℕ) → 2 * n ≤ length out → Fits (length out)
@@ -167,8 +162,8 @@ module _ (labels : Labels) (t h f : List ℕ) (run : is_half_run t h ≡ true) (
 
         pub answer_written : (m : ℕ) (zs : List ℕ) → m ≡ length (text labels t f (half_of (take (length h) xs)))
             → zs ≡ in_front (text labels t f (half_of (take (length h) xs))) out
-            → (answer.Written m ≡ answer_of Sound (quotient_by labels t (half_of h) f) (length out))
-            × (zs ≡ output_after Sound (quotient_by labels t (half_of h) f) out)
+            → (Ok m ≡ answer_of (Ok tt) (quotient_by labels t (half_of h) f) (length out))
+            × (zs ≡ output_after (Ok tt) (quotient_by labels t (half_of h) f) out)
         unfolding in_front
         answer_written m zs p q =
             let (s, r) = fits in

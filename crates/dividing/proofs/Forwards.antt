@@ -5,7 +5,6 @@ use mathlib.Core.Bool.{Bool, true, false, cond}
 use mathlib.Core.List.Memᴰ.{head as here}
 use mathlib.Core.List.Memᴰ.{tail as there}
 use mathlib.Core.List.{List, [], ◌∷◌, ◌++◌}
-use mathlib.Core.Option.{Option, none, some}
 use native.Mathlib.Omega.{arith}
 use lib.ListN.{length, get_or}
 use lib.Dec.{eqb}
@@ -29,6 +28,7 @@ use Rattle.formulas.proofs.Operands.{operand_is}
 use Rattle.dividing.specs.Working.{Behind, Listed, one, more, alone_in, shaken_by, shaken_in, disjuncts_of}
 use Rattle.dividing.specs.Working.{text, first_text, texts}
 use Rattle.dividing.proofs.Texts.{silent-same}
+use Rattle.std.specs.Prelude.{None, Option, Some}
 
 -- moves by labels, none of which marks an idle
 abbrev Moves : List (ℕ × ℕ) → Type 0
@@ -95,8 +95,8 @@ module _ (labels : Labels) (t f : List ℕ) (r : Run ℕ) where
       go : (p : Option ℕ)
           → Spelled (shaken_by m p)
           (of_partner p (λ c. fwd c (quotient (pairing labels) (table_of t) (tree_of f) (r ▸ move m.0 m.1))))
-      go none = ends
-      go (some c) =
+      go None = ends
+      go (Some c) =
           follows {o = 5} {a = c} {b = m.0} {to = m.1}
           {e = fwd c (quotient (pairing labels) (table_of t) (tree_of f) (r ▸ move m.0 m.1))}
           (rw (ne_eqb m.0 255 (h m (here refl)))) (h m (here refl)) ends

@@ -3,24 +3,32 @@ use Prim.Native.Nat.{ℕ, ◌*◌, ◌≤◌, ◌<◌}
 use mathlib.Core.Path.{◌≡◌}
 use mathlib.Core.Bool.{Bool, true, false, cond}
 use mathlib.Core.List.{List, [], ◌∷◌, ◌++◌, append-nil}
-use mathlib.Core.Option.{Option, none, some}
 use native.Mathlib.Omega.{arith}
 use lib.ListN.{length, get_or, length-append}
 use lib.Dec.{eqb}
-use borrow.Author.Tests.{eq-eqb, ne_eqb}
+use borrow.Author.Tests.{ne_eqb}
 use Rattle.hml.specs.Lists.{same, each, given}
 use Rattle.hml.specs.System.{Pairing}
 use Rattle.labels.specs.Labels.{partner_found, pairing}
 use Rattle.labels.specs.declared.label.Label.{Label}
 use Rattle.labels.specs.declared.label.Labels.{Labels}
-use Rattle.labels.specs.declared.label.Partner.TheVariants as partner
 use Rattle.labels.proofs.Labels.{found_some, found_none}
-use Rattle.labels.proofs.Slices.{rest}
-use Rattle.tables.specs.Tables.{table_of, SoundTable}
+use Rattle.tables.specs.Tables.{table_of, threes, SoundTable}
 use Rattle.tables.specs.Working.{moves_in}
 use Rattle.tables.proofs.SoundTables.{moves-few}
-use Rattle.tables.proofs.Searching.{first-move, no_move}
+use Rattle.tables.proofs.Searching.{no_move}
 use Rattle.dividing.specs.Working.{Behind, alone_in, shaken_by, shaken_in, disjuncts_of}
+use Rattle.std.specs.Prelude.{None, Option, Some}
+
+-- the move of the first row, and those of the rows behind it
+first_move : (rows row next : List ℕ) → rows ≡ row ++ next → length row ≡ 3
+    → moves_in rows ≡ (get_or row 1 0, get_or row 2 0) ∷ moves_in next
+unfolding moves_in threes
+first_move rows (f ∷ a ∷ to ∷ []) next e h = rw e
+first_move rows [] next e h = absurd (omega arith)
+first_move rows (f ∷ []) next e h = absurd (omega arith)
+first_move rows (f ∷ a ∷ []) next e h = absurd (omega arith)
+first_move rows (f ∷ a ∷ to ∷ x ∷ row) next e h = absurd (omega arith)
 
 -- moves alone: none where no row is left, else those of the first row and of those behind it
 module _ (a : ℕ) (rows : List ℕ) where
@@ -28,16 +36,16 @@ module _ (a : ℕ) (rows : List ℕ) where
   unfolding alone_in
   alone_none h = rw (no_move rows h)
 
-  module _ (h : 3 ≤ length rows) where
-    pub alone_skip : (get_or rows 1 0 ≡ a → ⊥) → alone_in a (moves_in (rest 3 rows)) ≡ alone_in a (moves_in rows)
+  module _ (row next : List ℕ) (e : rows ≡ row ++ next) (h : length row ≡ 3) where
+    pub alone_skip : false ≡ eqb (get_or row 1 0) a → alone_in a (moves_in next) ≡ alone_in a (moves_in rows)
     unfolding alone_in
-    alone_skip n = rw (first-move rows h, ne_eqb (get_or rows 1 0) a n)
+    alone_skip n = rw (first_move rows row next e h, ← n)
 
-    pub alone_more : get_or rows 1 0 ≡ a
-        → Behind (7 ∷ 0 ∷ get_or rows 1 0 ∷ get_or rows 2 0 ∷ []) (alone_in a (moves_in (rest 3 rows)))
+    pub alone_more : true ≡ eqb (get_or row 1 0) a
+        → Behind (7 ∷ 0 ∷ get_or row 1 0 ∷ get_or row 2 0 ∷ []) (alone_in a (moves_in next))
         (alone_in a (moves_in rows))
     unfolding Behind alone_in
-    alone_more e = rw (first-move rows h, eq-eqb (get_or rows 1 0) a e)
+    alone_more f = rw (first_move rows row next e h, ← f)
 
 -- parts in handshakes
 module _ (P : Pairing) (rows : List ℕ) where
@@ -45,17 +53,17 @@ module _ (P : Pairing) (rows : List ℕ) where
   unfolding shaken_in
   shaken-none h = rw (no_move rows h)
 
-  module _ (h : 3 ≤ length rows) where
-    pub shaken_skip : partner.Nobody ≡ partner_found (P.partner (get_or rows 1 0))
-        → shaken_in P (moves_in (rest 3 rows)) ≡ shaken_in P (moves_in rows)
+  module _ (row next : List ℕ) (e : rows ≡ row ++ next) (h : length row ≡ 3) where
+    pub shaken_skip : None ≡ partner_found (P.partner (get_or row 1 0))
+        → shaken_in P (moves_in next) ≡ shaken_in P (moves_in rows)
     unfolding shaken_in shaken_by
-    shaken_skip e = rw (first-move rows h, found_none _ e)
+    shaken_skip f = rw (first_move rows row next e h, found_none _ f)
 
-    pub shaken-more : (c : Label) → partner.Label c ≡ partner_found (P.partner (get_or rows 1 0))
-        → Behind (5 ∷ c.0 ∷ get_or rows 1 0 ∷ get_or rows 2 0 ∷ []) (shaken_in P (moves_in (rest 3 rows)))
+    pub shaken-more : (c : Label) → Some c ≡ partner_found (P.partner (get_or row 1 0))
+        → Behind (5 ∷ c.0 ∷ get_or row 1 0 ∷ get_or row 2 0 ∷ []) (shaken_in P (moves_in next))
         (shaken_in P (moves_in rows))
     unfolding Behind shaken_in shaken_by
-    shaken-more c e = rw (first-move rows h, found_some _ c e)
+    shaken-more c f = rw (first_move rows row next e h, found_some _ c f)
 
 -- four bytes a move at most
 each_short : (g : ℕ × ℕ → List ℕ) → ((m : ℕ × ℕ) → length (g m) ≤ 4) → (moves : List (ℕ × ℕ))
@@ -81,8 +89,8 @@ shaken_short P moves h =
     omega (arith, each_short (λ m. shaken_by m (P.partner m.0)) (λ m. go m (P.partner m.0)) moves)
   where
     go : (m : ℕ × ℕ) (o : Option ℕ) → length (shaken_by m o) ≤ 4
-    go m none = omega arith
-    go m (some c) = omega arith
+    go m None = omega arith
+    go m (Some c) = omega arith
 
 -- all disjuncts, by the operator and the label
 pub idle-listed : (labels : Labels) (t : List ℕ) (o a q : ℕ) → o ≡ 7 → 7 ∷ 0 ∷ 255 ∷ q ∷ [] ≡ disjuncts_of labels t o a q

@@ -1,7 +1,7 @@
 -- Pieces written one after the other into an output, each into the rest that the one before it left.
 use Prim.Native.Nat.{ℕ, ◌+◌, ◌-◌, ◌≤◌}
 use mathlib.Core.Path.{◌≡◌, refl, sym, ◌∙◌, ap}
-use mathlib.Core.List.{List, [], ◌∷◌, ◌++◌}
+use mathlib.Core.List.{List, [], ◌∷◌, ◌++◌, append_assoc, append-nil}
 use native.Mathlib.Omega.{arith}
 use lib.ListN.{length, take, drop, length-append, length-drop}
 use lib.Seq.{take-append_seam}
@@ -51,10 +51,6 @@ module _ (b d w : List ℕ) (m : ℕ) (e : Behind b d w) (h : length w ≤ m) wh
   second_fits xs zs k z p q =
       omega (arith, rest_front b xs zs k p q (omega (arith, first_fits, z)), h, both-length, p, z)
 
-  -- the output is as long as before, after the first piece and after both
-  pub first-length : (xs zs : List ℕ) → m ≡ length xs → zs ≡ in_front b xs → length zs ≡ length xs
-  first-length xs zs z q = front_length b xs zs q (omega (arith, first_fits, z))
-
 pub two_pieces : (b d w xs zs ys : List ℕ) (k n : ℕ) → Behind b d w → k ≡ length b → zs ≡ in_front b xs → n ≡ length d
     → ys ≡ in_front d (rest k zs)
     → (k + n ≡ length w) × (put_mid k (length zs - k) zs ys ≡ in_front w xs)
@@ -62,11 +58,60 @@ unfolding Behind
 two_pieces b d w xs zs ys k n e p q m r =
     rw (← e) (omega (arith, p, m, length-append b d), front-after b d xs zs ys k p q r)
 
-pub second_length : (b d w xs zs ys : List ℕ) (k : ℕ) → Behind b d w → k ≡ length b → zs ≡ in_front b xs
-    → ys ≡ in_front d (rest k zs) → length w ≤ length xs
-    → length (put_mid k (length zs - k) zs ys) ≡ length xs
-second_length b d w xs zs ys k e p q r h =
-    front_length w xs _ (two_pieces b d w xs zs ys k (length d) e p q refl r).1 h
+-- n bytes are written into the output xs, and with those of the piece `later` behind them they are the piece w
+pub record Written (w xs later : List ℕ) (n : ℕ) (out : List ℕ) : Type 0 where
+  pub done : List ℕ
+  pub count : n ≡ length done
+  pub whole : Behind done later w
+  pub same : out ≡ in_front done xs
+
+module _ (w xs : List ℕ) where
+  pub none_written : Written w xs w 0 xs
+  unfolding Behind
+  none_written = record { done = []; count = refl; whole = refl; same = front-none xs }
+
+  module _ {later : List ℕ} {n : ℕ} {out : List ℕ} (s : Written w xs later n out) where
+    pub skip_written : {next : List ℕ} → next ≡ later → Written w xs next n out
+    skip_written e = record { done = s.done; count = s.count; whole = rw e s.whole; same = s.same }
+
+    pub all_written : [] ≡ later → (n ≡ length w) × (out ≡ in_front w xs)
+    unfolding Behind
+    all_written e =
+        let z : s.done ≡ w = sym (append-nil s.done) ∙ ap (s.done ++◌) e ∙ s.whole in
+        (s.count ∙ ap length z, s.same ∙ ap (λ d. in_front d xs) z)
+
+    module _ (h : length w ≤ length xs) where
+      done-length : length s.done + length later ≡ length w
+      unfolding Behind
+      done-length = sym (length-append s.done later) ∙ ap length s.whole
+
+      -- the output keeps its length
+      pub written_length : length out ≡ length xs
+      written_length = front_length s.done xs out s.same (omega (arith, done-length, h))
+
+      pub written_within : n ≤ length out
+      written_within = omega (arith, s.count, done-length, h, written_length)
+
+      module _ (d next : List ℕ) (e : Behind d next later) where
+        -- there is room for the next piece
+        pub next_within : n + length d ≤ length out
+        unfolding Behind
+        next_within =
+            omega (arith, s.count, done-length, h, written_length, ap length e, length-append d next)
+
+        pub next_fits : length d ≤ length (rest n out)
+        next_fits = omega (arith, next_within, ap length (rest_of n out) ∙ length-drop n out)
+
+        pub next_written : (m : ℕ) → m ≡ n + length d → (ys : List ℕ) → ys ≡ in_front d (rest n out)
+            → Written w xs next m (put_mid n (length out - n) out ys)
+        unfolding Behind
+        next_written m k ys r =
+            record {
+              done = s.done ++ d;
+              count = omega (arith, k, s.count, length-append s.done d);
+              whole = append_assoc s.done d next ∙ ap (s.done ++◌) e ∙ s.whole;
+              same = front-after s.done d xs out ys n s.count s.same r;
+            }
 
 -- a piece read back
 pub taken : (b xs zs : List ℕ) (n : ℕ) → zs ≡ in_front b xs → n ≡ length b → take n zs ≡ b

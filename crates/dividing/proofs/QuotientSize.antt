@@ -2,20 +2,20 @@
 use Prim.Native.Nat.{ℕ, ◌+◌, ◌≤◌}
 use mathlib.Core.Path.{◌≡◌}
 use mathlib.Core.Bool.{Bool, true, false}
-use mathlib.Core.Option.{Option, none, some}
 use native.Mathlib.Omega.{arith}
 use Rattle.hml.specs.Lists.{same}
 use Rattle.hml.specs.System.{System, move, idle, Run, start, ◌▸◌, Pairing}
 use Rattle.hml.specs.Formula.{Formula, top, bottom, not, and, or, fwd, back, fwd_idle, back_idle, size, nesting}
 use Rattle.hml.specs.Quotient.{back_by, quotient}
+use Rattle.std.specs.Prelude.{None, Option, Some}
 
 -- what stands for "back by label" is at most one node over the rest
 back-size : (t z : Bool) (o : Option ℕ) (φ : Formula) → size (back_by t z o φ) ≤ 1 + size φ
 unfolding size
 back-size true z o φ = omega arith
 back-size false false o φ = omega arith
-back-size false true none φ = omega arith
-back-size false true (some c) φ = omega arith
+back-size false true None φ = omega arith
+back-size false true (Some c) φ = omega arith
 
 module _ (P : Pairing) {T : Type 0} (K : System T) where
   -- the quotient has no more nodes than the formula

@@ -4,7 +4,6 @@ use mathlib.Core.Path.{◌≡◌, refl, sym, ◌∙◌, ap}
 use mathlib.Core.Logic.{◌⊎◌, inl, inr, ⊎_elim}
 use mathlib.Core.Bool.{Bool, true, false, cond}
 use mathlib.Core.List.{List, [], ◌∷◌, ◌++◌}
-use mathlib.Core.Option.{Option, none, some}
 use native.Mathlib.Omega.{arith}
 use lib.ListN.{length, get_or, take, length-append}
 use lib.Seq.{length-take-le, get_or-take}
@@ -32,14 +31,13 @@ use Rattle.formulas.proofs.Measures.{size-some}
 use Rattle.formulas.proofs.Operators.{at, BackTree, back-label, back-idle, back-tree}
 use Rattle.formulas.proofs.Operands.{AndOr, operand_is, operands_are, connectives, leaf-operator}
 use Rattle.dividing.specs.declared.node.Node.{Node}
-use Rattle.dividing.specs.declared.node.Past.{Past}
-use Rattle.dividing.specs.declared.node.Past.TheVariants as past
 use Rattle.dividing.specs.Working.{Behind, node_over, back_by_partner, past_move, past_of, last_read, past_read, text}
+use Rattle.std.specs.Prelude.{None, Option, Some}
 
 -- the bytes of a back modality's quotient: a node over other bytes, or false
-unfoldable over_text : Past → List ℕ → List ℕ
-over_text (past.Node node) bs = node.operator ∷ node.label.0 ∷ bs
-over_text past.Fails bs = 1 ∷ 0 ∷ []
+unfoldable over_text : Option Node → List ℕ → List ℕ
+over_text (Some node) bs = node.operator ∷ node.label.0 ∷ bs
+over_text None bs = 1 ∷ 0 ∷ []
 
 -- is the label silent? asked from either side
 pub silent-same : (a : ℕ) → eqb a 0 ≡ same 0 a
@@ -119,11 +117,11 @@ module _ (labels : Labels) (t : List ℕ) where
           ψ = quotient (pairing labels) (table_of t) (tree_of (rest 2 f)) r
 
           by_partner : (s z : Bool) (c : Option ℕ) → spell (back_by s z c ψ) []
-              ≡ over_text (cond s (node_over 8 0) (cond z (back_by_partner c) past.Fails)) (spell ψ [])
+              ≡ over_text (cond s (node_over 8 0) (cond z (back_by_partner c) None)) (spell ψ [])
           by_partner true z c = refl
           by_partner false false c = refl
-          by_partner false true none = refl
-          by_partner false true (some c) = refl
+          by_partner false true None = refl
+          by_partner false true (Some c) = refl
 
           by_label : (x : Step ℕ)
               → spell (quotient (pairing labels) (table_of t) (back (get_or f 1 0) (tree_of (rest 2 f))) (r ▸ x)) []
@@ -144,10 +142,10 @@ module _ (labels : Labels) (t : List ℕ) where
           go (back-idle e u) = rw (operand_is sizes f p back_idle u, e) (by_idle x)
 
       -- what is read of the run
-      abbrev past_here : Past
+      abbrev past_here : Option Node
       past_here = past_read labels (get_or f 0 0) (get_or f 1 0) (last_read (take n xs))
 
-      none_here : n < 3 → past_here ≡ past.Fails
+      none_here : n < 3 → past_here ≡ None
       unfolding past_read last_read step_read
       none_here l =
           let z : n ≡ 1 = omega (arith, h.odd) in
@@ -177,7 +175,7 @@ module _ (labels : Labels) (t : List ℕ) where
         text-here =
             ap (text labels t f) (half_step xs n h l) ∙ step_text last_step (half_of (take (n - 2) xs)) ∙ rw step_here
 
-      pub past_fails : past.Fails ≡ past_here → 1 ∷ 0 ∷ [] ≡ text labels t f (half_of (take n xs))
+      pub past_fails : None ≡ past_here → 1 ∷ 0 ∷ [] ≡ text labels t f (half_of (take n xs))
       unfolding over_text
       past_fails e = go (ltb n 3) refl
         where
@@ -185,7 +183,7 @@ module _ (labels : Labels) (t : List ℕ) where
           go true c = past_empty (ltb-true n 3 c)
           go false c = sym (text-here (ltb-false n 3 c) ∙ rw (← e))
 
-      module _ (node : Node) (e : past.Node node ≡ past_here) where
+      module _ (node : Node) (e : Some node ≡ past_here) where
         -- the run has a step
         pub past_step : 3 ≤ n
         past_step = go (ltb n 3) refl

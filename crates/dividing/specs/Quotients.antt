@@ -1,40 +1,36 @@
 -- Quotients: document 01, "The quotient", and the numbers that a division gives: 4, the table's, 9, 10, 15, then 17 and
 -- 18. What a quotient is, is the theory's to say: `quotient` in hml's Quotient has table 1 of source document 000 as
 -- document 01 writes it out, and `spell` in Spell the bytes of a formula.
-use Rattle.std.specs.Prelude.{ℕ, ◌*◌, List, [], ◌∷◌, length, ltb}
-use Rattle.std.proofs.Math.Option.{Option, none, some}
+use Rattle.std.specs.Prelude.{ℕ, ◌*◌, List, [], ◌∷◌, length, ltb, Err, None, Ok, Option, Result, Some}
 use Rattle.hml.specs.System.{Run}
 use Rattle.hml.specs.Formula.{Formula, size}
 use Rattle.hml.specs.Spell.{spell}
 use Rattle.hml.specs.Quotient.{quotient}
-use Rattle.labels.specs.Refusals.{refused_if, first_of, output_of, Answer, refused_as, giving}
+use Rattle.labels.specs.Refusals.{refused_if, first_of, output_of, Answer, Check, value_answer}
 use Rattle.labels.specs.Labels.{check_labels, pairing}
-use Rattle.labels.specs.declared.refusal.Check.{Check}
-use Rattle.labels.specs.declared.refusal.Check.TheVariants as check
 use Rattle.labels.specs.declared.refusal.Refusal.TheVariants.{QuotientTooLarge, OutputTooShort}
 use Rattle.labels.specs.declared.label.Labels.{Labels}
 use Rattle.tables.specs.Tables.{table_of, check_table}
 use Rattle.halves.specs.Halves.{check_half}
 use Rattle.formulas.specs.Formulas.{formula_of, question_limit, quotient_limit, check_formula}
-use Rattle.dividing.specs.declared.divide.Quotient.{Quotient}
-use Rattle.dividing.specs.declared.divide.Quotient.TheVariants as answer
+use Rattle.labels.specs.declared.refusal.Refusal.{Refusal}
 
 -- the tree of the quotient, by a run of a table, of the formula that the bytes spell
 unfoldable pub tree_by : (Formula → Formula) → Option Formula → Option Formula
-tree_by g none = none
-tree_by g (some φ) = some (g φ)
+tree_by g None = None
+tree_by g (Some φ) = Some (g φ)
 
 unfoldable pub quotient_by : Labels → List ℕ → Run ℕ → List ℕ → Option Formula
 quotient_by k t r f = tree_by (λ φ. quotient (pairing k) (table_of t) φ r) (formula_of f)
 
 -- its nodes, and its bytes; where there is no formula there are none
 unfoldable pub nodes_of : Option Formula → ℕ
-nodes_of none = 0
-nodes_of (some φ) = size φ
+nodes_of None = 0
+nodes_of (Some φ) = size φ
 
 unfoldable pub text_of : Option Formula → List ℕ
-text_of none = []
-text_of (some φ) = spell φ []
+text_of None = []
+text_of (Some φ) = spell φ []
 
 -- 17: "the quotient's tree has over 4,096 nodes"
 unfoldable pub check_size : Option Formula → Check
@@ -47,17 +43,16 @@ check_tree parts tree room =
     first_of (parts ∷ check_size tree ∷ refused_if (ltb room (2 * nodes_of tree)) OutputTooShort ∷ [])
 
 -- the answer: how many bytes were written
-abbrev pub written : Check → ℕ → Quotient
-written check.Sound n = answer.Written n
-written (check.Refused x) n = answer.Refused x
+abbrev pub written : Check → ℕ → Result ℕ Refusal
+written (Ok _) n = Ok n
+written (Err x) n = Err x
 
-unfoldable pub answer_of : Check → Option Formula → ℕ → Quotient
+unfoldable pub answer_of : Check → Option Formula → ℕ → Result ℕ Refusal
 answer_of parts tree room = written (check_tree parts tree room) (2 * nodes_of tree)
 
 -- the number of a quotient, and its value: how many bytes were written
-unfoldable pub quotient_answer : Quotient → Answer
-quotient_answer (answer.Written n) = giving (n ∷ [])
-quotient_answer (answer.Refused x) = refused_as x
+abbrev pub quotient_answer : Result ℕ Refusal → Answer
+quotient_answer = value_answer
 
 -- the lent output afterwards
 unfoldable pub output_after : Check → Option Formula → List ℕ → List ℕ

@@ -1,6 +1,5 @@
 -- How the code works: what functions ask for and promise that serve others. No call's promise cites this file.
-use Rattle.std.specs.Prelude.{ℕ, ◌+◌, ◌-◌, ◌*◌, ◌/◌, ◌≤◌, ◌≡◌, Bool, ◌&&◌, cond, List, [], ◌∷◌, ◌++◌, length, get_or, eqb, leb}
-use Rattle.std.proofs.Math.Option.{Option, none, some}
+use Rattle.std.specs.Prelude.{ℕ, ◌+◌, ◌-◌, ◌*◌, ◌/◌, ◌≤◌, ◌≡◌, Bool, ◌&&◌, cond, List, [], ◌∷◌, ◌++◌, length, get_or, eqb, leb, None, Option, Some}
 use Rattle.hml.specs.Lists.{same, each, given}
 use Rattle.hml.specs.System.{Run, ◌▸◌, Pairing}
 use Rattle.hml.specs.Formula.{nesting}
@@ -13,44 +12,41 @@ use Rattle.halves.specs.Runs.{step_of}
 use Rattle.halves.specs.Steps.{step_read}
 use Rattle.halves.specs.declared.step.Step.{Step}
 use Rattle.halves.specs.declared.step.Step.TheVariants as step
-use Rattle.halves.specs.declared.step.StepRead.{StepRead}
-use Rattle.halves.specs.declared.step.StepRead.TheVariants as read
 use Rattle.halves.specs.Working.{HeldHalf}
 use Rattle.formulas.specs.Working.{forwards_in, tree_of, Part}
-use Rattle.dividing.specs.declared.node.Past.{Past}
-use Rattle.dividing.specs.declared.node.Past.TheVariants as past
+use Rattle.dividing.specs.declared.node.Node.{Node}
 
 -- the piece b, with d behind it, is the piece w
 unfoldable pub Behind : List ℕ → List ℕ → List ℕ → Type 0
 Behind b d w = b ++ d ≡ w
 
 -- a node that stands over the quotient by the run without its last step
-abbrev pub node_over : ℕ → ℕ → Past
-node_over o a = past.Node (record { operator = o; label = record { 0 = a } })
+abbrev pub node_over : ℕ → ℕ → Option Node
+node_over o a = Some (record { operator = o; label = record { 0 = a } })
 
-abbrev pub back_by_partner : Option ℕ → Past
-back_by_partner none = past.Fails
-back_by_partner (some c) = node_over 6 c
+abbrev pub back_by_partner : Option ℕ → Option Node
+back_by_partner None = None
+back_by_partner (Some c) = node_over 6 c
 
 -- back by a label (6) or by idle (8), where the known half ends in a move of label b
-unfoldable pub past_move : Labels → ℕ → ℕ → ℕ → Past
+unfoldable pub past_move : Labels → ℕ → ℕ → ℕ → Option Node
 past_move labels o a b = cond (eqb o 6)
-    (cond (same b a) (node_over 8 0) (cond (eqb a 0) (back_by_partner ((pairing labels).partner b)) past.Fails))
-    past.Fails
+    (cond (same b a) (node_over 8 0) (cond (eqb a 0) (back_by_partner ((pairing labels).partner b)) None))
+    None
 
 -- where it ends in this step
-unfoldable pub past_of : Labels → ℕ → ℕ → Step → Past
+unfoldable pub past_of : Labels → ℕ → ℕ → Step → Option Node
 past_of labels o a (step.Move m) = past_move labels o a m.label.0
 past_of labels o a step.Idle = cond (eqb o 6) (node_over 6 a) (node_over 8 0)
 
 -- the last step of a half run's bytes, if there is one
-unfoldable pub last_read : List ℕ → StepRead
+unfoldable pub last_read : List ℕ → Option Step
 last_read s = step_read s (length s / 2 - 1)
 
 -- "On an empty run every back modality fails"
-unfoldable pub past_read : Labels → ℕ → ℕ → StepRead → Past
-past_read labels o a (read.Step x) = past_of labels o a x
-past_read labels o a read.NoSuchStep = past.Fails
+unfoldable pub past_read : Labels → ℕ → ℕ → Option Step → Option Node
+past_read labels o a (Some x) = past_of labels o a x
+past_read labels o a None = None
 
 -- the disjuncts of a forward modality as bytes, four each: operator and label of the node, label and target of the
 -- known half's step. First those of moves of label a alone
@@ -59,8 +55,8 @@ alone_in a moves = each (λ (m : ℕ × ℕ). given (same m.0 a) (7 ∷ 0 ∷ m.
 
 -- those of the known half's parts in handshakes
 unfoldable pub shaken_by : ℕ × ℕ → Option ℕ → List ℕ
-shaken_by m none = []
-shaken_by m (some c) = 5 ∷ c ∷ m.0 ∷ m.1 ∷ []
+shaken_by m None = []
+shaken_by m (Some c) = 5 ∷ c ∷ m.0 ∷ m.1 ∷ []
 
 unfoldable pub shaken_in : Pairing → List (ℕ × ℕ) → List ℕ
 shaken_in P moves = each (λ m. shaken_by m (P.partner m.0)) moves

@@ -1,4 +1,6 @@
 // How many nodes a quotient has, counted without a tree, and no further than to one above a limit.
+// It walks as write.rt does; one walk for both would lend a count an output, or hold the writing to a limit. The run lies
+// in an array of fixed size with its length beside it: it grows and shrinks by a step, and C lends no allocator.
 ghost use Rattle.std.specs.Prelude.{◌≡◌, true, ◌+◌, ◌-◌, ◌*◌, ◌≤◌, min, length, get_or, take};
 ghost use Rattle.tables.specs.Tables.{SoundTable};
 ghost use Rattle.halves.specs.Halves.{half_of};
@@ -6,7 +8,7 @@ ghost use Rattle.formulas.specs.Operators.{is_forward, is_modality};
 ghost use Rattle.dividing.specs.Working.{Ready, Listed, text, texts, first_text};
 
 use crate::disjuncts::list_disjuncts;
-use crate::node::{Past, past_node};
+use crate::node::past_node;
 use formulas::node::{is_forward, is_modality};
 use labels::label::{Label, Labels};
 
@@ -77,11 +79,11 @@ fn count_modal(
     }
     let bytes: &[u8] = run;
     match past_node(labels, operator, Label(f[1]), &bytes[..len]) {
-        Past::Node(_) => {
+        Some(_) => {
             let n = count_tree(labels, table, sizes, run, len - 2, &f[2..], limit - 1);
             1 + n
         }
-        Past::Fails => 1,
+        None => 1,
     }
 }
 

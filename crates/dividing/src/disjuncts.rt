@@ -7,7 +7,7 @@ ghost use Rattle.tables.specs.Working.{moves_in};
 ghost use Rattle.labels.specs.Labels.{pairing};
 ghost use Rattle.dividing.specs.Working.{disjuncts_of, alone_in, shaken_in};
 
-use labels::label::{Label, Labels, Partner};
+use labels::label::{Label, Labels};
 use tables::leaving::rows_leaving;
 
 // Lists the disjuncts of forward by a label (operator 5) or by idle (7), where the known half ends in this state: an
@@ -47,16 +47,15 @@ fn list_alone(rows: &[u8], label: Label, out: &mut [u8]) -> usize
     ensures value { result ≡ length (alone_in label.0 (moves_in rows.now)) }
     ensures out_after { out.new ≡ in_front (alone_in label.0 (moves_in rows.now)) out.old }
 {
-    if rows.len() < 3 {
-        return 0;
+    let mut n = 0;
+    for row in rows.chunks_exact(3) {
+        let moved = Label(row[1]);
+        if moved == label {
+            put_disjunct(&mut out[n..], 7, Label::SILENT, moved, row[2]);
+            n += 4;
+        }
     }
-    let moved = Label(rows[1]);
-    if moved.0 != label.0 {
-        return list_alone(&rows[3..], label, out);
-    }
-    put_disjunct(out, 7, Label::SILENT, moved, rows[2]);
-    let n = list_alone(&rows[3..], label, &mut out[4..]);
-    4 + n
+    n
 }
 
 // Lists a disjunct for each row whose label has a partner: the known half takes its part in a handshake, the other
@@ -67,21 +66,19 @@ fn list_shaken(labels: Labels, rows: &[u8], out: &mut [u8]) -> usize
     ensures out_after { out.new
         ≡ in_front (shaken_in (pairing labels) (moves_in rows.now)) out.old }
 {
-    if rows.len() < 3 {
-        return 0;
-    }
-    let moved = Label(rows[1]);
-    match labels.partner(moved) {
-        Partner::Label(partner) => {
-            put_disjunct(out, 5, partner, moved, rows[2]);
-            let n = list_shaken(labels, &rows[3..], &mut out[4..]);
-            4 + n
+    let mut n = 0;
+    for row in rows.chunks_exact(3) {
+        let moved = Label(row[1]);
+        if let Some(partner) = labels.partner(moved) {
+            put_disjunct(&mut out[n..], 5, partner, moved, row[2]);
+            n += 4;
         }
-        Partner::Nobody => list_shaken(labels, &rows[3..], out),
     }
+    n
 }
 
 // Writes one disjunct.
+#[tactic(auto, using(labels::proofs::Outputs::put_four))]
 fn put_disjunct(out: &mut [u8], operator: u8, label: Label, step: Label, target: u8)
     requires { 4 ≤ length out.old }
     ensures { out.new ≡ in_front (operator ∷ label.0 ∷ step.0 ∷ target ∷ []) out.old }

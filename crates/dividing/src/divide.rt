@@ -1,6 +1,5 @@
 // The quotient of a question by a half run of one table.
-ghost use Rattle.std.specs.Prelude.{◌≡◌, true, length};
-ghost use Rattle.labels.specs.declared.refusal.Check.TheVariants.{Sound};
+ghost use Rattle.std.specs.Prelude.{◌≡◌, true, length, Ok};
 ghost use Rattle.tables.specs.Tables.{SoundTable};
 ghost use Rattle.halves.specs.Halves.{half_of, is_half_run};
 ghost use Rattle.formulas.specs.Formulas.{Legal, question_limit};
@@ -15,15 +14,8 @@ use formulas::sizes::tree_sizes;
 use halves::half::check_half;
 use labels::copying::copy;
 use labels::label::Labels;
-use labels::refusal::{Check, Refusal};
+use labels::refusal::Refusal;
 use tables::check::check_table;
-
-// How many bytes a quotient has.
-#[derive(Clone, Copy)]
-pub enum Quotient {
-    Written(usize),
-    Refused(Refusal),
-}
 
 // Writes the quotient of a question by a half run of a table: 4, the table's numbers, 9 and 10, 15, then 17 and 18.
 pub fn divide(
@@ -32,7 +24,7 @@ pub fn divide(
     half: &[u8],
     question: &[u8],
     out: &mut [u8],
-) -> Quotient
+) -> Result<usize, Refusal>
     ensures value { result ≡ answer_of (check_division labels table.now half.now question.now)
         (quotient_by labels table.now (half_of half.now) question.now)
         (length out.old) }
@@ -41,26 +33,22 @@ pub fn divide(
         (quotient_by labels table.now (half_of half.now) question.now)
         out.old }
 {
-    match check_division(labels, table, half, question) {
-        Check::Sound => {}
-        Check::Refused(refusal) => return Quotient::Refused(refusal),
-    }
+    check_division(labels, table, half, question)?;
     write_quotient(labels, table, half, question, out)
 }
 
 // What a division judges, in order. Where nothing is refused the table is judged once.
-fn check_division(labels: Labels, table: &[u8], half: &[u8], question: &[u8]) -> Check
+fn check_division(labels: Labels, table: &[u8], half: &[u8], question: &[u8]) -> Result<(), Refusal>
     ensures { result ≡ check_division labels table.now half.now
         question.now }
 {
-    match labels.check() {
-        Check::Sound => {}
-        Check::Refused(refusal) => return Check::Refused(refusal),
+    labels.check()?;
+    if let Err(refusal) = check_formula(labels, 64, question) {
+        // The table's numbers come before the question's.
+        check_table(labels, table)?;
+        return Err(refusal);
     }
-    match check_formula(labels, 64, question) {
-        Check::Sound => check_half(labels, table, half),
-        Check::Refused(refusal) => check_table(labels, table).then(Check::Refused(refusal)),
-    }
+    check_half(labels, table, half)
 }
 
 // Counts the nodes first, whatever output is lent (17), then looks at the output's length (18), then writes; where
@@ -72,15 +60,15 @@ fn write_quotient(
     half: &[u8],
     question: &[u8],
     out: &mut [u8],
-) -> Quotient
+) -> Result<usize, Refusal>
     requires sound_table { SoundTable labels table.now }
     requires half_value { is_half_run table.now half.now ≡ true }
     requires legal { Legal labels question_limit question.now }
-    ensures value { result ≡ answer_of Sound
+    ensures value { result ≡ answer_of (Ok tt)
         (quotient_by labels table.now (half_of half.now) question.now)
         (length out.old) }
     ensures out_after { out.new
-        ≡ output_after Sound
+        ≡ output_after (Ok tt)
         (quotient_by labels table.now (half_of half.now) question.now)
         out.old }
 {
@@ -89,27 +77,23 @@ fn write_quotient(
     copy(half, &mut run);
     let mut sizes = [0usize; 64];
     tree_sizes(question, &mut sizes);
-    if surely_fits(question, out.len()) {
-        let n = write_tree(labels, table, &sizes, &mut run, len, question, out);
-        return Quotient::Written(n);
+    if !surely_fits(question, out.len()) {
+        let nodes = count_tree(labels, table, &sizes, &mut run, len, question, 4096);
+        let too_large = 4096 < nodes;
+        if too_large {
+            return Err(Refusal::QuotientTooLarge);
+        }
+        if out.len() < 2 * nodes {
+            return Err(Refusal::OutputTooShort);
+        }
     }
-    let nodes = count_tree(labels, table, &sizes, &mut run, len, question, 4096);
-    if 4096 < nodes {
-        return Quotient::Refused(Refusal::QuotientTooLarge);
-    }
-    if out.len() < 2 * nodes {
-        return Quotient::Refused(Refusal::OutputTooShort);
-    }
-    let n = write_tree(labels, table, &sizes, &mut run, len, question, out);
-    Quotient::Written(n)
+    Ok(write_tree(labels, table, &sizes, &mut run, len, question, out))
 }
 
 // Is the quotient sure to fit? That of a question without forward modalities has no more nodes than the question.
+#[tactic(auto, unfolding(crate::specs::Working::surely_fits))]
 fn surely_fits(question: &[u8], room: usize) -> bool
     ensures { result ≡ surely_fits question.now room }
 {
-    if room < question.len() {
-        return false;
-    }
-    count_forwards(question) == 0
+    question.len() <= room && count_forwards(question) == 0
 }

@@ -7,7 +7,7 @@ ghost use Rattle.formulas.specs.Operators.{is_forward, is_modality};
 ghost use Rattle.dividing.specs.Working.{Ready, Listed, text, texts, first_text};
 
 use crate::disjuncts::list_disjuncts;
-use crate::node::{Past, past_node, put_node};
+use crate::node::{past_node, put_node};
 use formulas::node::{is_forward, is_modality};
 use labels::label::{Label, Labels};
 
@@ -78,13 +78,12 @@ fn write_modal(
     }
     let bytes: &[u8] = run;
     match past_node(labels, operator, Label(f[1]), &bytes[..len]) {
-        Past::Node(node) => {
-            let label = node.label;
-            put_node(out, node.operator, label.0);
+        Some(node) => {
+            put_node(out, node.operator, node.label.0);
             let n = write_tree(labels, table, sizes, run, len - 2, &f[2..], &mut out[2..]);
             2 + n
         }
-        Past::Fails => {
+        None => {
             put_node(out, 1, 0);
             2
         }

@@ -12,17 +12,17 @@ use Rattle.halves.specs.declared.side.Side.TheVariants as side
 use Rattle.records.proofs.RecordLaws.{Bytes}
 use Rattle.casebook.specs.Reading.{read_of, read_answer}
 use Rattle.casebook.specs.declared.read.Parts.{Parts}
-use Rattle.casebook.specs.declared.read.Reading.{Reading}
-use Rattle.casebook.specs.declared.read.Reading.TheVariants as reading
 use Rattle.casebook.proofs.RoundTrip.{placing}
 use Rattle.labels.proofs.Answers.{Within, within_at}
 use Rattle.aldebaran.specs.Reading as text-reading
-use Rattle.aldebaran.specs.declared.read.TableRead.{TableRead}
-use Rattle.aldebaran.specs.declared.read.TableRead.TheVariants as table-read
 use Rattle.aldebaran.proofs.Values as text-values
 use Rattle.engine.specs.declared.sheet.LinesAnswer.{LinesAnswer}
 use Rattle.engine.specs.Answers.{packed, only, place_at, place_in, lines_told, side_of}
 use Rattle.engine.specs.Working.{Placed, places_of}
+use Rattle.aldebaran.specs.declared.read.ReadTable.{ReadTable}
+use Rattle.std.specs.Prelude.{Ok, Result}
+use Rattle.std.specs.Int.{from_bool}
+use Rattle.verdict.specs.Verdicts.{bit_of}
 
 -- values alone tell no number
 packed-given : (tell : List ℕ → ℕ) (ns : List ℕ) → tell ns ≡ packed tell (giving ns)
@@ -56,15 +56,15 @@ module _ {A : Type 0} (f : A → Answer) {x r b : A} (promise : x ≡ r) (found 
   lines_refused y e h = rw (← same_answer, e, h)
 
 -- a table that was read, and its first state, are small
-pub table_small : (text : List ℕ) (room n first : ℕ) (x : TableRead) → x ≡ text-reading.read_of text room
-    → x ≡ table-read.Table n first → (n ≤ 1537) × (first ≤ 1537)
+pub table_small : (text : List ℕ) (room n first : ℕ) (x : Result ReadTable Refusal) → x ≡ text-reading.read_of text room
+    → x ≡ text-reading.gives_table n first → (n ≤ 1537) × (first ≤ 1537)
 unfolding text-reading.table_answer
 table_small text room n first x e f =
     let w : Within 1537 (n ∷ first ∷ []) = rw (sym e ∙ f) at (text-values.read_within text room) in
     (within_at w 0, within_at w 1)
 
 -- the records of a casebook that was read lie within as many bytes as the longest has
-pub placed : (s : List ℕ) → Bytes s → (x : Reading) (p : Parts) → x ≡ read_of s → x ≡ reading.Casebook p → Placed p
+pub placed : (s : List ℕ) → Bytes s → (x : Result Parts Refusal) (p : Parts) → x ≡ read_of s → x ≡ Ok p → Placed p
 placed s bytes x p e f =
     let w = placing s bytes p (sym e ∙ f) in
     record {
@@ -126,3 +126,9 @@ right_named b e = rw e
 pub none_named : (b : ℕ) → (b ≡ 1 → ⊥) → (b ≡ 2 → ⊥) → side.Unnamed ≡ side_of b
 unfolding side_of
 none_named b x y = rw (ne_eqb _ _ x, ne_eqb _ _ y)
+
+-- a bool as a number is its bit
+pub bit_told : (b : Bool) {n : ℕ} → n ≡ from_bool b → n ≡ bit_of b
+unfolding bit_of
+bit_told true e = e
+bit_told false e = e

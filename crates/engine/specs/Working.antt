@@ -1,12 +1,11 @@
 -- How the code works: what functions ask for and promise that serve others. No call's promise cites this file.
-use Rattle.std.specs.Prelude.{ℕ, ◌+◌, ◌≤◌, List}
+use Rattle.std.specs.Prelude.{ℕ, ◌+◌, ◌≤◌, List, Ok}
 use Rattle.casebook.specs.Reading.{longest_casebook, read_answer}
 use Rattle.casebook.specs.declared.read.Parts.{Parts}
-use Rattle.casebook.specs.declared.read.Reading.TheVariants.{Casebook}
 
 -- the values of a casebook that was read
 abbrev pub places_of : Parts → List ℕ
-places_of p = (read_answer (Casebook p)).values
+places_of p = (read_answer (Ok p)).values
 
 -- records that lie in a sound casebook
 pub record Placed (p : Parts) : Type 0 where

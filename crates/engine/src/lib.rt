@@ -7,12 +7,12 @@ pub mod texts;
 
 ghost use Rattle.std.specs.Prelude.{◌≡◌, ◌+◌, ◌*◌, ◌≤◌, length};
 ghost use Rattle.labels.specs.Labels.{of_pairs};
-ghost use Rattle.labels.specs.Refusals.{refused_as};
+ghost use Rattle.labels.specs.Refusals.{refused_as, value_answer};
 ghost use Rattle.halves.specs.Cuts.{cut_of};
 ghost use Rattle.machines.specs.Cases.{case_with};
 ghost use Rattle.casebook.specs.Reading.{longest_casebook, read_of, read_answer};
 ghost use Rattle.casebook.specs.Writing.{write_of, written_of, write_answer};
-ghost use Rattle.verdict.specs.Verdicts.{joint_verdict, half_verdict, verdict_answer, bit_of};
+ghost use Rattle.verdict.specs.Verdicts.{joint_verdict, half_verdict, verdict_answer};
 ghost use Rattle.splitting.specs.Splittings.{count_of, count_answer, split_of, split_answer, left_output, right_output};
 ghost use Rattle.joining.specs.Joinings.{joining_of, join_output, join_answer};
 ghost use Rattle.dividing.specs.Quotients.{quotient_answer};
@@ -20,20 +20,18 @@ ghost use Rattle.quotient.specs.Calls.{by_half, by_half_output, by_number, by_nu
 ghost use Rattle.engine.specs.Answers.{packed, nothing, only, two_bits, place_in, side_of};
 ghost use Rattle.engine.specs.Working.{Placed, places_of};
 
-use casebook::read::{Parts, Reading, read};
-use casebook::write::{Writing, write};
-use dividing::divide::Quotient;
+use casebook::read::{Parts, read};
+use casebook::write::write;
 use halves::side::{Side, cut};
-use joining::join::{Joining, join};
+use joining::join::join;
 use labels::label::Labels;
 use labels::refusal::Refusal;
 use quotient::half::by_half;
-use quotient::line::{LineOffice, line_office};
+use quotient::line::line_office;
 use quotient::number::by_number;
 use records::record::Record;
-use splitting::count::{Counted, count};
-use splitting::split::{Splitting, split};
-use verdict::answer::Verdict;
+use splitting::count::count;
+use splitting::split::split;
 use verdict::half::half;
 use verdict::joint::joint;
 
@@ -41,8 +39,17 @@ use verdict::joint::joint;
 pub(crate) fn refused(refusal: Refusal) -> u64
     ensures { result ≡ packed only (refused_as refusal) }
 {
-    let number = refusal.number();
-    number as u64 * 4294967296
+    refusal.number() as u64 * 4294967296
+}
+
+// What a call gives, as a number.
+pub(crate) fn value(answer: Result<usize, Refusal>) -> u64
+    ensures { result ≡ packed only (value_answer answer) }
+{
+    match answer {
+        Ok(n) => n as u64,
+        Err(refusal) => refused(refusal),
+    }
 }
 
 // Reads a casebook: value 0.
@@ -51,8 +58,8 @@ pub extern "C" fn yenuslap_casebook_read(bytes: &[u8]) -> u64
     ensures { result ≡ packed nothing (read_answer (read_of bytes.now)) }
 {
     match read(bytes) {
-        Reading::Casebook(_) => 0,
-        Reading::Refused(refusal) => refused(refusal),
+        Ok(_) => 0,
+        Err(refusal) => refused(refusal),
     }
 }
 
@@ -62,8 +69,8 @@ pub extern "C" fn yenuslap_casebook_part(bytes: &[u8], kind: u8) -> u64
     ensures { result ≡ packed (place_in kind) (read_answer (read_of bytes.now)) }
 {
     match read(bytes) {
-        Reading::Casebook(parts) => place_in(parts, kind),
-        Reading::Refused(refusal) => refused(refusal),
+        Ok(parts) => place_in(parts, kind),
+        Err(refusal) => refused(refusal),
     }
 }
 
@@ -71,31 +78,21 @@ fn place_in(parts: Parts, kind: u8) -> u64
     requires { Placed parts }
     ensures { result ≡ place_in kind (places_of parts) }
 {
-    if kind == 1 {
-        return place(parts.labels);
+    match kind {
+        1 => place(parts.labels),
+        2 => place(parts.left),
+        3 => place(parts.right),
+        4 => place(parts.run),
+        5 => place(parts.question),
+        _ => 0,
     }
-    if kind == 2 {
-        return place(parts.left);
-    }
-    if kind == 3 {
-        return place(parts.right);
-    }
-    if kind == 4 {
-        return place(parts.run);
-    }
-    if kind == 5 {
-        return place(parts.question);
-    }
-    0
 }
 
 fn place(record: Record) -> u64
     requires { «record».start + «record».len ≤ longest_casebook }
     ensures { result ≡ «record».start * 65536 + «record».len }
 {
-    let start = record.start;
-    let len = record.len;
-    start as u64 * 65536 + len as u64
+    record.start as u64 * 65536 + record.len as u64
 }
 
 // Writes the casebook of these parts: value bytes written.
@@ -118,23 +115,18 @@ pub extern "C" fn yenuslap_casebook_write(
         out.old }
 {
     let labels = Labels::of_pairs(k);
-    match write(labels, left, right, run, question, out) {
-        Writing::Written(n) => n as u64,
-        Writing::Refused(refusal) => refused(refusal),
-    }
+    value(write(labels, left, right, run, question, out))
 }
 
 // The side that a byte names.
 fn side_of(side: u8) -> Side
     ensures { result ≡ side_of side }
 {
-    if side == 1 {
-        return Side::Left;
+    match side {
+        1 => Side::Left,
+        2 => Side::Right,
+        _ => Side::Unnamed,
     }
-    if side == 2 {
-        return Side::Right;
-    }
-    Side::Unnamed
 }
 
 // Cuts the known half at a point: the length of the part, 0 where it is refused (12).
@@ -142,18 +134,16 @@ fn side_of(side: u8) -> Side
 pub extern "C" fn yenuslap_cut<'a>(left: &'a [u8], right: &'a [u8], side: u8, point: usize) -> usize
     ensures { result ≡ length (cut_of left.now right.now (side_of side) point) }
 {
-    let part = cut(left, right, side_of(side), point);
-    part.len()
+    cut(left, right, side_of(side), point).len()
 }
 
 // A verdict as a number: 1 holds, 0 fails.
-fn verdict_value(verdict: Verdict) -> u64
+fn verdict_value(verdict: Result<bool, Refusal>) -> u64
     ensures { result ≡ packed only (verdict_answer verdict) }
 {
     match verdict {
-        Verdict::Holds => 1,
-        Verdict::Fails => 0,
-        Verdict::Refused(refusal) => refused(refusal),
+        Ok(holds) => u64::from(holds),
+        Err(refusal) => refused(refusal),
     }
 }
 
@@ -198,10 +188,7 @@ pub extern "C" fn yenuslap_count_splittings(k: u8, left: &[u8], right: &[u8], ru
         (count_of (of_pairs k) left.now right.now run.now)) }
 {
     let labels = Labels::of_pairs(k);
-    match count(labels, left, right, run) {
-        Counted::Splittings(n) => n as u64,
-        Counted::Refused(refusal) => refused(refusal),
-    }
+    value(count(labels, left, right, run))
 }
 
 // Writes the halves of the splitting of a number: value length of each half.
@@ -226,10 +213,7 @@ pub extern "C" fn yenuslap_split(
         (length left_out.old) right_out.old }
 {
     let labels = Labels::of_pairs(k);
-    match split(labels, left, right, run, number, left_out, right_out) {
-        Splitting::Halves(n) => n as u64,
-        Splitting::Refused(refusal) => refused(refusal),
-    }
+    value(split(labels, left, right, run, number, left_out, right_out))
 }
 
 // Writes the joint run that two halves give: value its length.
@@ -250,20 +234,7 @@ pub extern "C" fn yenuslap_join(
         left_half.now right_half.now out.old }
 {
     let labels = Labels::of_pairs(k);
-    match join(labels, left, right, left_half, right_half, out) {
-        Joining::Joined(n) => n as u64,
-        Joining::Refused(refusal) => refused(refusal),
-    }
-}
-
-// A quotient that was written, as a number: its length in bytes.
-fn quotient_value(quotient: Quotient) -> u64
-    ensures { result ≡ packed only (quotient_answer quotient) }
-{
-    match quotient {
-        Quotient::Written(n) => n as u64,
-        Quotient::Refused(refusal) => refused(refusal),
-    }
+    value(join(labels, left, right, left_half, right_half, out))
 }
 
 // Writes the quotient of a question by the known one of two halves, stopped at a point: value bytes written.
@@ -290,7 +261,7 @@ pub extern "C" fn yenuslap_quotient<'a>(
 {
     let labels = Labels::of_pairs(k);
     let side = side_of(side);
-    quotient_value(by_half(
+    value(by_half(
         labels, left, right, left_half, right_half, question, side, point, out,
     ))
 }
@@ -318,17 +289,7 @@ pub extern "C" fn yenuslap_quotient_of_splitting<'a>(
 {
     let labels = Labels::of_pairs(k);
     let side = side_of(side);
-    quotient_value(by_number(labels, left, right, run, question, number, side, point, out))
-}
-
-// A verdict as a bit.
-fn bit(holds: bool) -> u64
-    ensures { result ≡ bit_of holds }
-{
-    if holds {
-        return 1;
-    }
-    0
+    value(by_number(labels, left, right, run, question, number, side, point, out))
 }
 
 // Puts a question to the whole line and to one machine, at a point: value 2 * the line's verdict + the machine's.
@@ -353,7 +314,7 @@ pub extern "C" fn yenuslap_line_office<'a>(
     match line_office(
         labels, left, right, left_half, right_half, question, side, point,
     ) {
-        LineOffice::Verdicts(line, machine) => 2 * bit(line) + bit(machine),
-        LineOffice::Refused(refusal) => refused(refusal),
+        Ok((line, machine)) => 2 * u64::from(line) + u64::from(machine),
+        Err(refusal) => refused(refusal),
     }
 }

@@ -3,7 +3,7 @@ ghost use Rattle.std.specs.Prelude.{◌≡◌, length};
 ghost use Rattle.sheet_lines.specs.Sheets.{lines_due, block_answer, block_output, lines_answer};
 ghost use Rattle.engine.specs.Answers.{lines_told};
 
-use sheet_lines::lines::{Lines, write_lines};
+use sheet_lines::lines::write_lines;
 
 // The refusal's number, or 0; how many lines were written, and how many bytes they are.
 #[repr(C)]
@@ -27,12 +27,12 @@ pub extern "C" fn yenuslap_sheet_lines(
     ensures out_after { out.new ≡ block_output (lines_due casebook.now first most) out.old }
 {
     match write_lines(casebook, first, most, out) {
-        Lines::Written(block) => LinesAnswer {
+        Ok(block) => LinesAnswer {
             refusal: 0,
             lines: block.lines as u64,
             bytes: block.bytes as u64,
         },
-        Lines::Refused(refusal) => LinesAnswer {
+        Err(refusal) => LinesAnswer {
             refusal: refusal.number() as u64,
             lines: 0,
             bytes: 0,

@@ -4,9 +4,9 @@ ghost use Rattle.aldebaran.specs.Reading.{read_of, table_output, table_answer};
 ghost use Rattle.aldebaran_writing.specs.Writing.{write_of, text_output, text_answer};
 ghost use Rattle.engine.specs.Answers.{packed, only, table_told};
 
-use crate::refused;
-use aldebaran::read::{TableRead, read};
-use aldebaran_writing::write::{TextWriting, write};
+use crate::{refused, value};
+use aldebaran::read::read;
+use aldebaran_writing::write::write;
 
 // Reads a text and writes its table: value first state * 65536 + the table's length.
 #[unsafe(no_mangle)]
@@ -16,8 +16,8 @@ pub extern "C" fn yenuslap_aldebaran_read(text: &[u8], table_out: &mut [u8]) -> 
     ensures table_out_after { table_out.new ≡ table_output text.now table_out.old }
 {
     match read(text, table_out) {
-        TableRead::Table { len, first } => first as u64 * 65536 + len as u64,
-        TableRead::Refused(refusal) => refused(refusal),
+        Ok(table) => table.first as u64 * 65536 + table.len as u64,
+        Err(refusal) => refused(refusal),
     }
 }
 
@@ -28,8 +28,5 @@ pub extern "C" fn yenuslap_aldebaran_write(table: &[u8], first: usize, out: &mut
         (write_of table.now first (length out.old))) }
     ensures out_after { out.new ≡ text_output table.now first out.old }
 {
-    match write(table, first, out) {
-        TextWriting::Written(n) => n as u64,
-        TextWriting::Refused(refusal) => refused(refusal),
-    }
+    value(write(table, first, out))
 }

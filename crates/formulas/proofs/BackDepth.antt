@@ -2,7 +2,6 @@
 use Prim.Native.Nat.{ℕ, ◌≤◌}
 use mathlib.Core.Path.{◌≡◌, ◌∙◌, ap}
 use mathlib.Core.List.{List, []}
-use mathlib.Core.Option.{none}
 use native.Mathlib.Omega.{arith}
 use lib.ListN.{length}
 use Rattle.hml.specs.Formula.{Formula}
@@ -13,9 +12,10 @@ use Rattle.formulas.specs.Working.{backs_in, backs_of, measure_of}
 use Rattle.formulas.specs.declared.tree.Measure.{Measure}
 use Rattle.formulas.proofs.Measures.{measure_spell, depths_size}
 use Rattle.formulas.proofs.Checking.{formula_spell, formula_length}
+use Rattle.std.specs.Prelude.{None}
 
 module _ (f : List ℕ) where
-  pub no_backs : formula_of f ≡ none → (0 ≡ backs_of f) × (0 ≤ length f)
+  pub no_backs : formula_of f ≡ None → (0 ≡ backs_of f) × (0 ≤ length f)
   unfolding backs_of backs_in
   no_backs e = (rw e, omega arith)
 

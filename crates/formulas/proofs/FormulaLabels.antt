@@ -1,37 +1,32 @@
 -- The label bytes of a formula: no label is above n exactly if no label byte is.
-use Prim.Native.Nat.{ℕ, ◌≤◌, ◌<◌}
+use Prim.Native.Nat.{ℕ, ◌<◌}
 use mathlib.Core.Path.{◌≡◌, refl, sym, ◌∙◌, ap}
-use mathlib.Core.Bool.{Bool, true, false, ◌&&◌, and_assoc}
-use mathlib.Core.List.{List, [], ◌∷◌}
+use mathlib.Core.Bool.{true, ◌&&◌, and_assoc}
+use mathlib.Core.List.{List, [], ◌∷◌, ◌++◌}
 use native.Mathlib.Omega.{arith}
-use lib.ListN.{length, get_or, drop}
+use lib.ListN.{length, get_or}
 use lib.Dec.{leb}
 use borrow.Author.Tests.{le-leb}
-use Rattle.labels.proofs.Slices.{rest, rest_of}
 use Rattle.hml.specs.Formula.{Formula, top, bottom, not, and, or, fwd, back, fwd_idle, back_idle, labelled}
 use Rattle.hml.specs.Spell.{spell}
 use Rattle.formulas.specs.Working.{labels_fit}
 
 module _ (n : ℕ) where
-  first-label : (bs : List ℕ) → 2 ≤ length bs → labels_fit n bs ≡ (leb (get_or bs 1 0) n && labels_fit n (drop 2 bs))
+  -- the first node and those behind it
+  pub node_label : (bs node next : List ℕ) → bs ≡ node ++ next → length node ≡ 2
+      → labels_fit n bs ≡ (leb (get_or node 1 0) n && labels_fit n next)
   unfolding labels_fit
-  first-label [] h = absurd (omega arith)
-  first-label (o ∷ []) h = absurd (omega arith)
-  first-label (o ∷ a ∷ bs) h = refl
+  node_label bs [] next e h = absurd (omega arith)
+  node_label bs (o ∷ []) next e h = absurd (omega arith)
+  node_label bs (o ∷ a ∷ []) next e h = ap (labels_fit n) e
+  node_label bs (o ∷ a ∷ b ∷ node) next e h = absurd (omega arith)
 
-  pub label_above : (x : Bool) (bs : List ℕ) → 2 ≤ length bs → x ≡ labels_fit n bs → leb (get_or bs 1 0) n ≡ false
-      → false ≡ x
-  label_above x bs h e f = sym (e ∙ first-label bs h ∙ rw f)
-
-  pub label-fits : (x : Bool) (bs : List ℕ) → 2 ≤ length bs → x ≡ labels_fit n bs → leb (get_or bs 1 0) n ≡ true
-      → x ≡ labels_fit n (rest 2 bs)
-  label-fits x bs h e f = rw (rest_of 2 bs) (e ∙ first-label bs h ∙ rw f)
-
-  pub no_label-left : (x : Bool) (bs : List ℕ) → length bs < 2 → x ≡ labels_fit n bs → true ≡ x
+  -- no node is left
+  pub no_label : (bs : List ℕ) → length bs < 2 → labels_fit n bs ≡ true
   unfolding labels_fit
-  no_label-left x [] h e = sym e
-  no_label-left x (o ∷ []) h e = sym e
-  no_label-left x (o ∷ a ∷ bs) h e = absurd (omega arith)
+  no_label [] h = refl
+  no_label (o ∷ []) h = refl
+  no_label (o ∷ a ∷ bs) h = absurd (omega arith)
 
   zero-fits : leb 0 n ≡ true
   zero-fits = le-leb 0 n (omega arith)

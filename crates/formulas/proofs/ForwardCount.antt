@@ -1,53 +1,42 @@
 -- The count of forward modalities: node by node, and against the depth to which they nest.
-use Prim.Native.Nat.{ℕ, ◌+◌, ◌≤◌, ◌<◌}
-use mathlib.Core.Path.{◌≡◌, refl, sym, ap}
-use mathlib.Core.Bool.{true, false}
-use mathlib.Core.List.{List, [], ◌∷◌}
+use Prim.Native.Nat.{ℕ, suc, ◌+◌, ◌≤◌, ◌<◌}
+use mathlib.Core.Path.{◌≡◌, refl, ap}
+use mathlib.Core.Bool.{Bool, true, false, cond}
+use mathlib.Core.List.{List, [], ◌∷◌, ◌++◌}
 use native.Mathlib.Omega.{arith}
 use lib.ListN.{length, get_or}
-use Rattle.labels.proofs.Slices.{rest, rest_of, rest_length}
 use Rattle.hml.specs.Formula.{Formula, top, bottom, not, and, or, fwd, back, fwd_idle, back_idle, nesting}
 use Rattle.hml.specs.Spell.{spell}
 use Rattle.formulas.specs.Operators.{is_forward}
 use Rattle.formulas.specs.Working.{forwards_in, Tree, tree_of}
-use Rattle.formulas.proofs.Measures.{forward}
 use Rattle.formulas.proofs.Operators.{tree-spell}
 
--- the count so far, and those in the bytes that are left; no more were counted than bytes were read
-abbrev pub Counting : List ℕ → ℕ → List ℕ → Type 0
-Counting f n bs = (n + forwards_in bs ≡ forwards_in f) × (n + length bs ≤ length f)
-
 -- the first node and those behind it
-first-forward : (bs : List ℕ) → 2 ≤ length bs → forwards_in bs ≡ forward bs + forwards_in (rest 2 bs)
+pub node_forwards : (bs node next : List ℕ) → bs ≡ node ++ next → length node ≡ 2
+    → forwards_in bs ≡ cond (is_forward (get_or node 0 0)) 1 0 + forwards_in next
 unfolding forwards_in
-first-forward [] h = absurd (omega arith)
-first-forward (o ∷ []) h = absurd (omega arith)
-first-forward (o ∷ a ∷ bs) h = ap (λ l. forward (o ∷ a ∷ bs) + forwards_in l) (sym (rest_of 2 (o ∷ a ∷ bs)))
+node_forwards bs [] next e h = absurd (omega arith)
+node_forwards bs (o ∷ []) next e h = absurd (omega arith)
+node_forwards bs (o ∷ a ∷ []) next e h = ap forwards_in e
+node_forwards bs (o ∷ a ∷ b ∷ node) next e h = absurd (omega arith)
 
-module _ (f : List ℕ) where
-  -- nothing is counted before the first byte
-  pub count-start : Counting f 0 f
-  count-start = omega arith
+-- no node is left
+pub no_forwards : (bs : List ℕ) → length bs < 2 → forwards_in bs ≡ 0
+unfolding forwards_in
+no_forwards [] h = refl
+no_forwards (o ∷ []) h = refl
+no_forwards (o ∷ a ∷ bs) h = absurd (omega arith)
 
-  module _ (n : ℕ) (bs : List ℕ) (so : Counting f n bs) where
-    -- a node that looks forward, and one that does not
-    pub count-forward : 2 ≤ length bs → is_forward (get_or bs 0 0) ≡ true → (m : ℕ) → m ≡ n + 1
-        → Counting f m (rest 2 bs)
-    count-forward h e m q = omega (arith, so, rw e at (first-forward bs h), rest_length 2 bs, q)
-
-    pub count_other : 2 ≤ length bs → is_forward (get_or bs 0 0) ≡ false → (m : ℕ) → m ≡ n
-        → Counting f m (rest 2 bs)
-    count_other h e m q = omega (arith, so, rw e at (first-forward bs h), rest_length 2 bs, q)
-
-    -- no node is left
-    pub count_end : length bs < 2 → n ≡ forwards_in f
-    unfolding forwards_in
-    count_end h = omega (arith, so, none bs h)
-      where
-        none : (bs : List ℕ) → length bs < 2 → forwards_in bs ≡ 0
-        none [] h = refl
-        none (o ∷ []) h = refl
-        none (o ∷ a ∷ bs) h = absurd (omega arith)
+-- there are no more of them than bytes
+pub forwards_few : (bs : List ℕ) → forwards_in bs ≤ length bs
+unfolding forwards_in
+forwards_few [] = omega arith
+forwards_few (o ∷ []) = omega arith
+forwards_few (o ∷ a ∷ bs) = go (is_forward o) (forwards_few bs)
+  where
+    go : (b : Bool) → forwards_in bs ≤ length bs → cond b 1 0 + forwards_in bs ≤ suc (suc (length bs))
+    go true h = omega arith
+    go false h = omega arith
 
 -- the forward modalities of a formula nest no deeper than there are of them
 pub spelled-nesting : (φ : Formula) (bs : List ℕ) → nesting φ + forwards_in bs ≤ forwards_in (spell φ bs)

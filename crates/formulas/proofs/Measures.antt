@@ -1,7 +1,8 @@
 -- The measure of a tree by its first node: the second operand begins where the first one ends.
 use Prim.Native.Nat.{ℕ, ◌+◌, ◌*◌, ◌≤◌, max}
 use mathlib.Core.Path.{◌≡◌, refl, sym, ◌∙◌, ap}
-use mathlib.Core.Bool.{cond}
+use mathlib.Core.Bool.{Bool, true, false, cond}
+use mir.Val.{bool_byte}
 use mathlib.Core.List.{List, []}
 use native.Mathlib.Omega.{arith}
 use lib.ListN.{length, get_or, drop}
@@ -53,6 +54,11 @@ made_path e f g = rw (e, f, g)
 pub measure_spell : (φ : Formula) (rest : List ℕ) → measure_of (spell φ rest) ≡ made (2 * size φ) (nesting φ) (backs φ)
 unfolding measure_of measured_as
 measure_spell φ rest = rw (parse-spell φ rest)
+
+-- a test's answer as a number
+pub byte_told : (b : Bool) → (bool_byte b ≡ cond b 1 0) × (bool_byte b ≤ 1)
+byte_told true = (refl, omega arith)
+byte_told false = (refl, omega arith)
 
 -- 1 if the first node looks forward; 1 if it looks back
 abbrev pub forward : List ℕ → ℕ

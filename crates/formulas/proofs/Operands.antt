@@ -4,7 +4,6 @@ use mathlib.Core.Path.{◌≡◌, refl, sym, ◌∙◌, ap}
 use mathlib.Core.Logic.{◌⊎◌, inl, inr, ⊎_elim}
 use mathlib.Core.Bool.{Bool, true, false, cond, ◌&&◌, ◌||◌, or-false}
 use mathlib.Core.List.{List, []}
-use mathlib.Core.Option.{Option, none, some}
 use native.Mathlib.Omega.{arith}
 use lib.ListN.{length, get_or, drop, length-drop}
 use lib.Seq.{drop-drop}
@@ -27,6 +26,7 @@ use Rattle.formulas.proofs.Operators.{forward-label, forward-idle, back-label, b
 use Rattle.formulas.proofs.Operators.{forward-tree, back-tree}
 use Rattle.formulas.proofs.TreeSizes.{bad-size, size-spell, sized-room, sized-part, sized-first, sizes_over_lem}
 use Rattle.formulas.proofs.Checking.{formula_length}
+use Rattle.std.specs.Prelude.{None, Option, Some}
 
 -- an operator with two operands is "and" or "or"
 abbrev pub AndOr : ℕ → Type 0
@@ -161,9 +161,9 @@ module _ (f : List ℕ) (t : Tree f) where
   tree-operator = go (operator_of (get_or f 0 0)) refl
     where
       go : (w : Option Operator) → operator_of (get_or f 0 0) ≡ w → present (λ x. true) w ≡ true
-      go none e =
+      go None e =
           absurd (omega (arith, bad-size f (node_room f t) (rw e), tree-size f t, size-some (tree_of f)))
-      go (some x) e = refl
+      go (Some x) e = refl
 
   -- so it is true or false, a connective or a modality: what it is, by the tests that it failed
   any_class : (ltb (get_or f 0 0) 2 || (is_connective (get_or f 0 0) || is_modality (get_or f 0 0))) ≡ true

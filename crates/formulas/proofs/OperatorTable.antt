@@ -1,13 +1,12 @@
 -- The table of operators: that it agrees with the theory, and which numbers each of its tests picks.
 use Prim.Native.Nat.{ℕ, zero, suc, ◌+◌, ◌≤◌, ◌<◌, max}
-use mathlib.Core.Path.{◌≡◌, refl, sym}
-use mathlib.Core.Bool.{Bool, true, false, cond, ◌&&◌, ◌||◌, beq, false≢true, and-false}
+use mathlib.Core.Path.{◌≡◌, refl}
+use mathlib.Core.Bool.{Bool, true, false, cond, ◌&&◌, ◌||◌, beq, false≢true}
 use mathlib.Core.List.{List, [], ◌∷◌}
-use mathlib.Core.Option.{none}
 use native.Mathlib.Omega.{arith}
 use lib.ListN.{length, get_or}
 use lib.Dec.{eqb, ltb}
-use borrow.Author.Tests.{eqb-true, eqb-false, ltb-true, ltb-false, lt-ltb, le-ltb, ne_eqb}
+use borrow.Author.Tests.{eqb-true, eqb-false, ltb-true, ltb-false, le-ltb, ne_eqb}
 use Rattle.hml.proofs.Tests.{both_true}
 use Rattle.hml.specs.Formula.{Formula, top, bottom, not, and, or, fwd, back, fwd_idle, back_idle, nesting}
 use Rattle.hml.specs.Working.{backs}
@@ -15,24 +14,23 @@ use Rattle.hml.specs.Spell.{spell, Shape, leaf, unary, binary, bad, shape}
 use Rattle.formulas.specs.Operators.{operators, operator_of, is_operator, is_forward, is_back, is_modality}
 use Rattle.formulas.specs.Operators.{is_connective, takes_label}
 use Rattle.formulas.specs.Working.{node_by, node_of}
-use Rattle.formulas.specs.declared.node.Node.{Node}
-use Rattle.formulas.specs.declared.node.Node.TheVariants as node
+use Rattle.std.specs.Prelude.{None, Option, Some}
 
 -- what the theory makes of an operator and a label byte, by what the table says of them: a formula of so many operands,
 -- spelled by these two bytes and the operands; and a modality nests one deeper than its operand, the way that it looks
-pub data Agrees (o a : ℕ) : Node → Type 0 where
+pub data Agrees (o a : ℕ) : Option ℕ → Type 0 where
   none-due : (φ : Formula) → shape o a ≡ leaf φ → ((bs : List ℕ) → spell φ bs ≡ o ∷ a ∷ bs)
-      → (nesting φ ≡ 0) × (backs φ ≡ 0) → Agrees o a (node.Operands 0)
+      → (nesting φ ≡ 0) × (backs φ ≡ 0) → Agrees o a (Some 0)
   one-due : (g : Formula → Formula) → shape o a ≡ unary g
       → ((φ : Formula) (bs : List ℕ) → spell (g φ) bs ≡ o ∷ a ∷ spell φ bs)
       → ((φ : Formula) → (nesting (g φ) ≡ cond (is_forward o) 1 0 + nesting φ)
       × (backs (g φ) ≡ cond (is_back o) 1 0 + backs φ))
-      → Agrees o a (node.Operands 1)
+      → Agrees o a (Some 1)
   two_due : (g : Formula → Formula → Formula) → shape o a ≡ binary g
       → ((φ ψ : Formula) (bs : List ℕ) → spell (g φ ψ) bs ≡ o ∷ a ∷ spell φ (spell ψ bs))
       → ((φ ψ : Formula) → (nesting (g φ ψ) ≡ max (nesting φ) (nesting ψ)) × (backs (g φ ψ) ≡ max (backs φ) (backs ψ)))
-      → Agrees o a (node.Operands 2)
-  nothing : shape o a ≡ bad → Agrees o a node.Bad
+      → Agrees o a (Some 2)
+  nothing : shape o a ≡ bad → Agrees o a None
 
 pub agrees : (o a : ℕ) → Agrees o a (node_of o a)
 unfolding node_of node_by spell nesting backs is_forward is_back
@@ -56,23 +54,23 @@ agrees (suc (suc (suc (suc (suc (suc (suc (suc zero)))))))) (suc a) = nothing re
 agrees (suc (suc (suc (suc (suc (suc (suc (suc (suc o))))))))) a = nothing refl
 
 -- so the theory's shapes have the operands that the table says
-abbrev pub shape_node : Shape → Node
-shape_node (leaf φ) = node.Operands 0
-shape_node (unary f) = node.Operands 1
-shape_node (binary f) = node.Operands 2
-shape_node bad = node.Bad
+abbrev pub shape_node : Shape → Option ℕ
+shape_node (leaf φ) = Some 0
+shape_node (unary f) = Some 1
+shape_node (binary f) = Some 2
+shape_node bad = None
 
 pub shape_node_lem : (o a : ℕ) → node_of o a ≡ shape_node (shape o a)
 shape_node_lem o a = go (agrees o a)
   where
-    go : {n : Node} → Agrees o a n → n ≡ shape_node (shape o a)
+    go : {n : Option ℕ} → Agrees o a n → n ≡ shape_node (shape o a)
     go (none-due φ e s d) = rw e
     go (one-due g e s d) = rw e
     go (two_due g e s d) = rw e
     go (nothing e) = rw e
 
 -- no operator stands behind the table
-pub no_operator : (o : ℕ) → length operators ≤ o → operator_of o ≡ none
+pub no_operator : (o : ℕ) → length operators ≤ o → operator_of o ≡ None
 no_operator o h = go operators o h
   where
     go : {A : Type 0} {d : A} (l : List A) (o : ℕ) → length l ≤ o → get_or l o d ≡ d
@@ -139,9 +137,3 @@ module _ (o : ℕ) where
   unfolding is_operator is_connective is_modality is_forward is_back
   operator_numbers = by_table is_operator (λ o. ltb o 2 || (is_connective o || is_modality o)) o refl
       (λ h. rw (no_operator o h, le-ltb o 2 (omega (arith, h))))
-
-  -- true, false and the connectives stand before the modalities
-  pub no_modality : o < 5 → false ≡ is_modality o
-  unfolding is_modality is_forward is_back
-  no_modality h = sym (rw (lt-ltb o 5 h) at (by_table (λ o. ltb o 5 && is_modality o) (λ o. false) o refl
-      (λ l. rw (no_operator o l, and-false (ltb o 5)))))

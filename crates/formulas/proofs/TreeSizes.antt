@@ -4,7 +4,6 @@ use Prim.Native.Nat.{ℕ, zero, suc, ◌+◌, ◌-◌, ◌*◌, ◌/◌, ◌≤�
 use mathlib.Core.Path.{◌≡◌, refl, sym, ◌∙◌, ap}
 use mathlib.Core.Bool.{Bool, true, false}
 use mathlib.Core.List.{List, [], ◌∷◌, ◌++◌}
-use mathlib.Core.Option.{Option, none, some}
 use native.Mathlib.Omega.{arith}
 use lib.ListN.{length, get_or, take, drop, set, length-append, length-take, length-drop, drop_of_length-le}
 use lib.Seq.{take_all, take_at, take-take, take-suc, drop-cons, drop-drop, get_or_at, get_or-take, set_at, append_snoc}
@@ -16,11 +15,10 @@ use Rattle.hml.specs.Spell.{spell, Shape, leaf, unary, binary, bad, shape, next,
 use Rattle.hml.proofs.Spelling.{length-spell, parse-spell, parse_sound}
 use Rattle.formulas.specs.Working.{node_of, size_in, tree_size, sizes_of, sizes_over, Sized, Tree}
 use Rattle.formulas.specs.Working.{measure_of, operands_in, size_behind}
-use Rattle.formulas.specs.declared.node.Node.{Node}
-use Rattle.formulas.specs.declared.node.Node.TheVariants as node
 use Rattle.formulas.proofs.OperatorTable.{Agrees, none-due, one-due, two_due, nothing, agrees}
 use Rattle.formulas.proofs.OperatorTable.{shape_node, shape_node_lem}
 use Rattle.formulas.proofs.Measures.{spell-drop, size-some, measure_spell, first_operand, second_operand}
+use Rattle.std.specs.Prelude.{None, Option, Some}
 
 -- bytes that spell a tree have its size
 pub size-spell : (φ : Formula) (rest : List ℕ) → tree_size (spell φ rest) ≡ size φ
@@ -37,8 +35,8 @@ unfolding tree_size size_in Tree
 found f = go (parse f) refl
   where
     go : (t : Option (Formula × List ℕ)) → parse f ≡ t → Found f
-    go none e = treeless (rw e) (λ (φ, rest, s). let q = sym (parse-spell φ rest) ∙ ap parse (sym s) ∙ e in apart cc)
-    go (some (φ, rest)) e = tree φ rest (sym (parse_sound f φ rest e)) (rw e)
+    go None e = treeless (rw e) (λ (φ, rest, s). let q = sym (parse-spell φ rest) ∙ ap parse (sym s) ∙ e in apart cc)
+    go (Some (φ, rest)) e = tree φ rest (sym (parse_sound f φ rest e)) (rw e)
 
 module _ (f : List ℕ) where
   -- a tree has a size
@@ -78,7 +76,7 @@ module _ (f : List ℕ) where
   measured_size (φ, bs, s) = rw (s, measure_spell φ bs, size-spell φ bs)
 
 -- the first node of some bytes
-abbrev first : List ℕ → Node
+abbrev first : List ℕ → Option ℕ
 first f = node_of (get_or f 0 0) (get_or f 1 0)
 
 module _ (f : List ℕ) (room : 2 ≤ length f) where
@@ -96,23 +94,23 @@ module _ (f : List ℕ) (room : 2 ≤ length f) where
   spelled-size φ bs s = rw s (omega (arith, size-spell φ bs, length-spell φ bs))
 
   -- a bad node begins no tree
-  pub bad-size : node.Bad ≡ first f → 0 ≡ tree_size f
+  pub bad-size : None ≡ first f → 0 ≡ tree_size f
   unfolding tree_size size_in parse trees
   bad-size e =
       go (shape (get_or f 0 0) (get_or f 1 0)) (e ∙ shape_node_lem (get_or f 0 0) (get_or f 1 0)) ∙ ap tree_size (sym split)
     where
-      go : (s : Shape) → node.Bad ≡ shape_node s → 0 ≡ size_in (single (next s 0 (λ m. trees (drop 2 f) m)))
+      go : (s : Shape) → None ≡ shape_node s → 0 ≡ size_in (single (next s 0 (λ m. trees (drop 2 f) m)))
       go (leaf φ) e = absurd (apart cc)
       go (unary g) e = absurd (apart cc)
       go (binary g) e = absurd (apart cc)
       go bad e = refl
 
-  module _ (k : ℕ) (e : node.Operands k ≡ first f) where
+  module _ (k : ℕ) (e : Some k ≡ first f) where
     -- a node without operands is a tree
     pub leaf-size : k ≡ 0 → 1 ≡ tree_size f
     leaf-size k0 = go (agrees (get_or f 0 0) (get_or f 1 0)) e
       where
-        go : {o : Node} → Agrees (get_or f 0 0) (get_or f 1 0) o → node.Operands k ≡ o → 1 ≡ tree_size f
+        go : {o : Option ℕ} → Agrees (get_or f 0 0) (get_or f 1 0) o → Some k ≡ o → 1 ≡ tree_size f
         go (none-due φ x s d) e = omega (arith, spelled-size φ (drop 2 f) (split ∙ sym (s (drop 2 f))), length-drop 2 f)
         go (one-due g x s d) e = absurd (omega (arith, k0, ap operands_in e))
         go (two_due g x s d) e = absurd (omega (arith, k0, ap operands_in e))
@@ -134,7 +132,7 @@ module _ (f : List ℕ) (room : 2 ≤ length f) where
         unfolding Tree
         one_size k1 = go (agrees (get_or f 0 0) (get_or f 1 0)) e first-tree
           where
-            go : {o : Node} → Agrees (get_or f 0 0) (get_or f 1 0) o → node.Operands k ≡ o → Tree (drop 2 f)
+            go : {o : Option ℕ} → Agrees (get_or f 0 0) (get_or f 1 0) o → Some k ≡ o → Tree (drop 2 f)
                 → 1 + n ≡ tree_size f
             go (none-due φ x s d) e t = absurd (omega (arith, k1, ap operands_in e))
             go (one-due g x s d) e (φ, bs, t) =
@@ -165,7 +163,7 @@ module _ (f : List ℕ) (room : 2 ≤ length f) where
               go (agrees (get_or f 0 0) (get_or f 1 0)) e first-tree
               (size-tree (drop (2 * n) (drop 2 f)) (λ w. some-second (z ∙ w)))
             where
-              go : {o : Node} → Agrees (get_or f 0 0) (get_or f 1 0) o → node.Operands k ≡ o → Tree (drop 2 f)
+              go : {o : Option ℕ} → Agrees (get_or f 0 0) (get_or f 1 0) o → Some k ≡ o → Tree (drop 2 f)
                   → Tree (drop (2 * n) (drop 2 f)) → 1 + n + m ≡ tree_size f
               go (none-due φ x s d) e t u = absurd (k0 (ap operands_in e))
               go (one-due g x s d) e t u = absurd (k1 (ap operands_in e))
@@ -235,9 +233,9 @@ short_size (o ∷ []) h = refl
 short_size (o ∷ a ∷ bs) h = absurd (omega arith)
 
 -- the look at a size: it is there, or n is behind the last node
-pub size-found : (sizes : List ℕ) (n : ℕ) → n < length sizes → get_or sizes (length sizes - 1 - n) 0 ≡ size_behind sizes n
+pub size_found : (sizes : List ℕ) (n : ℕ) → n < length sizes → get_or sizes (length sizes - 1 - n) 0 ≡ size_behind sizes n
 unfolding size_behind
-size-found sizes n h = let place : length sizes - n ≡ suc (length sizes - 1 - n) = omega arith in rw place
+size_found sizes n h = let place : length sizes - n ≡ suc (length sizes - 1 - n) = omega arith in rw place
 
 pub size_over : (sizes : List ℕ) (n : ℕ) → length sizes ≤ n → 0 ≡ size_behind sizes n
 unfolding size_behind
@@ -250,7 +248,7 @@ size-behind f n = go (ltb n (length f / 2)) refl
     go : (b : Bool) → ltb n (length f / 2) ≡ b → size_behind (sizes_of f) n ≡ tree_size (drop (2 * n) f)
     go true e =
         let h : n < length f / 2 = ltb-true n (length f / 2) e in
-        sym (size-found (sizes_of f) n (omega (arith, length_sizes f))) ∙ rw (length_sizes f) (size_at f n h)
+        sym (size_found (sizes_of f) n (omega (arith, length_sizes f))) ∙ rw (length_sizes f) (size_at f n h)
     go false e =
         let h : length f / 2 ≤ n = ltb-false n (length f / 2) e in
         sym (size_over (sizes_of f) n (omega (arith, length_sizes f)))
@@ -342,12 +340,6 @@ module _ (f old : List ℕ) where
   sizing_start = record { within = omega arith; same = refl }
 
   module _ (xs : List ℕ) (i : ℕ) (g : Sizing f old xs i) where
-    pub sizing_length : length xs ≡ length old
-    sizing_length =
-        let l = g.within in
-        ap length g.same ∙ length-append (take i (sizes_of f)) (drop i old)
-        ∙ omega (arith, l, length_sizes f, length-take i (sizes_of f), length-drop i old)
-
     found-length : length (take i (sizes_of f)) ≡ i
     found-length = let l = g.within in omega (arith, l, length_sizes f, length-take i (sizes_of f))
 

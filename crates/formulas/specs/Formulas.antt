@@ -1,21 +1,19 @@
 -- Formulas as bytes: document 01, "Questions and verdicts", and the numbers 9 and 10.
 -- "A question is a tree in prefix order, two bytes a node: operator, then label (0 where the operator has none)."
-use Rattle.std.specs.Prelude.{ℕ, ◌*◌, ◌≤◌, ◌≡◌, Bool, true, not, ◌&&◌, List, [], ◌∷◌, length, leb}
-use Rattle.std.proofs.Math.Option.{Option, none, some}
+use Rattle.std.specs.Prelude.{ℕ, ◌*◌, ◌≤◌, ◌≡◌, Bool, true, not, ◌&&◌, List, [], ◌∷◌, length, leb, None, Option, Some}
 use Rattle.hml.specs.Lists.{present}
 use Rattle.hml.specs.Formula.{Formula, size, nesting, labelled}
 use Rattle.hml.specs.Spell.{spell, parse}
 use Rattle.labels.specs.Labels.{count}
-use Rattle.labels.specs.Refusals.{refused_if, first_of}
-use Rattle.labels.specs.declared.refusal.Check.{Check}
+use Rattle.labels.specs.Refusals.{refused_if, first_of, Check}
 use Rattle.labels.specs.declared.refusal.Refusal.TheVariants.{NotATree, NestedTooDeep}
 use Rattle.labels.specs.declared.label.Labels.{Labels}
 
 -- the reading: the tree that the bytes spell, if they are one whole tree
 unfoldable pub whole_of : Option (Formula × List ℕ) → Option Formula
-whole_of none = none
-whole_of (some (φ, [])) = some φ
-whole_of (some (φ, b ∷ bytes)) = none
+whole_of None = None
+whole_of (Some (φ, [])) = Some φ
+whole_of (Some (φ, b ∷ bytes)) = None
 
 unfoldable pub formula_of : List ℕ → Option Formula
 formula_of f = whole_of (parse f)

@@ -1,7 +1,6 @@
 -- The operators of formulas: document 01, "Questions and verdicts", its table of operators. That this table says what
 -- the theory's formulas do (`shape`, `spell`, `nesting` and `backs` of hml) is `agrees`, proofs/OperatorTable.
-use Rattle.std.specs.Prelude.{ℕ, Bool, true, false, ◌&&◌, ◌||◌, List, [], ◌∷◌, get_or, ltb}
-use Rattle.std.proofs.Math.Option.{Option, none, some}
+use Rattle.std.specs.Prelude.{ℕ, Bool, true, false, ◌&&◌, ◌||◌, List, [], ◌∷◌, get_or, ltb, None, Option, Some}
 use Rattle.hml.specs.Lists.{present}
 
 -- the runs on which an operator has its operands judged: the run at hand, those one step longer, the one without the
@@ -16,7 +15,7 @@ pub record Operator : Type 0 where
 
 -- operands, where it looks, does it take a label?
 abbrev pub operator : ℕ → Looks → Bool → Option Operator
-operator n w l = some (record { operands = n; looks = w; labelled = l })
+operator n w l = Some (record { operands = n; looks = w; labelled = l })
 
 -- the table, by rising number
 abbrev pub operators : List (Option Operator)
@@ -38,7 +37,7 @@ operators =
 
 -- the operator of a number; over 8 there is none
 abbrev pub operator_of : ℕ → Option Operator
-operator_of o = get_or operators o none
+operator_of o = get_or operators o None
 
 unfoldable pub is_operator : ℕ → Bool
 is_operator o = present (λ x. true) (operator_of o)

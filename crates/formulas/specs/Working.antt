@@ -1,14 +1,9 @@
 -- How the code works: what functions ask for and promise that serve others. No call's promise cites this file.
-use Rattle.std.specs.Prelude.{ℕ, zero, suc, ◌-◌, ◌*◌, ◌+◌, ◌/◌, Bool, true, false, ◌&&◌, cond, List, [], ◌∷◌, ◌++◌, length, get_or, take, drop, leb, ◌≡◌}
-use Rattle.std.proofs.Math.Option.{Option, none, some}
+use Rattle.std.specs.Prelude.{ℕ, zero, suc, ◌-◌, ◌*◌, ◌+◌, ◌/◌, Bool, true, false, ◌&&◌, cond, List, [], ◌∷◌, ◌++◌, length, get_or, take, drop, leb, ◌≡◌, None, Option, Some}
 use Rattle.hml.specs.Formula.{Formula, size, nesting, top}
 use Rattle.hml.specs.Working.{backs}
 use Rattle.hml.specs.Spell.{parse, spell}
-use Rattle.formulas.specs.declared.node.Node.{Node}
-use Rattle.formulas.specs.declared.node.Node.TheVariants as node
 use Rattle.formulas.specs.declared.tree.Measure.{Measure}
-use Rattle.formulas.specs.declared.tree.TreeEnd.{TreeEnd}
-use Rattle.formulas.specs.declared.tree.TreeEnd.TheVariants as end
 use Rattle.formulas.specs.Operators.{Operator, operator_of, is_forward}
 use Rattle.formulas.specs.Formulas.{formula_of}
 
@@ -19,19 +14,19 @@ fits false zero = true
 fits false (suc a) = false
 
 -- how many operands a node has, by its operator and its label byte
-unfoldable pub node_by : Option Operator → ℕ → Node
-node_by none a = node.Bad
-node_by (some x) a = cond (fits x.labelled a) (node.Operands x.operands) node.Bad
+unfoldable pub node_by : Option Operator → ℕ → Option ℕ
+node_by None a = None
+node_by (Some x) a = cond (fits x.labelled a) (Some x.operands) None
 
-unfoldable pub node_of : ℕ → ℕ → Node
+unfoldable pub node_of : ℕ → ℕ → Option ℕ
 node_of o a = node_by (operator_of o) a
 
 -- where the first tree of the bytes ends, if there is one: two bytes a node behind its start
-unfoldable pub end_of : Option (Formula × List ℕ) → TreeEnd
-end_of none = end.Nowhere
-end_of (some t) = end.At (2 * size t.0)
+unfoldable pub end_of : Option (Formula × List ℕ) → Option ℕ
+end_of None = None
+end_of (Some t) = Some (2 * size t.0)
 
-unfoldable pub tree_end : List ℕ → TreeEnd
+unfoldable pub tree_end : List ℕ → Option ℕ
 tree_end f = end_of (parse f)
 
 -- bytes that begin with a tree
@@ -40,16 +35,16 @@ Tree f = (φ : Formula) × (rest : List ℕ) × (f ≡ spell φ rest)
 
 -- the first tree; `top` where there is none
 unfoldable pub tree_in : Option (Formula × List ℕ) → Formula
-tree_in none = top
-tree_in (some t) = t.0
+tree_in None = top
+tree_in (Some t) = t.0
 
 unfoldable pub tree_of : List ℕ → Formula
 tree_of f = tree_in (parse f)
 
 -- how far back a formula looks: the depth to which its back modalities nest
 unfoldable pub backs_in : Option Formula → ℕ
-backs_in none = 0
-backs_in (some φ) = backs φ
+backs_in None = 0
+backs_in (Some φ) = backs φ
 
 -- that of the formula that the bytes spell; 0 for bytes that spell none
 unfoldable pub backs_of : List ℕ → ℕ
@@ -63,8 +58,8 @@ forwards_in (o ∷ a ∷ bytes) = cond (is_forward o) 1 0 + forwards_in bytes
 
 -- the size of the first tree of the bytes; 0 where they begin with none
 unfoldable pub size_in : Option (Formula × List ℕ) → ℕ
-size_in none = 0
-size_in (some t) = size t.0
+size_in None = 0
+size_in (Some t) = size t.0
 
 unfoldable pub tree_size : List ℕ → ℕ
 tree_size f = size_in (parse f)
@@ -91,15 +86,15 @@ pub record Part (sizes f : List ℕ) : Type 0 where
 
 -- the length of the first tree, and how deep its forward and its back modalities nest
 unfoldable pub measured_as : Option (Formula × List ℕ) → Measure
-measured_as none = record { len = 2; nesting = 0; backs = 0 }
-measured_as (some t) = record { len = 2 * size t.0; nesting = nesting t.0; backs = backs t.0 }
+measured_as None = record { len = 2; nesting = 0; backs = 0 }
+measured_as (Some t) = record { len = 2 * size t.0; nesting = nesting t.0; backs = backs t.0 }
 
 unfoldable pub measure_of : List ℕ → Measure
 measure_of f = measured_as (parse f)
 
-abbrev pub operands_in : Node → ℕ
-operands_in (node.Operands n) = n
-operands_in node.Bad = 0
+abbrev pub operands_in : Option ℕ → ℕ
+operands_in (Some n) = n
+operands_in None = 0
 
 -- is no label byte above n?
 unfoldable pub labels_fit : ℕ → List ℕ → Bool

@@ -5,50 +5,33 @@ ghost use Rattle.formulas.specs.Formulas.{check_formula};
 ghost use Rattle.formulas.specs.Working.{labels_fit};
 
 use crate::forwards::count_forwards;
-use crate::tree::{TreeEnd, measured, tree_end};
+use crate::tree::{measured, tree_end};
 use labels::label::{Label, Labels};
-use labels::refusal::{Check, Refusal};
+use labels::refusal::Refusal;
 
 // The check of a formula of at most `limit` nodes.
-pub fn check_formula(labels: Labels, limit: usize, f: &[u8]) -> Check
+pub fn check_formula(labels: Labels, limit: usize, f: &[u8]) -> Result<(), Refusal>
     ensures { result ≡ check_formula labels limit f.now }
 {
-    let n = f.len();
-    if limit < n / 2 {
-        return Check::Refused(Refusal::NotATree);
-    }
-    match tree_end(f) {
-        TreeEnd::At(end) => {
-            if end != n {
-                return Check::Refused(Refusal::NotATree);
-            }
-        }
-        TreeEnd::Nowhere => return Check::Refused(Refusal::NotATree),
-    }
-    if !labels_fit(labels, f) {
-        return Check::Refused(Refusal::NotATree);
+    if limit < f.len() / 2 || tree_end(f) != Some(f.len()) || !labels_fit(labels, f) {
+        return Err(Refusal::NotATree);
     }
     // Forward modalities nest no deeper than there are of them, so four or fewer need no measure.
-    if count_forwards(f) <= 4 {
-        return Check::Sound;
+    if 4 < count_forwards(f) && 4 < measured(f).nesting {
+        return Err(Refusal::NestedTooDeep);
     }
-    let tree = measured(f);
-    if 4 < tree.nesting {
-        return Check::Refused(Refusal::NestedTooDeep);
-    }
-    Check::Sound
+    Ok(())
 }
 
 // Is each label byte a label of the call?
+#[tactic(auto, using(crate::proofs::FormulaLabels::node_label, crate::proofs::FormulaLabels::no_label))]
 fn labels_fit(labels: Labels, f: &[u8]) -> bool
     ensures { result ≡ labels_fit (count labels) f.now }
 {
-    let mut rest = f;
-    while 2 <= rest.len() {
-        if !labels.has(Label(rest[1])) {
+    for node in f.chunks_exact(2) {
+        if !labels.has(Label(node[1])) {
             return false;
         }
-        rest = &rest[2..];
     }
     true
 }

@@ -5,97 +5,66 @@ ghost use Rattle.std.specs.Prelude.{◌≡◌};
 ghost use Rattle.formulas.specs.Operators.{is_forward, is_back, is_modality, is_connective, takes_label};
 ghost use Rattle.formulas.specs.Working.{node_of};
 
-// A node by the number of its operands; or bytes that are none.
-#[derive(Clone, Copy)]
-pub enum Node {
-    Operands(usize),
-    Bad,
-}
-
 // The node of an operator and a label byte, which is 0 where the operator takes no label.
-pub(crate) fn read_node(operator: u8, label: u8) -> Node
+#[tactic(auto, using(crate::proofs::Nodes::label_node, crate::proofs::Nodes::set_bad))]
+pub(crate) fn read_node(operator: u8, label: u8) -> Option<usize>
     ensures { result ≡ node_of operator label }
 {
-    if takes_label(operator) {
-        return Node::Operands(1);
-    }
-    if label != 0 {
-        return Node::Bad;
+    if label != 0 && !takes_label(operator) {
+        return None;
     }
     operands(operator)
 }
 
 // The node of an operator whose label byte fits: how many operands it has.
-pub fn operands(operator: u8) -> Node
+#[tactic(auto, using(crate::proofs::Nodes::bare_nodes))]
+pub fn operands(operator: u8) -> Option<usize>
     ensures { result ≡ node_of operator 0 }
 {
-    if operator <= 1 {
-        return Node::Operands(0);
+    match operator {
+        0 | 1 => Some(0),
+        3 | 4 => Some(2),
+        2 | 5..=8 => Some(1),
+        _ => None,
     }
-    if operator == 2 {
-        return Node::Operands(1);
-    }
-    if operator <= 4 {
-        return Node::Operands(2);
-    }
-    if operator <= 8 {
-        return Node::Operands(1);
-    }
-    Node::Bad
 }
 
 // Operators 5 and 6 take a label.
+#[tactic(auto, using(crate::proofs::OperatorTable::label_numbers))]
 pub fn takes_label(operator: u8) -> bool
     ensures { result ≡ takes_label operator }
 {
-    if operator == 5 {
-        return true;
-    }
-    operator == 6
+    matches!(operator, 5 | 6)
 }
 
 // Operators 5 and 7 look forward.
+#[tactic(auto, using(crate::proofs::OperatorTable::forward_numbers))]
 pub fn is_forward(operator: u8) -> bool
     ensures { result ≡ is_forward operator }
 {
-    if operator != 5 {
-        return operator == 7;
-    }
-    true
+    matches!(operator, 5 | 7)
 }
 
 // Operators 6 and 8 look back.
+#[tactic(auto, using(crate::proofs::OperatorTable::back_numbers))]
 pub fn is_back(operator: u8) -> bool
     ensures { result ≡ is_back operator }
 {
-    if operator != 6 {
-        return operator == 8;
-    }
-    true
+    matches!(operator, 6 | 8)
 }
 
-// The modalities look forward or back. True, false and the connectives stand before them: one comparison settles these.
+// The modalities look forward or back.
+#[tactic(auto, using(crate::proofs::OperatorTable::forward_numbers, crate::proofs::OperatorTable::back_numbers), unfolding(crate::specs::Operators::is_modality))]
 pub fn is_modality(operator: u8) -> bool
     ensures { result ≡ is_modality operator }
 {
-    if operator < 5 {
-        return false;
-    }
-    if is_forward(operator) {
-        return true;
-    }
-    is_back(operator)
+    matches!(operator, 5..=8)
 }
 
 // Is the operator "not", "and" or "or"?
+#[tactic(auto, using(crate::proofs::OperatorTable::connective_numbers))]
 pub fn is_connective(operator: u8) -> bool
     ensures { result ≡ is_connective operator }
 {
-    if operator == 2 {
-        return true;
-    }
-    if operator == 3 {
-        return true;
-    }
-    operator == 4
+    matches!(operator, 2..=4)
 }

@@ -3,32 +3,23 @@ ghost use Rattle.std.specs.Prelude.{◌≡◌, cond, ◌+◌, ◌≤◌, max, ge
 ghost use Rattle.formulas.specs.Operators.{is_forward, is_back};
 ghost use Rattle.formulas.specs.Working.{node_of, tree_end, Tree, measure_of, operands_in};
 
-use crate::node::{Node, is_back, is_forward, read_node};
-
-// Where the first tree of some bytes ends.
-#[derive(Clone, Copy)]
-pub enum TreeEnd {
-    At(usize),
-    Nowhere,
-}
+use crate::node::{is_back, is_forward, read_node};
 
 // The end of the first tree, for any bytes: each node takes the place of one that is due, and asks for its operands.
-pub(crate) fn tree_end(f: &[u8]) -> TreeEnd
+pub(crate) fn tree_end(f: &[u8]) -> Option<usize>
     ensures { result ≡ tree_end f.now }
 {
+    // Not a loop over the nodes: how many belong to the tree, only the nodes say.
     let mut due: usize = 1;
     let mut at: usize = 0;
     while 0 < due {
         if f.len() - at < 2 {
-            return TreeEnd::Nowhere;
+            return None;
         }
-        match read_node(f[at], f[at + 1]) {
-            Node::Operands(n) => due = due - 1 + n,
-            Node::Bad => return TreeEnd::Nowhere,
-        }
+        due = due - 1 + read_node(f[at], f[at + 1])?;
         at += 2;
     }
-    TreeEnd::At(at)
+    Some(at)
 }
 
 // A tree's length in bytes, and how deep its forward modalities and its back modalities nest.
@@ -58,15 +49,15 @@ pub(crate) fn measured(f: &[u8]) -> Measure
     if operands == 1 {
         return Measure {
             len: 2 + n,
-            nesting: depth(f) + first.nesting,
-            backs: back(f) + first.backs,
+            nesting: usize::from(is_forward(f[0])) + first.nesting,
+            backs: usize::from(is_back(f[0])) + first.backs,
         };
     }
     let second = measured(&body[n..]);
     Measure {
         len: 2 + n + second.len,
-        nesting: larger(first.nesting, second.nesting),
-        backs: larger(first.backs, second.backs),
+        nesting: first.nesting.max(second.nesting),
+        backs: first.backs.max(second.backs),
     }
 }
 
@@ -75,41 +66,5 @@ fn operands_of(f: &[u8]) -> usize
     requires { 2 ≤ length f.now }
     ensures { result ≡ operands_in (node_of (get_or f.now 0 0) (get_or f.now 1 0)) }
 {
-    match read_node(f[0], f[1]) {
-        Node::Operands(n) => n,
-        Node::Bad => 0,
-    }
-}
-
-// 1 if the first node looks forward, else 0.
-fn depth(f: &[u8]) -> usize
-    requires { 2 ≤ length f.now }
-    ensures value { result ≡ cond (is_forward (get_or f.now 0 0)) 1 0 }
-    ensures small { result ≤ 1 }
-{
-    if is_forward(f[0]) {
-        return 1;
-    }
-    0
-}
-
-// 1 if the first node looks back, else 0.
-fn back(f: &[u8]) -> usize
-    requires { 2 ≤ length f.now }
-    ensures value { result ≡ cond (is_back (get_or f.now 0 0)) 1 0 }
-    ensures small { result ≤ 1 }
-{
-    if is_back(f[0]) {
-        return 1;
-    }
-    0
-}
-
-fn larger(a: usize, b: usize) -> usize
-    ensures { result ≡ max a b }
-{
-    if a < b {
-        return b;
-    }
-    a
+    read_node(f[0], f[1]).unwrap_or(0)
 }

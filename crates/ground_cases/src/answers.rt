@@ -2,12 +2,12 @@
 use crate::frame::wide;
 use crate::line::{put_bool, put_bytes, put_check, put_mark, put_number, put_partner};
 use halves::side::{Known, Side};
-use halves::step::{Step, StepRead, step_at};
+use halves::step::{Step, step_at};
 use labels::label::{Label, Labels};
-use labels::refusal::{Check, Refusal};
+use labels::refusal::Refusal;
 use tables::check::check_table;
 use tables::leaving::{has_row, rows_leaving};
-use tables::row::{Row, RowRead, row_at};
+use tables::row::{Row, row_at};
 
 // Is the label silent, an idle, its partner; then among these labels: the highest, is it one, its partner.
 pub(crate) fn put_label(line: &mut [u8], labels: Labels, label: Label) -> usize {
@@ -22,39 +22,37 @@ pub(crate) fn put_label(line: &mut [u8], labels: Labels, label: Label) -> usize 
 // The partner of each byte among these labels.
 pub(crate) fn put_partners(line: &mut [u8], labels: Labels) -> usize {
     let mut at = 0;
-    let mut code: usize = 0;
-    while code < 256 {
-        at = put_partner(line, at, labels.partner(Label(code as u8)));
-        code = code + 1;
+    for code in 0..=255u8 {
+        at = put_partner(line, at, labels.partner(Label(code)));
     }
     at
 }
 
 // The refusal of a number of the documents; sound for any other.
-fn refusal_of(n: u8) -> Check {
+fn refusal_of(n: u8) -> Result<(), Refusal> {
     match n {
-        1 => Check::Refused(Refusal::Truncated),
-        2 => Check::Refused(Refusal::WrongKind),
-        3 => Check::Refused(Refusal::WrongLength),
-        4 => Check::Refused(Refusal::TooManyPairs),
-        5 => Check::Refused(Refusal::OutOfRange),
-        6 => Check::Refused(Refusal::RowNotAbove),
-        7 => Check::Refused(Refusal::NinthRow),
-        8 => Check::Refused(Refusal::NotReal),
-        9 => Check::Refused(Refusal::NotATree),
-        10 => Check::Refused(Refusal::NestedTooDeep),
-        11 => Check::Refused(Refusal::BytesAfter),
-        12 => Check::Refused(Refusal::PointBeyond),
-        13 => Check::Refused(Refusal::TooManySplittings),
-        14 => Check::Refused(Refusal::NoSuchSplitting),
-        15 => Check::Refused(Refusal::NotARun),
-        16 => Check::Refused(Refusal::HalvesDoNotMatch),
-        17 => Check::Refused(Refusal::QuotientTooLarge),
-        18 => Check::Refused(Refusal::OutputTooShort),
-        19 => Check::Refused(Refusal::NotOfForm),
-        20 => Check::Refused(Refusal::WrongHeader),
-        21 => Check::Refused(Refusal::UnknownLabel),
-        _ => Check::Sound,
+        1 => Err(Refusal::Truncated),
+        2 => Err(Refusal::WrongKind),
+        3 => Err(Refusal::WrongLength),
+        4 => Err(Refusal::TooManyPairs),
+        5 => Err(Refusal::OutOfRange),
+        6 => Err(Refusal::RowNotAbove),
+        7 => Err(Refusal::NinthRow),
+        8 => Err(Refusal::NotReal),
+        9 => Err(Refusal::NotATree),
+        10 => Err(Refusal::NestedTooDeep),
+        11 => Err(Refusal::BytesAfter),
+        12 => Err(Refusal::PointBeyond),
+        13 => Err(Refusal::TooManySplittings),
+        14 => Err(Refusal::NoSuchSplitting),
+        15 => Err(Refusal::NotARun),
+        16 => Err(Refusal::HalvesDoNotMatch),
+        17 => Err(Refusal::QuotientTooLarge),
+        18 => Err(Refusal::OutputTooShort),
+        19 => Err(Refusal::NotOfForm),
+        20 => Err(Refusal::WrongHeader),
+        21 => Err(Refusal::UnknownLabel),
+        _ => Ok(()),
     }
 }
 
@@ -62,59 +60,58 @@ fn refusal_of(n: u8) -> Check {
 pub(crate) fn put_then(line: &mut [u8], x: u8, y: u8) -> usize {
     let first = put_check(line, 0, refusal_of(x));
     let second = put_check(line, first, refusal_of(y));
-    put_check(line, second, refusal_of(x).then(refusal_of(y)))
+    put_check(line, second, refusal_of(x).and(refusal_of(y)))
 }
 
 // A check's number where the labels are judged first, as in a call that takes them; then the check's own number.
-pub(crate) fn put_call(line: &mut [u8], labels: Labels, check: Check) -> usize {
-    let at = put_check(line, 0, labels.check().then(check));
+pub(crate) fn put_call(line: &mut [u8], labels: Labels, check: Result<(), Refusal>) -> usize {
+    let at = put_check(line, 0, labels.check().and(check));
     put_check(line, at, check)
 }
 
 // 1 and the row, or a dash where there is none.
 pub(crate) fn put_row(line: &mut [u8], table: &[u8], i: usize) -> usize {
     match row_at(table, i) {
-        RowRead::Row(row) => return put_found(line, row),
-        RowRead::NoRow => return put_mark(line, 0, b'-'),
+        Some(row) => put_found(line, row),
+        None => put_mark(line, 0, b'-'),
     }
 }
 
 // 1, then the three bytes of a row.
 fn put_found(line: &mut [u8], row: Row) -> usize {
-    let label = row.label;
     let found = put_number(line, 0, 1);
     let from = put_number(line, found, wide(row.from));
-    let middle = put_number(line, from, wide(label.0));
+    let middle = put_number(line, from, wide(row.label.0));
     put_number(line, middle, wide(row.to))
 }
 
 // The rows that leave a state of a sound table; R and its number for a refused one.
 pub(crate) fn put_leaving(line: &mut [u8], labels: Labels, table: &[u8], state: u8) -> usize {
     match check_table(labels, table) {
-        Check::Sound => return put_bytes(line, rows_leaving(table, state)),
-        Check::Refused(refusal) => return put_refused(line, refusal),
+        Ok(()) => put_bytes(line, rows_leaving(table, state)),
+        Err(refusal) => put_refused(line, refusal),
     }
 }
 
 // Whether a sound table has a row; R and its number for a refused one.
 pub(crate) fn put_has(line: &mut [u8], labels: Labels, table: &[u8], row: Row) -> usize {
     match check_table(labels, table) {
-        Check::Sound => return put_bool(line, 0, has_row(table, row.from, row.label, row.to)),
-        Check::Refused(refusal) => return put_refused(line, refusal),
+        Ok(()) => put_bool(line, 0, has_row(table, row.from, row.label, row.to)),
+        Err(refusal) => put_refused(line, refusal),
     }
 }
 
 // R, then the refusal's number.
 fn put_refused(line: &mut [u8], refusal: Refusal) -> usize {
     let at = put_mark(line, 0, b'R');
-    put_check(line, at, Check::Refused(refusal))
+    put_check(line, at, Err(refusal))
 }
 
 // 2, label and target of a move; 1 for an idle; 0 where there is no such step.
 pub(crate) fn put_step(line: &mut [u8], half: &[u8], i: usize) -> usize {
     match step_at(half, i) {
-        StepRead::Step(step) => return put_taken(line, step),
-        StepRead::NoSuchStep => return put_number(line, 0, 0),
+        Some(step) => put_taken(line, step),
+        None => put_number(line, 0, 0),
     }
 }
 
@@ -122,12 +119,11 @@ pub(crate) fn put_step(line: &mut [u8], half: &[u8], i: usize) -> usize {
 fn put_taken(line: &mut [u8], step: Step) -> usize {
     match step {
         Step::Move(taken) => {
-            let label = taken.label;
             let kind = put_number(line, 0, 2);
-            let at = put_number(line, kind, wide(label.0));
-            return put_number(line, at, wide(taken.target));
+            let at = put_number(line, kind, wide(taken.label.0));
+            put_number(line, at, wide(taken.target))
         }
-        Step::Idle => return put_number(line, 0, 1),
+        Step::Idle => put_number(line, 0, 1),
     }
 }
 
@@ -143,7 +139,7 @@ pub(crate) fn side_of(x: u8) -> Side {
 // 1 where the left half is known, 2 where the right is.
 pub(crate) fn put_known(line: &mut [u8], side: Side) -> usize {
     match side.known() {
-        Known::Left => return put_number(line, 0, 1),
-        Known::Right => return put_number(line, 0, 2),
+        Known::Left => put_number(line, 0, 1),
+        Known::Right => put_number(line, 0, 2),
     }
 }

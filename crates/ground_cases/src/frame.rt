@@ -15,13 +15,6 @@ pub struct Trial {
     pub end: usize,
 }
 
-// What stands at a place of the input.
-#[derive(Clone, Copy)]
-pub enum Found {
-    Trial(Trial),
-    Malformed,
-}
-
 // A place in the input.
 #[derive(Clone, Copy)]
 pub struct Cursor {
@@ -37,10 +30,7 @@ pub(crate) fn wide(byte: u8) -> usize
 
 // The byte at a place; 0 beyond the end.
 fn byte_at(input: &[u8], at: usize) -> u8 {
-    if at < input.len() {
-        return input[at];
-    }
-    0
+    input.get(at).copied().unwrap_or(0)
 }
 
 // Two bytes as a number, little-endian.
@@ -61,20 +51,20 @@ pub(crate) fn number(low: u8, high: u8) -> usize {
 
 impl Cursor {
     // The trial that begins here, if all of it is there.
-    pub(crate) fn trial(self, input: &[u8]) -> Found {
+    pub(crate) fn trial(self, input: &[u8]) -> Option<Trial> {
         let at = self.at;
         if input.len() < at {
-            return Found::Malformed;
+            return None;
         }
         if input.len() - at < 11 {
-            return Found::Malformed;
+            return None;
         }
         let left = at + 11;
         let first = word(byte_at(input, at + 5), byte_at(input, at + 6));
         let second = word(byte_at(input, at + 7), byte_at(input, at + 8));
         let third = word(byte_at(input, at + 9), byte_at(input, at + 10));
         if input.len() - left < first + second + third {
-            return Found::Malformed;
+            return None;
         }
         let code = byte_at(input, at);
         let k = byte_at(input, at + 1);
@@ -84,16 +74,16 @@ impl Cursor {
         let right = left + first;
         let run = right + second;
         let end = run + third;
-        Found::Trial(Trial {
-            code: code,
-            k: k,
-            x: x,
-            y: y,
-            z: z,
-            left: left,
-            right: right,
-            run: run,
-            end: end,
+        Some(Trial {
+            code,
+            k,
+            x,
+            y,
+            z,
+            left,
+            right,
+            run,
+            end,
         })
     }
 }

@@ -1,8 +1,8 @@
 // A line of the output: numbers and marks, one blank apart, in a lent array.
 use crate::frame::wide;
 use digits::decimal::put_decimal;
-use labels::label::Partner;
-use labels::refusal::Check;
+use labels::label::Label;
+use labels::refusal::Refusal;
 
 // Puts a byte that is wanted and fits; the place after it.
 fn put(line: &mut [u8], at: usize, wanted: bool, byte: u8) -> usize {
@@ -35,35 +35,30 @@ pub(crate) fn put_end(line: &mut [u8], at: usize) -> usize {
 
 // Puts 1 or 0.
 pub(crate) fn put_bool(line: &mut [u8], at: usize, holds: bool) -> usize {
-    if holds {
-        return put_number(line, at, 1);
-    }
-    put_number(line, at, 0)
+    put_number(line, at, usize::from(holds))
 }
 
 // Puts a partner's number, or a dash for nobody.
-pub(crate) fn put_partner(line: &mut [u8], at: usize, partner: Partner) -> usize {
+pub(crate) fn put_partner(line: &mut [u8], at: usize, partner: Option<Label>) -> usize {
     match partner {
-        Partner::Label(label) => return put_number(line, at, wide(label.0)),
-        Partner::Nobody => return put_mark(line, at, b'-'),
+        Some(label) => put_number(line, at, wide(label.0)),
+        None => put_mark(line, at, b'-'),
     }
 }
 
 // Puts a refusal's number, 0 for sound.
-pub(crate) fn put_check(line: &mut [u8], at: usize, check: Check) -> usize {
+pub(crate) fn put_check(line: &mut [u8], at: usize, check: Result<(), Refusal>) -> usize {
     match check {
-        Check::Sound => return put_number(line, at, 0),
-        Check::Refused(refusal) => return put_number(line, at, wide(refusal.number())),
+        Ok(()) => put_number(line, at, 0),
+        Err(refusal) => put_number(line, at, wide(refusal.number())),
     }
 }
 
 // Puts how many bytes there are, then each of them.
 pub(crate) fn put_bytes(line: &mut [u8], bytes: &[u8]) -> usize {
     let mut at = put_number(line, 0, bytes.len());
-    let mut i = 0;
-    while i < bytes.len() {
-        at = put_number(line, at, wide(bytes[i]));
-        i = i + 1;
+    for byte in bytes {
+        at = put_number(line, at, wide(*byte));
     }
     at
 }

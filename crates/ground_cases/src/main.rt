@@ -11,7 +11,7 @@ use answers::{
     put_call, put_has, put_known, put_label, put_leaving, put_partners, put_row, put_step,
     put_then, side_of,
 };
-use frame::{Cursor, Found, Trial, number};
+use frame::{Cursor, Trial, number};
 use halves::half::check_half;
 use halves::side::cut;
 use labels::label::{Label, Labels};
@@ -25,14 +25,13 @@ use tables::row::Row;
 // The functions of labels, and the side: trials of numbers only.
 fn put_numbers(line: &mut [u8], trial: Trial) -> usize {
     let labels = Labels::of_pairs(trial.k);
-    let code = trial.code;
-    match code {
-        0 => return put_check(line, 0, labels.check()),
-        1 => return put_label(line, labels, Label(trial.x)),
-        2 => return put_partners(line, labels),
-        10 => return put_known(line, side_of(trial.x)),
-        11 => return put_then(line, trial.x, trial.y),
-        _ => return put_mark(line, 0, b'?'),
+    match trial.code {
+        0 => put_check(line, 0, labels.check()),
+        1 => put_label(line, labels, Label(trial.x)),
+        2 => put_partners(line, labels),
+        10 => put_known(line, side_of(trial.x)),
+        11 => put_then(line, trial.x, trial.y),
+        _ => put_mark(line, 0, b'?'),
     }
 }
 
@@ -46,12 +45,11 @@ fn put_answer<'a>(
 ) -> usize {
     let labels = Labels::of_pairs(trial.k);
     let i = number(trial.y, trial.z);
-    let code = trial.code;
-    match code {
-        3 => return put_call(line, labels, check_table(labels, left)),
-        4 => return put_row(line, left, i),
-        5 => return put_leaving(line, labels, left, trial.x),
-        6 => return put_has(
+    match trial.code {
+        3 => put_call(line, labels, check_table(labels, left)),
+        4 => put_row(line, left, i),
+        5 => put_leaving(line, labels, left, trial.x),
+        6 => put_has(
             line,
             labels,
             left,
@@ -61,11 +59,11 @@ fn put_answer<'a>(
                 to: trial.z,
             },
         ),
-        7 => return put_call(line, labels, check_half(labels, left, run)),
-        8 => return put_step(line, run, i),
-        9 => return put_bytes(line, cut(left, right, side_of(trial.x), i)),
-        12 => return put_call(line, labels, check_joint(labels, left, right, run)),
-        _ => return put_numbers(line, trial),
+        7 => put_call(line, labels, check_half(labels, left, run)),
+        8 => put_step(line, run, i),
+        9 => put_bytes(line, cut(left, right, side_of(trial.x), i)),
+        12 => put_call(line, labels, check_joint(labels, left, right, run)),
+        _ => put_numbers(line, trial),
     }
 }
 
@@ -109,10 +107,10 @@ fn print_trial(rt: &impl Print, input: &[u8], trial: Trial) -> io::Result<()> {
 
 // Prints a line for each trial; stops at a malformed one.
 fn print_trials(rt: &impl Print, input: &[u8]) -> io::Result<()> {
+    // From trial to trial: how far, each trial says.
     let mut at = 0;
     while at < input.len() {
-        let here = Cursor { at: at };
-        let Found::Trial(trial) = here.trial(input) else {
+        let Some(trial) = (Cursor { at }).trial(input) else {
             return rt.write_all(b"malformed\n");
         };
         print_trial(rt, input, trial)?;

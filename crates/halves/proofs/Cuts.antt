@@ -1,6 +1,5 @@
--- The cases of a cut, each from what the code knows at its return; what a cut is of an accepted half, which others
--- cite.
-use Prim.Native.Nat.{ℕ, ◌+◌, ◌*◌, ◌/◌, ◌%◌, ◌≤◌, ◌<◌}
+-- What a cut is of an accepted half, which others cite.
+use Prim.Native.Nat.{ℕ, ◌+◌, ◌*◌, ◌/◌, ◌%◌, ◌≤◌}
 use mathlib.Core.Path.{◌≡◌, refl, sym, ◌∙◌, ap}
 use mathlib.Core.Logic.{◌↔◌}
 use mathlib.Core.Bool.{Bool, true, false, ◌||◌}
@@ -8,34 +7,13 @@ use native.Mathlib.Omega.{arith}
 use lib.Dec.{eqb, ltb}
 use mathlib.Core.List.{List, []}
 use lib.ListN.{length, take, length-take}
-use borrow.Author.Tests.{eq-eqb, ne_eqb, lt-ltb, le-ltb, eqb-false, ltb-false}
+use borrow.Author.Tests.{ne_eqb, eqb-false, ltb-false}
 use Rattle.hml.proofs.Tests.{apart}
 use Rattle.hml.specs.System.{steps, stop}
 use Rattle.halves.specs.Halves.{half_of, is_half_run}
 use Rattle.halves.proofs.HalfRuns.{accepted_half, half_stop, half_stopped}
-use Rattle.halves.specs.Cuts.{beyond, prefix_of, cut_of, known_part, known_of}
-use Rattle.halves.specs.declared.side.Side.{Side}
+use Rattle.halves.specs.Cuts.{beyond, prefix_of, cut_of}
 use Rattle.halves.specs.declared.side.Side.TheVariants as side
-use Rattle.halves.specs.declared.side.Known.{Known}
-
-module _ (s : List ℕ) (point : ℕ) where
-  pub even_prefix : length s % 2 ≡ 0 → [] ≡ prefix_of s point
-  unfolding prefix_of beyond
-  even_prefix e = rw (eq-eqb _ _ e)
-
-  pub beyond_prefix : (length s % 2 ≡ 0 → ⊥) → length s / 2 < point → [] ≡ prefix_of s point
-  unfolding prefix_of beyond
-  beyond_prefix o h = rw (ne_eqb _ _ o, lt-ltb _ _ h)
-
-  pub inner_prefix : (length s % 2 ≡ 0 → ⊥) → point ≤ length s / 2 → take (2 * point + 1) s ≡ prefix_of s point
-  unfolding prefix_of beyond
-  inner_prefix o h = rw (ne_eqb _ _ o, le-ltb _ _ h)
-
--- the cut is the prefix of the half that the side stands for
-pub cut_prefix : (l r x : List ℕ) (side : Side) (known : Known) (point : ℕ) → known ≡ known_of side
-    → x ≡ prefix_of (known_part l r known) point → x ≡ cut_of l r side point
-unfolding cut_of
-cut_prefix l r x side known point e h = rw (← e) h
 
 -- "A caller who names no side now gets .. from a cut the left half" (document 02, 2/12)
 pub unnamed_cut : (l r : List ℕ) (point : ℕ) → cut_of l r side.Unnamed point ≡ prefix_of l point

@@ -7,7 +7,7 @@ use native.Mathlib.Omega.{arith}
 use lib.ListN.{length, get_or, drop, drop_of_length-le}
 use lib.Seq.{drop-cons}
 use lib.Dec.{eqb}
-use borrow.Author.Tests.{eq-eqb, ne_eqb, lt-ltb, le-ltb, le-leb, lt-leb}
+use borrow.Author.Tests.{eq-eqb, lt-ltb, le-leb}
 use Rattle.hml.specs.Lists.{same}
 use Rattle.hml.specs.System.{System, move, idle}
 use Rattle.labels.specs.Refusals.{first_of}
@@ -15,30 +15,16 @@ use Rattle.tables.specs.Tables.{states_of, table_of, has_move, check_table}
 use Rattle.halves.specs.Runs.{step_of, go_on}
 use Rattle.halves.specs.Steps.{step_struct, step_read}
 use Rattle.halves.specs.Working.{read_fits}
-use Rattle.halves.specs.declared.step.Move.{Move}
 use Rattle.halves.specs.declared.step.Step.{Step}
-use Rattle.halves.specs.declared.step.Step.TheVariants as step
-use Rattle.halves.specs.declared.step.StepRead.TheVariants as read
 use Rattle.halves.proofs.Steps.{step_found, none_found}
 use Rattle.halves.proofs.Runs.{ended, stopped, passed}
 use Rattle.halves.specs.Halves.{twos, step_fits, is_half_run, check_half, check_table_and_half}
 use Rattle.labels.specs.declared.refusal.Refusal.{Refusal}
 use Rattle.labels.specs.declared.refusal.Refusal.TheVariants.{NotARun}
-use Rattle.labels.specs.declared.refusal.Check.TheVariants.{Sound, Refused}
 use Rattle.labels.specs.declared.label.Labels.{Labels}
+use Rattle.std.specs.Prelude.{Err, None, Ok, Some}
 
--- one step, as it is held
-module _ (M : System ℕ) (p q : ℕ) (x : Step) where
-  pub idle-fits : x ≡ step.Idle → eqb q p ≡ read_fits M p x q
-  unfolding read_fits
-  idle-fits e = rw e
-
-  pub move-fits : (m : Move) → x ≡ step.Move m → {b : Bool} → b ≡ has_move M p m.label.0 m.target
-      → b ≡ read_fits M p x q
-  unfolding read_fits
-  move-fits m e h = rw e h
-
--- and as it is written
+-- a step as it is held is judged as it is written
 read_fits_lem : (M : System ℕ) (p a q : ℕ) → read_fits M p (step_struct (step_of a q)) q ≡ step_fits M p a q
 unfolding step_fits step_of step_struct read_fits
 read_fits_lem M p a q = go (eqb a 255)
@@ -68,38 +54,26 @@ Walked t s i =
     ≡ go_on (step_fits (table_of t)) (get_or s 0 0) (twos (drop 1 s))
 
 module _ (t s : List ℕ) where
-  pub even_half : (length s % 2 ≡ 1 → ⊥) → false ≡ is_half_run t s
-  unfolding is_half_run
-  even_half n = rw (ne_eqb _ _ n)
-
   pub walked_start : Walked t s 0
   unfolding Walked
   walked_start = refl
 
   module _ (odd : length s % 2 ≡ 1) where
-    pub long_half : 401 < length s → false ≡ is_half_run t s
-    unfolding is_half_run
-    long_half h = rw (eq-eqb _ _ odd, lt-leb _ _ h)
-
     module _ (short : length s ≤ 401) where
-      pub start_out : states_of t ≤ get_or s 0 0 → false ≡ is_half_run t s
-      unfolding is_half_run
-      start_out h = rw (eq-eqb _ _ odd, le-leb _ _ short, le-ltb (get_or s 0 0) (states_of t) h)
-
       module _ (begins : get_or s 0 0 < states_of t) where
         steps_decide : {x : Bool} → x ≡ go_on (step_fits (table_of t)) (get_or s 0 0) (twos (drop 1 s)) → x ≡ is_half_run t s
         unfolding is_half_run
         steps_decide e = rw (eq-eqb _ _ odd, le-leb _ _ short, lt-ltb (get_or s 0 0) (states_of t) begins) e
 
         module _ (i : ℕ) (w : Walked t s i) where
-          pub walked_end : read.NoSuchStep ≡ step_read s i → true ≡ is_half_run t s
+          pub walked_end : None ≡ step_read s i → true ≡ is_half_run t s
           unfolding Walked
           walked_end e = steps_decide
               (ended (step_fits (table_of t)) (get_or s (2 * i) 0) (no_two s i (omega (arith, odd, none_found s i odd e)))
               w)
 
           -- the reading finds step x at i, and the test of it says b
-          module _ (x : Step) (e : read.Step x ≡ step_read s i) (b : Bool)
+          module _ (x : Step) (e : Some x ≡ step_read s i) (b : Bool)
               (f : b ≡ read_fits (table_of t) (get_or s (2 * i) 0) x (get_or s (2 * i + 2) 0)) where
             there : 2 * i + 2 < length s
             there = omega (arith, odd, (step_found s i x e).within)
@@ -121,15 +95,15 @@ module _ (t s : List ℕ) where
 
 -- a table and a half of it
 module _ (k : Labels) (t s : List ℕ) where
-  pub table_refused : (r : Refusal) → check_table k t ≡ Refused r → Refused r ≡ check_table_and_half k t s
+  pub table_refused : (r : Refusal) → check_table k t ≡ Err r → Err r ≡ check_table_and_half k t s
   unfolding check_table_and_half first_of
   table_refused r e = rw e
 
-  module _ (sound : check_table k t ≡ Sound) where
-    pub half_sound : is_half_run t s ≡ true → Sound ≡ check_table_and_half k t s
+  module _ (sound : check_table k t ≡ Ok tt) where
+    pub half_sound : is_half_run t s ≡ true → Ok tt ≡ check_table_and_half k t s
     unfolding check_table_and_half check_half first_of
     half_sound e = rw (sound, e)
 
-    pub half_refused : is_half_run t s ≡ false → Refused NotARun ≡ check_table_and_half k t s
+    pub half_refused : is_half_run t s ≡ false → Err NotARun ≡ check_table_and_half k t s
     unfolding check_table_and_half check_half first_of
     half_refused e = rw (sound, e)

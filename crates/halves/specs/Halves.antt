@@ -2,10 +2,9 @@
 use Rattle.std.specs.Prelude.{ℕ, ◌%◌, ◌≤◌, ◌<◌, ◌≡◌, Bool, cond, ◌&&◌, not, List, [], ◌∷◌, length, get_or, drop, eqb, leb, ltb}
 use Rattle.hml.specs.Lists.{same, each}
 use Rattle.hml.specs.System.{System, Run, start, steps, first, RunOf}
-use Rattle.labels.specs.Refusals.{refused_if, first_of}
+use Rattle.labels.specs.Refusals.{refused_if, first_of, Check}
 use Rattle.tables.specs.Tables.{states_of, table_of, has_move, check_table}
 use Rattle.halves.specs.Runs.{written, lengthened, go_on}
-use Rattle.labels.specs.declared.refusal.Check.{Check}
 use Rattle.labels.specs.declared.refusal.Refusal.TheVariants.{NotARun}
 use Rattle.labels.specs.declared.label.Labels.{Labels}
 

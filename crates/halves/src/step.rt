@@ -17,28 +17,19 @@ pub enum Step {
     Idle,
 }
 
-// What reading a step finds.
-#[derive(Clone, Copy)]
-pub enum StepRead {
-    Step(Step),
-    NoSuchStep,
-}
-
 // Step i of a half run's bytes.
-pub fn step_at(half: &[u8], i: usize) -> StepRead
+#[tactic(auto, unfolding(crate::specs::Steps::step_read, crate::specs::Steps::step_struct, crate::specs::Runs::step_of))]
+pub fn step_at(half: &[u8], i: usize) -> Option<Step>
     ensures { result ≡ step_read half.now i }
 {
     let n = half.len();
-    if n % 2 != 1 {
-        return StepRead::NoSuchStep;
-    }
-    if n / 2 <= i {
-        return StepRead::NoSuchStep;
+    if n % 2 != 1 || n / 2 <= i {
+        return None;
     }
     let label = Label(half[2 * i + 1]);
     if label.is_idle() {
-        return StepRead::Step(Step::Idle);
+        return Some(Step::Idle);
     }
     let target = half[2 * i + 2];
-    StepRead::Step(Step::Move(Move { label, target }))
+    Some(Step::Move(Move { label, target }))
 }

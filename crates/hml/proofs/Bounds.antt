@@ -9,7 +9,6 @@ use mathlib.Core.List.{List, [], ◌∷◌, ◌++◌}
 use mathlib.Core.List.Memᴰ.{eq_of_singleton as ∈-single}
 use mathlib.Core.List.Memᴰ.{not-nil as nowhere}
 use mathlib.Core.List.Memᴰ.{append_cases as ∈-append}
-use mathlib.Core.Option.{Option, none, some}
 use Prim.Native.Nat.{ℕ, ◌+◌, ◌≤◌}
 use native.Mathlib.Omega.{arith}
 use lib.Dec.{leb}
@@ -20,12 +19,13 @@ use Rattle.hml.proofs.Lists.{∈-only, each-∈}
 use Rattle.hml.specs.System.{System, move, idle, Run, start, ◌▸◌, last, Pairing}
 use Rattle.hml.specs.Formula.{Formula, top, bottom, not, and, or, fwd, back, fwd_idle, back_idle, labelled, nesting}
 use Rattle.hml.specs.Quotient.{ors, of_partner, back_by, quotient}
+use Rattle.std.specs.Prelude.{None, Option, Some}
 
 -- what every disjunct of a forward modality's quotient is
 module _ (P : Pairing) {T : Type 0} (K : System T) (a : ℕ) (φ : Formula) (r : Run T) where
   pub data Disjunct : Formula → Type 0 where
     alone : (m : ℕ × T) → Disjunct (fwd_idle (quotient P K φ (r ▸ move m.0 m.1)))
-    shaken : (m : ℕ × T) (c : ℕ) → P.partner m.0 ≡ some c
+    shaken : (m : ℕ × T) (c : ℕ) → P.partner m.0 ≡ Some c
         → Disjunct (fwd c (quotient P K φ (r ▸ move m.0 m.1)))
 
   -- the disjuncts behind the first
@@ -36,8 +36,8 @@ module _ (P : Pairing) {T : Type 0} (K : System T) (a : ℕ) (φ : Formula) (r :
 
   of_partner_lem : (m : ℕ × T) (o : Option ℕ) → P.partner m.0 ≡ o → (e : Formula)
       → e ∈ of_partner o (λ c. fwd c (quotient P K φ (r ▸ move m.0 m.1))) → Disjunct e
-  of_partner_lem m none f e i = absurd (nowhere i)
-  of_partner_lem m (some c) f e i = rw (∈-single i) (shaken m c f)
+  of_partner_lem m None f e i = absurd (nowhere i)
+  of_partner_lem m (Some c) f e i = rw (∈-single i) (shaken m c f)
 
   pub disjunct : (e : Formula) → e ∈ others → Disjunct e
   disjunct e i =
@@ -63,15 +63,15 @@ module _ (n : ℕ) where
   labelled-ors d [] h k = h
   labelled-ors d (e ∷ es) h k = both h (labelled-ors e es (k e (here refl)) (λ f i. k f (there i)))
 
-  labelled-back : (t z : Bool) (o : Option ℕ) (φ : Formula) → ((c : ℕ) → o ≡ some c → c ≤ n) → labelled n φ ≡ true
+  labelled-back : (t z : Bool) (o : Option ℕ) (φ : Formula) → ((c : ℕ) → o ≡ Some c → c ≤ n) → labelled n φ ≡ true
       → labelled n (back_by t z o φ) ≡ true
   unfolding labelled
   labelled-back true z o φ k h = h
   labelled-back false false o φ k h = refl
-  labelled-back false true none φ k h = refl
-  labelled-back false true (some c) φ k h = both (le-leb c n (k c refl)) h
+  labelled-back false true None φ k h = refl
+  labelled-back false true (Some c) φ k h = both (le-leb c n (k c refl)) h
 
-  module _ (P : Pairing) (ranged : (b c : ℕ) → P.partner b ≡ some c → c ≤ n) {T : Type 0} (K : System T) where
+  module _ (P : Pairing) (ranged : (b c : ℕ) → P.partner b ≡ Some c → c ≤ n) {T : Type 0} (K : System T) where
     -- no label of the quotient is above the highest
     pub quotient-labelled : (φ : Formula) (r : Run T) → labelled n φ ≡ true → labelled n (quotient P K φ r) ≡ true
     unfolding quotient labelled
@@ -113,8 +113,8 @@ nesting-back : (t z : Bool) (o : Option ℕ) (φ : Formula) → nesting (back_by
 unfolding nesting
 nesting-back true z o φ = omega arith
 nesting-back false false o φ = omega arith
-nesting-back false true none φ = omega arith
-nesting-back false true (some c) φ = omega arith
+nesting-back false true None φ = omega arith
+nesting-back false true (Some c) φ = omega arith
 
 module _ (P : Pairing) {T : Type 0} (K : System T) where
   -- forward modalities nest no deeper in the quotient

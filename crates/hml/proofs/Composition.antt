@@ -2,19 +2,19 @@
 -- (`Composed`), and that the joint system does; the two sides may change places.
 use mathlib.Core.Path.{◌≡◌, refl, sym, ◌∙◌, ap}
 use mathlib.Core.Bool.{Bool, ◌&&◌, ◌||◌}
-use mathlib.Core.Option.{some}
 use Prim.Native.Nat.{ℕ}
 use Rattle.hml.proofs.Tests.{Decides, decided_iff, decided_same, decided_alike, or_turn}
 use Rattle.hml.specs.Lists.{any}
 use Rattle.hml.proofs.Lists.{decided_present, any_cong, any_append, any-map, any-each, any-only, any_swap}
 use Rattle.hml.specs.System.{System, Step, move, idle, Run, start, ◌▸◌, last, Pairing}
 use Rattle.hml.specs.Compose.{shakes, paired, ways, beside}
+use Rattle.std.specs.Prelude.{Some}
 
 module _ (P : Pairing) where
-  pub decided_shakes : (a b : ℕ) → Decides (P.partner a ≡ some b) (shakes P a b)
+  pub decided_shakes : (a b : ℕ) → Decides (P.partner a ≡ Some b) (shakes P a b)
   unfolding shakes
   decided_shakes a b = decided_iff
-      (λ t. P.returned (t.1 ∙ ap some (sym t.2)))
+      (λ t. P.returned (t.1 ∙ ap Some (sym t.2)))
       (λ e. (a, P.returned e, refl))
       (decided_present (λ c. decided_same a c) (P.partner b))
 
@@ -33,7 +33,7 @@ module _ (P : Pairing) {S T U : Type 0} (pair : S → T → U) where
   pub data Match (p : S) (q : T) : Step S → Step T → Step U → Type 0 where
     left_alone : (a : ℕ) (p' : S) → Match p q (move a p') idle (move a (pair p' q))
     right_alone : (b : ℕ) (q' : T) → Match p q idle (move b q') (move b (pair p q'))
-    handshake : (a : ℕ) (p' : S) (b : ℕ) (q' : T) → P.partner a ≡ some b
+    handshake : (a : ℕ) (p' : S) (b : ℕ) (q' : T) → P.partner a ≡ Some b
         → Match p q (move a p') (move b q') (move 0 (pair p' q'))
     both_idle : Match p q idle idle idle
 

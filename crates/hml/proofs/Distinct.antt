@@ -9,7 +9,6 @@ use mathlib.Core.List.Memᴰ.{append_cases as ∈-append}
 use mathlib.Core.List.Memᴰ.{not-nil as nowhere}
 use mathlib.Core.List.Memᴰ.{of_map as map-∈}
 use mathlib.Core.List.Memᴰ.{cast as ∈-cast}
-use mathlib.Core.Option.{Option}
 use Prim.Native.Nat.{ℕ}
 use Rattle.hml.proofs.Tests.{apart, Tested, decides, decided_true}
 use Rattle.hml.specs.Lists.{◌∈◌, only, each, any}
@@ -18,6 +17,7 @@ use Rattle.hml.specs.System.{System, Step, move, idle, Run, start, ◌▸◌, la
 use Rattle.hml.specs.Compose.{Way, left, right, both, joint, ways, lefts, rights, handshakes, shakes, halves}
 use Rattle.hml.specs.Split.{grown, options, splits}
 use Rattle.hml.proofs.Splits.{moves_tested}
+use Rattle.std.specs.Prelude.{Option}
 
 pub data Distinct {A : Type 0} : List A → Type 0 where
   none : Distinct []
@@ -127,12 +127,12 @@ module _ (P : Pairing) {S T : Type 0} (L : System S) (R : System T) (dl : (p : S
 
 -- the way that two steps form, if they form one
 whole : {S T : Type 0} → Step S → Step T → Option (Way S T)
-whole (move a p) (move b q) = Option.some (both a p b q)
-whole (move a p) idle = Option.some (left a p)
-whole idle (move b q) = Option.some (right b q)
-whole idle idle = Option.none
+whole (move a p) (move b q) = Option.Some (both a p b q)
+whole (move a p) idle = Option.Some (left a p)
+whole idle (move b q) = Option.Some (right b q)
+whole idle idle = Option.None
 
-whole-halves : {S T : Type 0} (w : Way S T) → whole (halves w).0 (halves w).1 ≡ Option.some w
+whole-halves : {S T : Type 0} (w : Way S T) → whole (halves w).0 (halves w).1 ≡ Option.Some w
 unfolding whole
 whole-halves (left a p) = refl
 whole-halves (right b q) = refl

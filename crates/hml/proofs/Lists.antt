@@ -11,12 +11,12 @@ use mathlib.Core.List.Memᴰ.{eq_of_singleton as ∈-single}
 use mathlib.Core.List.Memᴰ.{append_cases as ∈-append}
 use mathlib.Core.List.Memᴰ.{append_left as ∈-left}
 use mathlib.Core.List.Memᴰ.{append_right as ∈-right}
-use mathlib.Core.Option.{Option, none, some}
 use Prim.Native.Nat.{ℕ, ◌*◌}
 use native.Mathlib.Nat.{zero-mul, suc-mul, add_comm}
 use lib.ListN.{length, length-append}
 use Rattle.hml.proofs.Tests.{apart, Decides, refutes, decided_or, decided_iff, or_interchange}
 use Rattle.hml.specs.Lists.{◌∈◌, only, given, present, any, each}
+use Rattle.std.specs.Prelude.{None, Option, Some}
 
 module _ {A : Type 0} where
   pub decided_any : {P : A → Type 0} {f : A → Bool} → ((x : A) → Decides (P x) (f x)) → (xs : List A)
@@ -37,9 +37,9 @@ module _ {A : Type 0} where
   ∈-only false = (λ i. absurd (nowhere i), λ t. absurd (false≢true t.0))
 
   pub decided_present : {P : A → Type 0} {f : A → Bool} → ((x : A) → Decides (P x) (f x)) → (o : Option A)
-      → Decides ((x : A) × (o ≡ some x) × P x) (present f o)
-  decided_present d none = refutes (λ t. let e = t.1 in apart cc)
-  decided_present {P} d (some x) =
+      → Decides ((x : A) × (o ≡ Some x) × P x) (present f o)
+  decided_present d None = refutes (λ t. let e = t.1 in apart cc)
+  decided_present {P} d (Some x) =
       decided_iff (λ h. (x, refl, h)) (λ t. let e = t.1 in let h : x ≡ t.0 = cc in rw h t.2) (d x)
 
   pub any_cong : {f g : A → Bool} → ((x : A) → f x ≡ g x) → (xs : List A) → any f xs ≡ any g xs

@@ -2,7 +2,6 @@
 use mathlib.Core.Path.{◌≡◌, refl, sym, ◌∙◌, ap, ap₂}
 use mathlib.Core.Bool.{Bool, true, false, ◌&&◌, ◌||◌, or-false, and-false, not as negate}
 use mathlib.Core.List.{List, [], ◌∷◌}
-use mathlib.Core.Option.{Option, none, some}
 use Prim.Native.Nat.{ℕ}
 use Rattle.hml.proofs.Tests.{and_cong, same_refl, decides, denied, apart, decided_same}
 use Rattle.hml.specs.Lists.{same, any, present, given}
@@ -13,10 +12,11 @@ use Rattle.hml.proofs.Composition.{decided_shakes, Composed, Join, starts, ◌�
 use Rattle.hml.proofs.Composition.{both_idle, last-join}
 use Rattle.hml.specs.Formula.{Formula, top, bottom, not, and, or, fwd, back, fwd_idle, back_idle, holds}
 use Rattle.hml.specs.Quotient.{ors, of_partner, back_by, quotient}
+use Rattle.std.specs.Prelude.{None, Option, Some}
 
 any-of_partner : (h : Formula → Bool) (o : Option ℕ) (f : ℕ → Formula) → any h (of_partner o f) ≡ present (λ c. h (f c)) o
-any-of_partner h none f = refl
-any-of_partner h (some c) f = or-false (h (f c))
+any-of_partner h None f = refl
+any-of_partner h (Some c) f = or-false (h (f c))
 
 module _ {S : Type 0} (M : System S) where
   holds-ors : (r : Run S) (d : Formula) (ds : List Formula)
@@ -30,11 +30,11 @@ module _ {S : Type 0} (M : System S) where
   unfolding holds
   back_alone r φ true z o = refl
   back_alone r φ false false o = refl
-  back_alone r φ false true none = refl
-  back_alone r φ false true (some c) = refl
+  back_alone r φ false true None = refl
+  back_alone r φ false true (Some c) = refl
 
   back-shaken : (r : Run S) (φ : Formula) (a : ℕ) (p : S) (t z : Bool) → (t ≡ true → z ≡ false)
-      → (z && holds M φ r) ≡ holds M (back_by t z (some a) φ) (r ▸ move a p)
+      → (z && holds M φ r) ≡ holds M (back_by t z (Some a) φ) (r ▸ move a p)
   unfolding holds
   back-shaken r φ a p true z h = ap (◌&& holds M φ r) (h refl)
   back-shaken r φ a p false false h = refl
@@ -42,7 +42,7 @@ module _ {S : Type 0} (M : System S) where
 
 module _ (P : Pairing) where
   -- a label with a partner is not the silent one
-  not-silent : (a b c : ℕ) → P.partner b ≡ some c → same b a ≡ true → same 0 a ≡ false
+  not-silent : (a b c : ℕ) → P.partner b ≡ Some c → same b a ≡ true → same 0 a ≡ false
   not-silent a b c e h =
       denied (decided_same 0 a) (λ o. let g : b ≡ a = (decides (decided_same b a)).0 h in apart (cc P.silent))
 
@@ -58,8 +58,8 @@ module _ (P : Pairing) where
     where
       go : (n : _) (o : Option ℕ) → ((m : ℕ × A) → present (same m.0) o ≡ true → F m n ≡ G m n)
           → any (λ m. present (same m.0) o && F m n) xs ≡ present (λ c. any (λ m. same m.0 c && G m n) xs) o
-      go n none k = any_false xs
-      go n (some c) k = any_cong (λ m. and_cong (same m.0 c) (k m)) xs
+      go n None k = any_false xs
+      go n (Some c) k = any_cong (λ m. and_cong (same m.0 c) (k m)) xs
 
 module _ (P : Pairing) {S T U : Type 0} (pair : S → T → U) (L : System S) (R : System T) (J : System U)
     (law : Composed P pair L R J) where

@@ -9,7 +9,6 @@ use mathlib.Core.List.Memᴰ.{append_right as ∈-right}
 use mathlib.Core.List.Memᴰ.{cast as ∈-cast}
 use mathlib.Core.List.Memᴰ.{map as ∈-map}
 use mathlib.Core.List.Memᴰ.{of_map as map-∈}
-use mathlib.Core.Option.{some}
 use Prim.Native.Nat.{ℕ}
 use Rattle.hml.proofs.Tests.{decides}
 use Rattle.hml.specs.Lists.{◌∈◌}
@@ -20,13 +19,14 @@ use Rattle.hml.specs.Compose.{paired, Way, left, right, both, joint, ways, lefts
 use Rattle.hml.specs.Compose.{shakes, halves}
 use Rattle.hml.proofs.Composition.{Match, Join, starts, ◌▹◌, left_alone, right_alone, handshake, both_idle}
 use Rattle.hml.proofs.Composition.{last-join, decided_shakes}
+use Rattle.std.specs.Prelude.{Some}
 
 module _ (P : Pairing) {S T : Type 0} (L : System S) (R : System T) where
   -- which ways the two systems offer from (p, q)
   abbrev pub Offered : S → T → Way S T → Type 0
   Offered p q (left a p') = (a, p') ∈ L p
   Offered p q (right b q') = (b, q') ∈ R q
-  Offered p q (both a p' b q') = (a, p') ∈ L p × (b, q') ∈ R q × (P.partner a ≡ some b)
+  Offered p q (both a p' b q') = (a, p') ∈ L p × (b, q') ∈ R q × (P.partner a ≡ Some b)
 
   -- a joint step is real if there is a way for it
   abbrev pub Real : S → T → ℕ × (S × T) → Type 0

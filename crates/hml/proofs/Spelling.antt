@@ -2,7 +2,6 @@
 -- a node.
 use mathlib.Core.Path.{◌≡◌, refl, sym, ◌∙◌, ap}
 use mathlib.Core.List.{List, [], ◌∷◌, ◌++◌, append_assoc}
-use mathlib.Core.Option.{none, some}
 use Prim.Native.Nat.{ℕ, zero, suc, ◌+◌, ◌*◌}
 use lib.ListN.{get_or, length}
 use native.Mathlib.Omega.{arith}
@@ -10,6 +9,7 @@ use Rattle.hml.proofs.Tests.{apart}
 use Rattle.hml.specs.Formula.{Formula, top, bottom, not, and, or, fwd, back, fwd_idle, back_idle, size}
 use Rattle.hml.specs.Spell.{spell, Shape, leaf, unary, binary, bad, operators, shape, Read, build0, build1}
 use Rattle.hml.specs.Spell.{build2, next, trees, single, parse}
+use Rattle.std.specs.Prelude.{None, Some}
 
 -- two bytes a node
 pub length-spell : (φ : Formula) (bs : List ℕ) → length (spell φ bs) ≡ 2 * size φ + length bs
@@ -48,20 +48,20 @@ spell-append (back a φ) bs = ap (λ l. 6 ∷ a ∷ l) (spell-append φ bs)
 spell-append (fwd_idle φ) bs = ap (λ l. 7 ∷ 0 ∷ l) (spell-append φ bs)
 spell-append (back_idle φ) bs = ap (λ l. 8 ∷ 0 ∷ l) (spell-append φ bs)
 
-trees-zero : (bs : List ℕ) → trees bs 0 ≡ some ([], bs)
+trees-zero : (bs : List ℕ) → trees bs 0 ≡ Some ([], bs)
 unfolding trees
 trees-zero [] = refl
 trees-zero (o ∷ []) = refl
 trees-zero (o ∷ a ∷ bs) = refl
 
 build1_0 : (f : Formula → Formula) (φ : Formula) (t : Read) → build1 f (build0 φ t) ≡ build0 (f φ) t
-build1_0 f φ none = refl
-build1_0 f φ (some t) = refl
+build1_0 f φ None = refl
+build1_0 f φ (Some t) = refl
 
 build2_00 : (f : Formula → Formula → Formula) (φ ψ : Formula) (t : Read)
     → build2 f (build0 φ (build0 ψ t)) ≡ build0 (f φ ψ) t
-build2_00 f φ ψ none = refl
-build2_00 f φ ψ (some t) = refl
+build2_00 f φ ψ None = refl
+build2_00 f φ ψ (Some t) = refl
 
 -- what is spelled is read
 trees-spell : (φ : Formula) (bs : List ℕ) (n : ℕ) → trees (spell φ bs) (suc n) ≡ build0 φ (trees bs n)
@@ -87,8 +87,8 @@ spells (φ ∷ φs) bs = spell φ (spells φs bs)
 
 -- a reading spells the bytes that were read
 abbrev Fits : Read → List ℕ → Type 0
-Fits none bs = Unit {0}
-Fits (some t) bs = spells t.0 t.1 ≡ bs
+Fits None bs = Unit {0}
+Fits (Some t) bs = spells t.0 t.1 ≡ bs
 
 abbrev Sound : ℕ → ℕ → Shape → Type 0
 Sound o a (leaf φ) = (bs : List ℕ) → spell φ bs ≡ o ∷ a ∷ bs
@@ -121,21 +121,21 @@ sound_at f a (s ∷ ss) h (suc o) = sound_at (λ n. f (suc n)) a ss h.1 o
 
 fits0 : (o a : ℕ) (φ : Formula) → Sound o a (leaf φ) → (t : Read) (bs : List ℕ) → Fits t bs
     → Fits (build0 φ t) (o ∷ a ∷ bs)
-fits0 o a φ s none bs h = tt
-fits0 o a φ s (some t) bs h = s (spells t.0 t.1) ∙ ap (λ x. o ∷ a ∷ x) h
+fits0 o a φ s None bs h = tt
+fits0 o a φ s (Some t) bs h = s (spells t.0 t.1) ∙ ap (λ x. o ∷ a ∷ x) h
 
 fits1 : (o a : ℕ) (f : Formula → Formula) → Sound o a (unary f) → (t : Read) (bs : List ℕ) → Fits t bs
     → Fits (build1 f t) (o ∷ a ∷ bs)
-fits1 o a f s none bs h = tt
-fits1 o a f s (some ([], r)) bs h = tt
-fits1 o a f s (some (φ ∷ φs, r)) bs h = s φ (spells φs r) ∙ ap (λ x. o ∷ a ∷ x) h
+fits1 o a f s None bs h = tt
+fits1 o a f s (Some ([], r)) bs h = tt
+fits1 o a f s (Some (φ ∷ φs, r)) bs h = s φ (spells φs r) ∙ ap (λ x. o ∷ a ∷ x) h
 
 fits2 : (o a : ℕ) (f : Formula → Formula → Formula) → Sound o a (binary f) → (t : Read) (bs : List ℕ) → Fits t bs
     → Fits (build2 f t) (o ∷ a ∷ bs)
-fits2 o a f s none bs h = tt
-fits2 o a f s (some ([], r)) bs h = tt
-fits2 o a f s (some (φ ∷ [], r)) bs h = tt
-fits2 o a f s (some (φ ∷ ψ ∷ φs, r)) bs h = s φ ψ (spells φs r) ∙ ap (λ x. o ∷ a ∷ x) h
+fits2 o a f s None bs h = tt
+fits2 o a f s (Some ([], r)) bs h = tt
+fits2 o a f s (Some (φ ∷ [], r)) bs h = tt
+fits2 o a f s (Some (φ ∷ ψ ∷ φs, r)) bs h = s φ ψ (spells φs r) ∙ ap (λ x. o ∷ a ∷ x) h
 
 fits_next : (o a : ℕ) (s : Shape) → Sound o a s → (n : ℕ) (more : ℕ → Read) (bs : List ℕ) → ((m : ℕ) → Fits (more m) bs)
     → Fits (next s n more) (o ∷ a ∷ bs)
@@ -155,17 +155,17 @@ trees_fit (o ∷ a ∷ bs) (suc n) =
     fits_next o a (shape o a) (sound_at (λ n. n) a (operators a) (operators_sound a) o) n (λ m. trees bs m) bs
     (λ m. trees_fit bs m)
 
-pub parse-spell : (φ : Formula) (bs : List ℕ) → parse (spell φ bs) ≡ some (φ, bs)
+pub parse-spell : (φ : Formula) (bs : List ℕ) → parse (spell φ bs) ≡ Some (φ, bs)
 unfolding parse
 parse-spell φ bs = rw (trees-spell φ bs 0, trees-zero bs)
 
-pub parse_sound : (bs : List ℕ) (φ : Formula) (rest : List ℕ) → parse bs ≡ some (φ, rest) → spell φ rest ≡ bs
+pub parse_sound : (bs : List ℕ) (φ : Formula) (rest : List ℕ) → parse bs ≡ Some (φ, rest) → spell φ rest ≡ bs
 unfolding parse
 parse_sound bs φ rest e = go (trees bs 1) (trees_fit bs 1) e
   where
-    go : (t : Read) → Fits t bs → single t ≡ some (φ, rest) → spell φ rest ≡ bs
-    go none h e = absurd (apart cc)
-    go (some ([], r)) h e = absurd (apart cc)
-    go (some (ψ ∷ [], r)) h e =
+    go : (t : Read) → Fits t bs → single t ≡ Some (φ, rest) → spell φ rest ≡ bs
+    go None h e = absurd (apart cc)
+    go (Some ([], r)) h e = absurd (apart cc)
+    go (Some (ψ ∷ [], r)) h e =
         let k : ◌≡◌ {A = Formula × List ℕ} (ψ, r) (φ, rest) = cc in ap (λ x. spell x.0 x.1) (sym k) ∙ h
-    go (some (ψ ∷ χ ∷ ψs, r)) h e = absurd (apart cc)
+    go (Some (ψ ∷ χ ∷ ψs, r)) h e = absurd (apart cc)

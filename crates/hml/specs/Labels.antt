@@ -2,9 +2,8 @@
 -- the next number, of an even one (from 2) the number before." This is one `Pairing` for each k. A `Pairing` holds two
 -- proofs, that nobody is the partner of 0 and that partners have each other: they stand between the partners and
 -- `pairs`.
-use Rattle.std.specs.Prelude.{◌≡◌, refl, Bool, true, false, cond, ℕ, zero, suc, ◌+◌, ◌-◌, ◌*◌, ◌%◌, ◌≤◌, ◌<◌, min, eqb, leb}
+use Rattle.std.specs.Prelude.{◌≡◌, refl, Bool, true, false, cond, ℕ, zero, suc, ◌+◌, ◌-◌, ◌*◌, ◌%◌, ◌≤◌, ◌<◌, min, eqb, leb, None, Option, Some}
 use Rattle.std.proofs.Common.{ap, arith, eq-eqb, ne_eqb, eqb-true, le-leb, leb-true}
-use Rattle.std.proofs.Math.Option.{Option, none, some}
 use Rattle.std.proofs.lemmas.Bool.{eqb-false}
 use Rattle.hml.specs.System.{Pairing}
 
@@ -14,13 +13,13 @@ highest k = min (2 * k) 254
 
 -- the partner of a label: of an odd one the next number, of an even one (from 2) the number before, of 0 nobody
 unfoldable pub partner_of : ℕ → Option ℕ
-partner_of a = cond (eqb a 0) none (some (cond (eqb (a % 2) 1) (a + 1) (a - 1)))
+partner_of a = cond (eqb a 0) None (Some (cond (eqb (a % 2) 1) (a + 1) (a - 1)))
 
 -- the partner among the labels of k pairs: what is no label of theirs has none
 unfoldable pub partner_among : ℕ → ℕ → Option ℕ
-partner_among k a = cond (leb a (highest k)) (partner_of a) none
+partner_among k a = cond (leb a (highest k)) (partner_of a) None
 
-pub silent_alone : (k : ℕ) → partner_among k 0 ≡ none
+pub silent_alone : (k : ℕ) → partner_among k 0 ≡ None
 unfolding partner_among partner_of
 silent_alone k = rw (le-leb 0 (highest k) (omega arith))
 
@@ -41,18 +40,18 @@ even_highest : (k : ℕ) → highest k % 2 ≡ 0
 unfolding highest
 even_highest k = omega arith
 
-no_partner : {b : ℕ} → none ≡ some b → ⊥
+no_partner : {b : ℕ} → None ≡ Some b → ⊥
 no_partner e = let z : ◌≡◌ {A = ℕ} 0 1 = cc in omega arith
 
 -- a label and its partner are labels of the k pairs, from 1 on, and have each other
-pub partners : (k a b : ℕ) → partner_among k a ≡ some b
-    → (1 ≤ a) × (a ≤ highest k) × (1 ≤ b) × (b ≤ highest k) × (partner_among k b ≡ some a)
+pub partners : (k a b : ℕ) → partner_among k a ≡ Some b
+    → (1 ≤ a) × (a ≤ highest k) × (1 ≤ b) × (b ≤ highest k) × (partner_among k b ≡ Some a)
 unfolding partner_among partner_of
 partners k a b e = go (leb a (highest k)) (eqb a 0) (eqb (a % 2) 1) refl refl refl e
   where
     go : (t z o : Bool) → leb a (highest k) ≡ t → eqb a 0 ≡ z → eqb (a % 2) 1 ≡ o
-        → cond t (cond z none (some (cond o (a + 1) (a - 1)))) none ≡ some b
-        → (1 ≤ a) × (a ≤ highest k) × (1 ≤ b) × (b ≤ highest k) × (partner_among k b ≡ some a)
+        → cond t (cond z None (Some (cond o (a + 1) (a - 1)))) None ≡ Some b
+        → (1 ≤ a) × (a ≤ highest k) × (1 ≤ b) × (b ≤ highest k) × (partner_among k b ≡ Some a)
     go false z o h n p e = absurd (no_partner e)
     go true true o h n p e = absurd (no_partner e)
     go true false true h n p e =
@@ -70,7 +69,7 @@ partners k a b e = go (leb a (highest k)) (eqb a 0) (eqb (a % 2) 1) refl refl re
             ne_eqb (a + 1) 0 (λ z. omega (arith, z)),
             ne_eqb ((a + 1) % 2) 1 (λ z. omega (arith, m, z)),
           )
-              (ap some (omega arith)),
+              (ap Some (omega arith)),
         )
     go true false false h n p e =
         let q : a - 1 ≡ b = cc in
@@ -88,7 +87,7 @@ partners k a b e = go (leb a (highest k)) (eqb a 0) (eqb (a % 2) 1) refl refl re
             ne_eqb (a - 1) 0 (λ z. omega (arith, o, m, z)),
             eq-eqb ((a - 1) % 2) 1 (omega (arith, o, m)),
           )
-              (ap some (omega (arith, o))),
+              (ap Some (omega (arith, o))),
         )
 
 -- document 01's pairing, for each k

@@ -1,7 +1,6 @@
 -- The equality test on labels and states, and searching and making lists: the small functions that the definitions use.
-use Rattle.std.specs.Prelude.{Bool, true, false, ◌||◌, ℕ, eqb}
+use Rattle.std.specs.Prelude.{Bool, true, false, ◌||◌, ℕ, eqb, None, Option, Some}
 use mathlib.Core.List.{List, [], ◌∷◌, ◌++◌, Memᴰ}
-use Rattle.std.proofs.Math.Option.{Option, none, some}
 
 -- the equality test on labels and states
 abbrev pub same : ℕ → ℕ → Bool
@@ -15,8 +14,8 @@ x ∈ xs = Memᴰ x xs
 module _ {A : Type 0} where
   -- x if the test passes, else nothing
   abbrev pub guard : Bool → A → Option A
-  guard true x = some x
-  guard false x = none
+  guard true x = Some x
+  guard false x = None
 
   -- the list of x alone if the test passes, else the empty list
   unfoldable pub only : Bool → A → List A
@@ -30,8 +29,8 @@ module _ {A : Type 0} where
 
   -- does the test pass for what is there?
   abbrev pub present : (A → Bool) → Option A → Bool
-  present f none = false
-  present f (some x) = f x
+  present f None = false
+  present f (Some x) = f x
 
   -- does the test pass for one of the elements?
   abbrev pub any : (A → Bool) → List A → Bool

@@ -1,7 +1,6 @@
 -- The quotient of a formula by one half of a joint run: table 1 of source document 000, as document 01 writes it out.
 -- That it keeps the verdict (theorem 1) is `quotient_sound`, proofs/Quotients.
-use Rattle.std.specs.Prelude.{Bool, true, false, List, [], ◌∷◌, ◌++◌, ℕ}
-use Rattle.std.proofs.Math.Option.{Option, none, some}
+use Rattle.std.specs.Prelude.{Bool, true, false, List, [], ◌∷◌, ◌++◌, ℕ, None, Option, Some}
 use Rattle.hml.specs.Lists.{same, only, given, each}
 use Rattle.hml.specs.System.{System, move, idle, Run, start, ◌▸◌, last, Pairing}
 use Rattle.hml.specs.Formula.{Formula, top, bottom, not, and, or, fwd, back, fwd_idle, back_idle}
@@ -13,15 +12,15 @@ ors d (e ∷ es) = or d (ors e es)
 
 -- what a partner gives, if there is one
 abbrev pub of_partner : Option ℕ → (ℕ → Formula) → List Formula
-of_partner none f = []
-of_partner (some c) f = f c ∷ []
+of_partner None f = []
+of_partner (Some c) f = f c ∷ []
 
 -- `back a` where the known half ends in a move of label b: is b that label? is a silent? has b a partner?
 abbrev pub back_by : Bool → Bool → Option ℕ → Formula → Formula
 back_by true z o φ = back_idle φ
 back_by false false o φ = bottom
-back_by false true none φ = bottom
-back_by false true (some c) φ = back c φ
+back_by false true None φ = bottom
+back_by false true (Some c) φ = back c φ
 
 module _ (P : Pairing) {T : Type 0} (K : System T) where
   -- "True, false, not, and, or pass through." Forward by a: by a over the quotient by r with an idle; for each row of

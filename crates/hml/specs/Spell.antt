@@ -1,7 +1,6 @@
 -- A formula as bytes: two for each node, operator and label, in prefix order; and reading them back. That the two are
 -- inverse is proved in proofs/Spelling.
-use Rattle.std.specs.Prelude.{List, [], ◌∷◌, ℕ, zero, suc, get_or}
-use Rattle.std.proofs.Math.Option.{Option, none, some}
+use Rattle.std.specs.Prelude.{List, [], ◌∷◌, ℕ, zero, suc, get_or, None, Option, Some}
 use Rattle.hml.specs.Formula.{Formula, top, bottom, not, and, or, fwd, back, fwd_idle, back_idle}
 
 -- the bytes of a formula, in front of others
@@ -40,42 +39,42 @@ abbrev pub Read : Type 0
 Read = Option (List Formula × List ℕ)
 
 abbrev pub build0 : Formula → Read → Read
-build0 φ none = none
-build0 φ (some t) = some (φ ∷ t.0, t.1)
+build0 φ None = None
+build0 φ (Some t) = Some (φ ∷ t.0, t.1)
 
 abbrev pub build1 : (Formula → Formula) → Read → Read
-build1 f none = none
-build1 f (some ([], bs)) = none
-build1 f (some (φ ∷ φs, bs)) = some (f φ ∷ φs, bs)
+build1 f None = None
+build1 f (Some ([], bs)) = None
+build1 f (Some (φ ∷ φs, bs)) = Some (f φ ∷ φs, bs)
 
 abbrev pub build2 : (Formula → Formula → Formula) → Read → Read
-build2 f none = none
-build2 f (some ([], bs)) = none
-build2 f (some (φ ∷ [], bs)) = none
-build2 f (some (φ ∷ ψ ∷ φs, bs)) = some (f φ ψ ∷ φs, bs)
+build2 f None = None
+build2 f (Some ([], bs)) = None
+build2 f (Some (φ ∷ [], bs)) = None
+build2 f (Some (φ ∷ ψ ∷ φs, bs)) = Some (f φ ψ ∷ φs, bs)
 
 -- goes on behind an operator, with `more m` for what m formulas behind it read to
 abbrev pub next : Shape → ℕ → (ℕ → Read) → Read
 next (leaf φ) n more = build0 φ (more n)
 next (unary f) n more = build1 f (more (suc n))
 next (binary f) n more = build2 f (more (suc (suc n)))
-next bad n more = none
+next bad n more = None
 
 -- reads n formulas, one behind the other: an operator asks for its operands in its own place
 unfoldable pub trees : List ℕ → ℕ → Read
-trees [] zero = some ([], [])
-trees [] (suc n) = none
-trees (o ∷ []) zero = some ([], o ∷ [])
-trees (o ∷ []) (suc n) = none
-trees (o ∷ a ∷ bs) zero = some ([], o ∷ a ∷ bs)
+trees [] zero = Some ([], [])
+trees [] (suc n) = None
+trees (o ∷ []) zero = Some ([], o ∷ [])
+trees (o ∷ []) (suc n) = None
+trees (o ∷ a ∷ bs) zero = Some ([], o ∷ a ∷ bs)
 trees (o ∷ a ∷ bs) (suc n) = next (shape o a) n (λ m. trees bs m)
 
 -- one formula and the bytes behind it
 abbrev pub single : Read → Option (Formula × List ℕ)
-single none = none
-single (some ([], bs)) = none
-single (some (φ ∷ [], bs)) = some (φ, bs)
-single (some (φ ∷ ψ ∷ φs, bs)) = none
+single None = None
+single (Some ([], bs)) = None
+single (Some (φ ∷ [], bs)) = Some (φ, bs)
+single (Some (φ ∷ ψ ∷ φs, bs)) = None
 
 unfoldable pub parse : List ℕ → Option (Formula × List ℕ)
 parse bs = single (trees bs 1)

@@ -1,7 +1,6 @@
 -- Labelled transition systems (definition 1) and their runs (the computations of definition 2, with idles); which
 -- labels shake hands (`Pairing`). A machine of document 01 is such a system; so are two of them side by side.
-use Rattle.std.specs.Prelude.{List, ◌≡◌, ℕ, zero, suc, ◌-◌}
-use Rattle.std.proofs.Math.Option.{Option, none, some}
+use Rattle.std.specs.Prelude.{List, ◌≡◌, ℕ, zero, suc, ◌-◌, None, Option, Some}
 use Rattle.hml.specs.Lists.{◌∈◌}
 
 -- the moves that leave a state, in order: label and target
@@ -58,5 +57,5 @@ module _ {S : Type 0} where
 -- have each other. Nothing else is asked of it: a label may be its own partner, or have none
 pub record Pairing : Type 0 where
   pub partner : ℕ → Option ℕ
-  pub silent : partner 0 ≡ none
-  pub returned : {a b : ℕ} → partner a ≡ some b → partner b ≡ some a
+  pub silent : partner 0 ≡ None
+  pub returned : {a b : ℕ} → partner a ≡ Some b → partner b ≡ Some a

@@ -3,14 +3,12 @@ use Prim.Native.Nat.{ℕ, zero, suc, ◌+◌, ◌-◌, ◌*◌, ◌/◌, ◌%◌
 use mathlib.Core.Path.{◌≡◌, refl, sym, ◌∙◌, ap}
 use mathlib.Core.Bool.{Bool, true, false, cond, false≢true}
 use mathlib.Core.List.{List, [], ◌∷◌, ◌++◌}
-use mathlib.Core.Option.{Option, none, some}
-use mathlib.Core.Logic.{◌⊎◌, inl, inr}
 use native.Mathlib.Omega.{arith}
 use lib.ListN.{length, get_or, take, drop, set, length-set}
 use lib.Seq.{take_all, drop-set-lt, length-take-le}
 use lib.Dec.{eqb}
-use borrow.Author.Tests.{eqb-true, eqb-false}
-use Rattle.hml.proofs.Tests.{apart, decides, denied}
+use borrow.Author.Tests.{eqb-true}
+use Rattle.hml.proofs.Tests.{apart, Decides, refutes, decided_iff, decided_alike, decided_same}
 use Rattle.hml.specs.Lists.{guard, present}
 use Rattle.hml.proofs.Lists.{each_append, length-each}
 use Rattle.hml.specs.System.{Step, move, idle, Run, start, ◌▸◌, last, steps, Pairing}
@@ -22,14 +20,9 @@ use Rattle.labels.specs.Labels.{pairing}
 use Rattle.labels.specs.Labels.{partner_found}
 use Rattle.labels.specs.Refusals.{in_front}
 use Rattle.labels.specs.declared.label.Label.{Label}
-use Rattle.labels.specs.declared.label.Partner.TheVariants as partner
 use Rattle.halves.specs.Runs.{written, step_of}
 use Rattle.halves.specs.Steps.{step_struct, step_read}
-use Rattle.halves.specs.declared.step.Move.{Move}
 use Rattle.halves.specs.declared.step.Step as held
-use Rattle.halves.specs.declared.step.Step.TheVariants as step
-use Rattle.halves.specs.declared.step.StepRead.{StepRead}
-use Rattle.halves.specs.declared.step.StepRead.TheVariants as read
 use Rattle.halves.proofs.Steps.{step_found, none_found}
 use Rattle.halves.specs.Halves.{twos, half_of}
 use Rattle.halves.proofs.Runs.{steps-lengthened, length-written, step_bytes}
@@ -44,76 +37,29 @@ use Rattle.machines.specs.Working.{put}
 use Rattle.labels.proofs.Labels.{found_some, found_none}
 use Rattle.labels.specs.declared.label.Labels.{Labels}
 use Rattle.joining.specs.Joinings.{join_of, halves_match, run_bytes, join_bytes}
-use Rattle.joining.specs.Working.{HalfBytes, shaken_label, joint_label, label_found, label_read}
-use Rattle.joining.specs.declared.join.JointLabel.{JointLabel}
-use Rattle.joining.specs.declared.join.JointLabel.TheVariants as joint
+use Rattle.joining.specs.Working.{HalfBytes, shaken_label, joint_label, label_read}
+use Rattle.std.specs.Prelude.{None, Option, Some}
+use Rattle.std.specs.Option.{option_eq, is_some}
+use Rattle.std.specs.Bool.{MatchBool}
+use Rattle.std.specs.List.{range_with_len, AllWithin, HoldsAt}
+use Rattle.std.proofs.lemmas.List.FromFn.{get_or-range_with_len, length-range_with_len}
+use Rattle.std.proofs.Common.{add-one}
 
--- the label of the joint step of two moves, each case from what the code knows at its return
-module _ (P : Pairing) (a b : Label) where
-  pub nobody_shakes : partner.Nobody ≡ partner_found (P.partner a.0)
-      → joint.NoMatch ≡ label_found (shaken_label P a.0 b.0)
-  unfolding shaken_label label_found
-  nobody_shakes f = rw (denied (decided_shakes P a.0 b.0) (λ e. let n = found_none _ f in apart cc))
+-- do two moves shake hands? The code compares the partner of the left label with the right one
+abbrev is_partner : Option ℕ → Label → Bool
+is_partner o b = option_eq (λ (l m : Label). eqb l.0 m.0) (partner_found o) (Some b)
 
-  module _ (p : Label) (f : partner.Label p ≡ partner_found (P.partner a.0)) where
-    pub partner-shakes : p.0 ≡ b.0 → joint.Label (record { 0 = 0 }) ≡ label_found (shaken_label P a.0 b.0)
-    unfolding shaken_label label_found
-    partner-shakes e = rw ((decides (decided_shakes P a.0 b.0)).1 (found_some _ p f ∙ ap some e))
+decided_partner : (o : Option ℕ) (b : Label) → Decides (o ≡ Some b.0) (is_partner o b)
+unfolding partner_found
+decided_partner None b = refutes (λ e. apart cc)
+decided_partner (Some n) b = decided_iff (λ e. ap Some e) (λ e. cc) (decided_same n b.0)
 
-    pub other_shakes : (p.0 ≡ b.0 → ⊥) → joint.NoMatch ≡ label_found (shaken_label P a.0 b.0)
-    unfolding shaken_label label_found
-    other_shakes n = rw (denied (decided_shakes P a.0 b.0) (λ e. n (let g = found_some _ p f in cc)))
-
--- that of two steps
-module _ (P : Pairing) (x y : held.Step) where
-  pub two_moves : (m n : Move) → x ≡ step.Move m → y ≡ step.Move n
-      → {l : JointLabel} → l ≡ label_found (shaken_label P m.label.0 n.label.0)
-      → l ≡ label_found (joint_label P x y)
-  unfolding joint_label
-  two_moves m n e f g = rw (e, f) g
-
-  pub left-moves : (m : Move) → x ≡ step.Move m → y ≡ step.Idle → joint.Label m.label ≡ label_found (joint_label P x y)
-  unfolding joint_label label_found
-  left-moves m e f = rw (e, f)
-
-  pub right-moves : (n : Move) → x ≡ step.Idle → y ≡ step.Move n
-      → joint.Label n.label ≡ label_found (joint_label P x y)
-  unfolding joint_label label_found
-  right-moves n e f = rw (e, f)
-
-  pub two_idles : x ≡ step.Idle → y ≡ step.Idle → joint.Label (record { 0 = 255 }) ≡ label_found (joint_label P x y)
-  unfolding joint_label label_found
-  two_idles e f = rw (e, f)
-
--- that of what is read of each half
-module _ (P : Pairing) (s t : StepRead) where
-  pub both_read : (x y : held.Step) → s ≡ read.Step x → t ≡ read.Step y
-      → {l : JointLabel} → l ≡ label_found (joint_label P x y) → l ≡ label_read P s t
-  unfolding label_read
-  both_read x y e f g = rw (e, f) g
-
-  pub left_read : (x : held.Step) → s ≡ read.Step x → t ≡ read.NoSuchStep → joint.NoMatch ≡ label_read P s t
-  unfolding label_read
-  left_read x e f = rw (e, f)
-
-  pub right_read : (y : held.Step) → s ≡ read.NoSuchStep → t ≡ read.Step y → joint.NoMatch ≡ label_read P s t
-  unfolding label_read
-  right_read y e f = rw (e, f)
-
-  pub none_read : s ≡ read.NoSuchStep → t ≡ read.NoSuchStep → joint.Ended ≡ label_read P s t
-  unfolding label_read
-  none_read e f = rw (e, f)
-
--- what a lookup of the label found
-label-some : (o : Option ℕ) (c : Label) → joint.Label c ≡ label_found o → o ≡ some c.0
-unfolding label_found
-label-some none c e = absurd (apart cc)
-label-some (some x) c e = let q : c ≡ record { 0 = x } = cc in ap (λ (l : Label). some l.0) (sym q)
-
-label-none : (o : Option ℕ) → joint.NoMatch ≡ label_found o → o ≡ none
-unfolding label_found
-label-none none e = refl
-label-none (some x) e = absurd (apart cc)
+pub shaken-compared : (P : Pairing) (a b : Label) {o : Option Label} {t : Bool} → o ≡ partner_found (P.partner a.0)
+    → t ≡ option_eq (λ (l m : Label). eqb l.0 m.0) o (Some b)
+    → partner_found (guard t 0) ≡ partner_found (shaken_label P a.0 b.0)
+unfolding shaken_label
+shaken-compared P a b e f =
+    rw (f, e, decided_alike (λ h. h) (λ h. h) (decided_partner (P.partner a.0) b) (decided_shakes P a.0 b.0))
 
 -- step i of a half as it is held, and the label of joint step i
 abbrev held_at : List ℕ → ℕ → held.Step
@@ -124,74 +70,47 @@ label_here k a b i = joint_label (pairing k) (held_at a i) (held_at b i)
 
 -- what a label tells that is found at i
 module _ (k : Labels) (a b : List ℕ) (i : ℕ) where
-  abbrev pub found_here : JointLabel
-  found_here = label_read (pairing k) (step_read a i) (step_read b i)
+  abbrev pub found_here : Option Label
+  found_here = partner_found (label_read (pairing k) (step_read a i) (step_read b i))
 
   pub record Labelled (c : Label) : Type 0 where
     pub left : i < length a / 2
     pub right : i < length b / 2
-    pub here : label_here k a b i ≡ some c.0
+    pub here : label_here k a b i ≡ Some c.0
 
-  pub labelled-here : (c : Label) → joint.Label c ≡ found_here → Labelled c
+  pub labelled-here : (c : Label) → Some c ≡ found_here → Labelled c
   unfolding label_read
-  labelled-here c e = go (step_read a i) (step_read b i) refl refl e
+  labelled-here c e =
+      go (step_read a i) (step_read b i) refl refl
+      (found_some (label_read (pairing k) (step_read a i) (step_read b i)) c e)
     where
-      go : (s t : StepRead) → step_read a i ≡ s → step_read b i ≡ t → joint.Label c ≡ label_read (pairing k) s t
+      go : (s t : Option held.Step) → step_read a i ≡ s → step_read b i ≡ t → label_read (pairing k) s t ≡ Some c.0
           → Labelled c
-      go (read.Step x) (read.Step y) f g e =
+      go (Some x) (Some y) f g e =
           let left = step_found a i x (sym f) in
           let right = step_found b i y (sym g) in
-          record {
-            left = left.within;
-            right = right.within;
-            here = rw (← left.here, ← right.here) (label-some (joint_label (pairing k) x y) c e);
-          }
-      go (read.Step x) read.NoSuchStep f g e = absurd (apart cc)
-      go read.NoSuchStep (read.Step y) f g e = absurd (apart cc)
-      go read.NoSuchStep read.NoSuchStep f g e = absurd (apart cc)
+          record { left = left.within; right = right.within; here = rw (← left.here, ← right.here) e }
+      go (Some x) None f g e = absurd (apart cc)
+      go None t f g e = absurd (apart cc)
 
-  -- what it tells that there is none: a step without one, or a step that the other half has none for
-  pub unlabelled_here : length a % 2 ≡ 1 → length b % 2 ≡ 1 → joint.NoMatch ≡ found_here
-      → ((i < length a / 2) × (i < length b / 2) × (label_here k a b i ≡ none)) ⊎ (length a ≡ length b → ⊥)
+  -- what it tells that there is none where both halves have a step
+  pub unlabelled_here : length a % 2 ≡ 1 → length b % 2 ≡ 1 → i < length a / 2 → i < length b / 2 → None ≡ found_here
+      → label_here k a b i ≡ None
   unfolding label_read
-  unlabelled_here o p e = go (step_read a i) (step_read b i) refl refl e
+  unlabelled_here o p h k' e =
+      go (step_read a i) (step_read b i) refl refl
+      (found_none (label_read (pairing k) (step_read a i) (step_read b i)) e)
     where
-      go : (s t : StepRead) → step_read a i ≡ s → step_read b i ≡ t → joint.NoMatch ≡ label_read (pairing k) s t
-          → ((i < length a / 2) × (i < length b / 2) × (label_here k a b i ≡ none)) ⊎ (length a ≡ length b → ⊥)
-      go (read.Step x) (read.Step y) f g e =
-          let left = step_found a i x (sym f) in
-          let right = step_found b i y (sym g) in
-          inl (
-            left.within,
-            right.within,
-            rw (← left.here, ← right.here)
-                (label-none (joint_label (pairing k) x y) e),
-          )
-      go (read.Step x) read.NoSuchStep f g e =
-          let left = (step_found a i x (sym f)).within in
-          let right = none_found b i p (sym g) in
-          inr (λ n. omega (arith, n, left, right))
-      go read.NoSuchStep (read.Step y) f g e =
-          let left = none_found a i o (sym f) in
-          let right = (step_found b i y (sym g)).within in
-          inr (λ n. omega (arith, n, left, right))
-      go read.NoSuchStep read.NoSuchStep f g e = absurd (apart cc)
+      go : (s t : Option held.Step) → step_read a i ≡ s → step_read b i ≡ t → label_read (pairing k) s t ≡ None
+          → label_here k a b i ≡ None
+      go (Some x) (Some y) f g e =
+          rw (← (step_found a i x (sym f)).here, ← (step_found b i y (sym g)).here) e
+      go s None f g e = absurd (omega (arith, h, k', none_found b i p (sym g)))
+      go None t f g e = absurd (omega (arith, h, k', none_found a i o (sym f)))
 
-  pub ended_here : length a % 2 ≡ 1 → length b % 2 ≡ 1 → joint.Ended ≡ found_here
-      → (length a / 2 ≤ i) × (length b / 2 ≤ i)
-  unfolding label_read label_found
-  ended_here o p e = go (step_read a i) (step_read b i) refl refl e
-    where
-      matches : (o : Option ℕ) → joint.Ended ≡ label_found o → ⊥
-      matches none e = apart cc
-      matches (some c) e = apart cc
-
-      go : (s t : StepRead) → step_read a i ≡ s → step_read b i ≡ t → joint.Ended ≡ label_read (pairing k) s t
-          → (length a / 2 ≤ i) × (length b / 2 ≤ i)
-      go (read.Step x) (read.Step y) f g e = absurd (matches (joint_label (pairing k) x y) e)
-      go (read.Step x) read.NoSuchStep f g e = absurd (apart cc)
-      go read.NoSuchStep (read.Step y) f g e = absurd (apart cc)
-      go read.NoSuchStep read.NoSuchStep f g e = (none_found a i o (sym f), none_found b i p (sym g))
+-- is a label found at i?
+abbrev pub found_is : Labels → List ℕ → List ℕ → Bool → ℕ → Type 0
+found_is k a b t i = is_some (found_here k a b i) ≡ t
 
 -- a half up to step i
 abbrev pub up_to : List ℕ → ℕ → Run ℕ
@@ -230,8 +149,8 @@ half_ends a x i h =
 
 -- a written label and its targets as a joint step
 abbrev labelled : Option ℕ → ℕ × ℕ → Option (Step (ℕ × ℕ))
-labelled none u = none
-labelled (some c) u = some (step_of c u)
+labelled None u = None
+labelled (Some c) u = Some (step_of c u)
 
 -- two written steps form the joint step of their label and targets, since an idle is written with the state that it
 -- keeps
@@ -261,21 +180,15 @@ matched o = present (λ j. true) o
 -- a run that another step lengthens was there
 matched_more : (P : Pairing) (o : Option (Run (ℕ × ℕ))) (u : Option (Step (ℕ × ℕ)))
     → matched (extend P paired o u) ≡ true → matched o ≡ true
-matched_more P none u e = e
-matched_more P (some j) u e = refl
+matched_more P None u e = e
+matched_more P (Some j) u e = refl
 
 -- the joint run of the first i steps, if they match
 abbrev pub joined_to : Labels → List ℕ → List ℕ → ℕ → Option (Run (ℕ × ℕ))
 joined_to k a b i = join (pairing k) paired (up_to a i) (up_to b i)
 
--- the steps before step i match
-pub record Matching (k : Labels) (a b : List ℕ) (i : ℕ) : Type 0 where
-  pub left : i ≤ length a / 2
-  pub right : i ≤ length b / 2
-  pub run : matched (joined_to k a b i) ≡ true
-
 module _ (k : Labels) (a b : List ℕ) (x : HalfBytes a) (y : HalfBytes b) where
-  joined-start : joined_to k a b 0 ≡ some (start (get_or a 0 0, get_or b 0 0))
+  joined-start : joined_to k a b 0 ≡ Some (start (get_or a 0 0, get_or b 0 0))
   unfolding join
   joined-start = rw (half_first a (omega (arith, x.odd)), half_first b (omega (arith, y.odd)))
 
@@ -309,8 +222,8 @@ module _ (k : Labels) (a b : List ℕ) (x : HalfBytes a) (y : HalfBytes b) where
     where
       go : (o : Option (Run (ℕ × ℕ))) → join (pairing k) paired (half_of a) (half_of b) ≡ o → matched o ≡ true
           → length a ≡ length b
-      go none e m = absurd (false≢true m)
-      go (some j) e m =
+      go None e m = absurd (false≢true m)
+      go (Some j) e m =
           let (u, v) = join-steps (pairing k) paired (join_sound (pairing k) paired (half_of a) (half_of b) j e) in omega
           (arith, u, v, half_steps a x.odd, half_steps b y.odd, x.odd, y.odd)
 
@@ -323,68 +236,87 @@ module _ (k : Labels) (a b : List ℕ) (x : HalfBytes a) (y : HalfBytes b) where
       go true e = absurd (n (equally_long e))
       go false e = refl
 
-  match_start : matched (joined_to k a b 0) ≡ true
+  pub match_start : matched (joined_to k a b 0) ≡ true
   match_start = rw joined-start
 
+  -- halves that are equally long
   module _ (long : length a ≡ length b) where
     joined-whole : joined_to k a b (length a / 2) ≡ join_of k a b
     unfolding join_of
     joined-whole = rw (half_whole a x.odd, ap (λ (n : ℕ). up_to b (n / 2)) long, half_whole b y.odd)
 
-    match_end_long : (i : ℕ) → i ≡ length a / 2 → matched (joined_to k a b i) ≡ true → true ≡ halves_match k a b
+    -- all steps match
+    pub match_whole : matched (joined_to k a b (length a / 2)) ≡ true → true ≡ halves_match k a b
     unfolding halves_match
-    match_end_long i e m = sym (rw (e, joined-whole) at m)
+    match_whole m = sym (rw joined-whole at m)
 
-    match_stop_long : (i : ℕ) → i < length a / 2 → label_here k a b i ≡ none → false ≡ halves_match k a b
-    unfolding halves_match
-    match_stop_long i h f = go (matched (join_of k a b)) refl
+    module _ (i : ℕ) (h : i < length a / 2) where
+      -- step i does not match
+      pub match_stop : None ≡ found_here k a b i → false ≡ halves_match k a b
+      unfolding halves_match
+      match_stop f = go (matched (join_of k a b)) refl
+        where
+          stopped : (o : Option (Run (ℕ × ℕ))) → matched (extend (pairing k) paired o None) ≡ true → ⊥
+          stopped None e = false≢true e
+          stopped (Some j) e = false≢true e
+
+          go : (t : Bool) → matched (join_of k a b) ≡ t → false ≡ t
+          go false e = refl
+          go true e =
+              let n = length a / 2 - (i + 1) in
+              let s : i + 1 + n ≡ length a / 2 = omega arith in
+              let m = matched_before n (i + 1) (omega (arith, x.odd)) (omega (arith, x.odd)) (rw (s, joined-whole) e) in
+              let l = unlabelled_here k a b i x.odd y.odd h (omega (arith, h, long)) f in
+              absurd (stopped (joined_to k a b i) (rw (joined-next i (omega arith) (omega arith), l) at m))
+
+      -- step i matches
+      match_on : (o : Option Label) → o ≡ found_here k a b i → is_some o ≡ true → matched (joined_to k a b i) ≡ true
+          → matched (joined_to k a b (i + 1)) ≡ true
+      match_on None e f m = absurd (false≢true f)
+      match_on (Some c) e f m =
+          let u : Step (ℕ × ℕ) = step_of c.0 (get_or a (2 * i + 2) 0, get_or b (2 * i + 2) 0) in
+          rw (joined-next i (omega (arith, h, x.odd)) (omega (arith, h, long, x.odd)), (labelled-here k a b i c e).here)
+          (more (joined_to k a b i) u m)
+        where
+          more : (o : Option (Run (ℕ × ℕ))) (u : Step (ℕ × ℕ)) → matched o ≡ true
+              → matched (extend (pairing k) paired o (Some u)) ≡ true
+          more None u e = e
+          more (Some j) u e = refl
+
+    -- what a search over the steps tells: each has a label, or one has none
+    abbrev numbers : List ℕ
+    numbers = range_with_len 0 (length a / 2)
+
+    number : (i : ℕ) → i < length a / 2 → get_or numbers i 0 ≡ i
+    number i h = omega (arith, get_or-range_with_len 0 (length a / 2) i 0 h)
+
+    pub match_searched : (r : Bool)
+        → MatchBool r (AllWithin (found_is k a b true) numbers 0 (length numbers))
+        ((i : ℕ) × (i < length numbers) × HoldsAt (found_is k a b false) numbers i)
+        → r ≡ halves_match k a b
+    match_searched true all = match_whole (up (length a / 2) (omega arith))
       where
-        stopped : (o : Option (Run (ℕ × ℕ))) → matched (extend (pairing k) paired o none) ≡ true → ⊥
-        stopped none e = false≢true e
-        stopped (some j) e = false≢true e
+        at : (i : ℕ) → i < length a / 2 → is_some (found_here k a b i) ≡ true
+        at i h =
+            rw (number i h) at
+            (all i 0 (omega arith) (rw (length-range_with_len 0 (length a / 2)) h))
 
-        go : (t : Bool) → matched (join_of k a b) ≡ t → false ≡ t
-        go false e = refl
-        go true e =
-            let n = length a / 2 - (i + 1) in
-            let s : i + 1 + n ≡ length a / 2 = omega arith in
-            let m = matched_before n (i + 1) (omega (arith, x.odd)) (omega (arith, x.odd)) (rw (s, joined-whole) e) in
-            absurd (stopped (joined_to k a b i) (rw (joined-next i (omega arith) (omega arith), f) at m))
-
-  -- step i does not match
-  pub match_stop : (i : ℕ) → joint.NoMatch ≡ found_here k a b i → false ≡ halves_match k a b
-  match_stop i f = go (unlabelled_here k a b i x.odd y.odd f) (eqb (length a) (length b)) refl
-    where
-      go : ((i < length a / 2) × (i < length b / 2) × (label_here k a b i ≡ none)) ⊎ (length a ≡ length b → ⊥)
-          → (t : Bool) → eqb (length a) (length b) ≡ t → false ≡ halves_match k a b
-      go (inr n) t e = match_uneven n
-      go (inl (h, g, l)) true e = match_stop_long (eqb-true _ _ e) i h l
-      go (inl (h, g, l)) false e = match_uneven (eqb-false _ _ e)
-
-  pub match_begin : Matching k a b 0
-  match_begin = record { left = omega arith; right = omega arith; run = match_start }
-
-  module _ (i : ℕ) (m : Matching k a b i) where
-    pub match_end : joint.Ended ≡ found_here k a b i → true ≡ halves_match k a b
-    match_end e =
-        let (h, g) = ended_here k a b i x.odd y.odd e in
-        match_end_long (omega (arith, h, g, m.left, m.right, x.odd, y.odd)) i (omega (arith, h, m.left)) m.run
-
-    pub match_on : (c : Label) → joint.Label c ≡ found_here k a b i → Matching k a b (i + 1)
-    match_on c f =
-        let found = labelled-here k a b i c f in
-        let u : Step (ℕ × ℕ) = step_of c.0 (get_or a (2 * i + 2) 0, get_or b (2 * i + 2) 0) in
-        record {
-          left = omega (arith, found.left);
-          right = omega (arith, found.right);
-          run = rw (joined-next i (omega (arith, found.left)) (omega (arith, found.right)), found.here)
-              (go (joined_to k a b i) u m.run);
-        }
+        up : (i : ℕ) → i ≤ length a / 2 → matched (joined_to k a b i) ≡ true
+        up zero h = match_start
+        up (suc i) h =
+            rw (sym (add-one i))
+            (match_on i (omega arith) (found_here k a b i) refl (at i (omega arith)) (up i (omega arith)))
+    match_searched false (i, h, none) = match_stop i within (unfound (found_here k a b i) refl)
       where
-        go : (o : Option (Run (ℕ × ℕ))) (u : Step (ℕ × ℕ)) → matched o ≡ true
-            → matched (extend (pairing k) paired o (some u)) ≡ true
-        go none u e = e
-        go (some j) u e = refl
+        within : i < length a / 2
+        within = rw (length-range_with_len 0 (length a / 2)) at h
+
+        missing : found_is k a b false i
+        missing = rw (number i within) at (none 0)
+
+        unfound : (o : Option Label) → found_here k a b i ≡ o → None ≡ found_here k a b i
+        unfound None e = sym e
+        unfound (Some c) e = absurd (false≢true (sym (rw e at missing)))
 
 -- the bytes of a joint run with one more step, which ends in the targets that are written with it
 bytes-more : (j : Run (ℕ × ℕ)) (c p q : ℕ) → last (j ▸ step_of c (p, q)) ≡ (p, q)
@@ -421,7 +353,6 @@ begun_by a b out = set (set out 0 (get_or a 0 0)) 1 (get_or b 0 0)
 
 -- the loop has written the joint run of the first i steps over what it began with
 pub record Joining (k : Labels) (a b begun out : List ℕ) (i : ℕ) : Type 0 where
-  pub within : i ≤ length a / 2
   pub kept : length out ≡ length begun
   pub same : out ≡ run_bytes (joined_to k a b i) ++ drop (3 * i + 2) begun
 
@@ -434,7 +365,7 @@ module _ (k : Labels) (a b : List ℕ) (x : HalfBytes a) (y : HalfBytes b) (m : 
 
   -- the run that the first steps give: its size, and where it ends
   joined-found : (i : ℕ) → i ≤ length a / 2
-      → (j : Run (ℕ × ℕ)) × (joined_to k a b i ≡ some j) × (length (joint_bytes j) ≡ 3 * i + 2)
+      → (j : Run (ℕ × ℕ)) × (joined_to k a b i ≡ Some j) × (length (joint_bytes j) ≡ 3 * i + 2)
   unfolding halves_match
   joined-found i h =
       go (joined_to k a b i) refl
@@ -448,9 +379,9 @@ module _ (k : Labels) (a b : List ℕ) (x : HalfBytes a) (y : HalfBytes b) (m : 
       s = omega arith
 
       go : (o : Option (Run (ℕ × ℕ))) → joined_to k a b i ≡ o → matched o ≡ true
-          → (j : Run (ℕ × ℕ)) × (o ≡ some j) × (length (joint_bytes j) ≡ 3 * i + 2)
-      go none e t = absurd (false≢true t)
-      go (some j) e t =
+          → (j : Run (ℕ × ℕ)) × (o ≡ Some j) × (length (joint_bytes j) ≡ 3 * i + 2)
+      go None e t = absurd (false≢true t)
+      go (Some j) e t =
           let (u, v) = join-steps (pairing k) paired (join_sound (pairing k) paired (up_to a i) (up_to b i) j e) in
           (j, refl, omega (arith, bytes-length j, u, up_to-steps a i (omega (arith, x.odd))))
 
@@ -465,7 +396,7 @@ module _ (k : Labels) (a b : List ℕ) (x : HalfBytes a) (y : HalfBytes b) (m : 
   written-size i h = let (j, e, n) = joined-found i h in rw e n
 
   -- the next step has a label, and adds it and both targets
-  written_next : (i : ℕ) → i < length a / 2 → (c : ℕ) × (label_here k a b i ≡ some c)
+  written_next : (i : ℕ) → i < length a / 2 → (c : ℕ) × (label_here k a b i ≡ Some c)
       × (run_bytes (joined_to k a b (i + 1)) ≡ run_bytes (joined_to k a b i) ++ c ∷ get_or a (2 * i + 2) 0
       ∷ get_or b (2 * i + 2) 0 ∷ [])
   written_next i h =
@@ -480,18 +411,18 @@ module _ (k : Labels) (a b : List ℕ) (x : HalfBytes a) (y : HalfBytes b) (m : 
       q : ℕ
       q = get_or b (2 * i + 2) 0
 
-      ends : (j' : Run (ℕ × ℕ)) → joined_to k a b (i + 1) ≡ some j' → last j' ≡ (p, q)
+      ends : (j' : Run (ℕ × ℕ)) → joined_to k a b (i + 1) ≡ Some j' → last j' ≡ (p, q)
       ends j' e =
           let s : 2 * (i + 1) ≡ 2 * i + 2 = omega arith in
           let t = last-join (pairing k) paired (join_sound (pairing k) paired (up_to a (i + 1)) (up_to b (i + 1)) j' e) in
           rw (x.kept (i + 1) (omega (arith, x.odd)), y.kept (i + 1) (omega (arith, x.odd, match_long)), s) at t
 
-      go : (o : Option ℕ) (j j' : Run (ℕ × ℕ)) → joined_to k a b i ≡ some j → joined_to k a b (i + 1) ≡ some j'
+      go : (o : Option ℕ) (j j' : Run (ℕ × ℕ)) → joined_to k a b i ≡ Some j → joined_to k a b (i + 1) ≡ Some j'
           → joined_to k a b (i + 1) ≡ extend (pairing k) paired (joined_to k a b i) (labelled o (p, q))
-          → (c : ℕ) × (o ≡ some c) × (run_bytes (joined_to k a b (i + 1)) ≡ run_bytes (joined_to k a b i) ++ c ∷ p ∷ q ∷ [])
-      go none j j' e e' f = absurd (let g = rw (e, e') at f in apart cc)
-      go (some c) j j' e e' f =
-          let g : some j' ≡ some (j ▸ step_of c (p, q)) = rw (e, e') at f in
+          → (c : ℕ) × (o ≡ Some c) × (run_bytes (joined_to k a b (i + 1)) ≡ run_bytes (joined_to k a b i) ++ c ∷ p ∷ q ∷ [])
+      go None j j' e e' f = absurd (let g = rw (e, e') at f in apart cc)
+      go (Some c) j j' e e' f =
+          let g : Some j' ≡ Some (j ▸ step_of c (p, q)) = rw (e, e') at f in
           let g' : j' ≡ j ▸ step_of c (p, q) = cc in
           (c, refl, rw (e, e', g') (bytes-more j c p q (rw (← g') (ends j' e'))))
 
@@ -500,7 +431,6 @@ module _ (k : Labels) (a b : List ℕ) (x : HalfBytes a) (y : HalfBytes b) (m : 
     unfolding joint_bytes written
     write_start =
         record {
-          within = omega arith;
           kept = refl;
           same = rw (joined-start k a b x y)
               (starts first (omega (arith, join-length)));
@@ -512,55 +442,46 @@ module _ (k : Labels) (a b : List ℕ) (x : HalfBytes a) (y : HalfBytes b) (m : 
         starts (z ∷ []) h = absurd (omega arith)
         starts (z ∷ z' ∷ first) h = refl
 
-    module _ (out : List ℕ) (i : ℕ) (w : Joining k a b (begun_by a b first) out i) where
-      -- the output keeps its length
-      pub write_kept : length out ≡ length first
-      write_kept = w.kept ∙ rw (length-set, length-set)
+    -- all steps are written, and what stood behind them is kept
+    pub write_end : (out : List ℕ) → Joining k a b (begun_by a b first) out (length a / 2)
+        → out ≡ in_front (join_bytes k a b) first
+    unfolding in_front join_bytes
+    write_end out w =
+        let n = 3 * (length a / 2) + 2 in
+        w.same ∙ rw (
+          joined-whole k a b x y match_long,
+          join-length,
+          drop-set-lt n (set first 0 (get_or a 0 0)) 1 (get_or b 0 0) (omega arith),
+          drop-set-lt n first 0 (get_or a 0 0) (omega arith),
+        )
 
+    module _ (out : List ℕ) (i : ℕ) (h : i < length a / 2) (w : Joining k a b (begun_by a b first) out i) where
       -- there is room for step i
-      pub write_room : (c : Label) → joint.Label c ≡ found_here k a b i
-          → (2 * i + 2 < length a) × (2 * i + 2 < length b) × (3 * i + 4 < length out)
-      write_room c f =
-          let h = (labelled-here k a b i c f).left in
-          omega (arith, h, x.odd, match_long, join-length, write_kept)
+      pub write_room : (2 * i + 2 < length a) × (2 * i + 2 < length b) × (3 * i + 4 < length out)
+      write_room =
+          let kept : length out ≡ length first = w.kept ∙ rw (length-set, length-set) in
+          omega (arith, h, x.odd, match_long, join-length, kept, room)
+
+      -- step i matches
+      pub write_matched : None ≡ found_here k a b i → ⊥
+      write_matched f = false≢true (match_stop k a b x y match_long i h f ∙ m)
 
       -- step i is written
-      pub write_on : (c : Label) → joint.Label c ≡ found_here k a b i → (out' : List ℕ)
+      pub write_on : (c : Label) → Some c ≡ found_here k a b i → (out' : List ℕ)
           → out' ≡ put out (3 * i + 2) c.0 (get_or a (2 * i + 2) 0) (get_or b (2 * i + 2) 0)
           → Joining k a b (begun_by a b first) out' (i + 1)
       write_on c f out' o =
           let found = labelled-here k a b i c f in
-          let h = found.left in
           let (c', l, n) = written_next i h in
-          let z : some c' ≡ some c.0 = sym l ∙ found.here in
+          let z : Some c' ≡ Some c.0 = sym l ∙ found.here in
           let z' : c' ≡ c.0 = cc in
           let s : 3 * (i + 1) + 2 ≡ 3 * i + 2 + 3 = omega arith in
           record {
-            within = omega (arith, h);
             kept =
                 ap length o ∙ length-put out (3 * i + 2) c.0 (get_or a (2 * i + 2) 0) (get_or b (2 * i + 2) 0) ∙ w.kept;
             same =
                 o ∙ rw (w.same, s, n, z')
                 (put_three (run_bytes (joined_to k a b i)) (begun_by a b first) (3 * i + 2) c.0 (get_or a (2 * i + 2) 0)
                 (get_or b (2 * i + 2) 0) (written-size i (omega (arith, h)))
-                (omega (arith, h, w.kept, write_kept, room, join-length)));
+                (omega (arith, h, w.kept, write_room)));
           }
-
-      -- each step matches
-      pub write_matched : joint.NoMatch ≡ found_here k a b i → ⊥
-      write_matched f = false≢true (match_stop k a b x y i f ∙ m)
-
-      -- all steps are written, and what stood behind them is kept
-      pub write_end : joint.Ended ≡ found_here k a b i → out ≡ in_front (join_bytes k a b) first
-      unfolding in_front join_bytes
-      write_end f =
-          let (h, _) = ended_here k a b i x.odd y.odd f in
-          let e : i ≡ length a / 2 = omega (arith, w.within, h) in
-          let n = 3 * (length a / 2) + 2 in
-          w.same ∙ rw (
-            e,
-            joined-whole k a b x y match_long,
-            join-length,
-            drop-set-lt n (set first 0 (get_or a 0 0)) 1 (get_or b 0 0) (omega arith),
-            drop-set-lt n first 0 (get_or a 0 0) (omega arith),
-          )

@@ -5,10 +5,8 @@ use mathlib.Core.Bool.{true}
 use mathlib.Core.List.{List}
 use native.Mathlib.Omega.{arith}
 use lib.ListN.{length}
-use Rattle.labels.specs.Refusals.{first_of}
+use Rattle.labels.specs.Refusals.{value_answer, first_of, Check}
 use Rattle.labels.specs.Labels.{check_labels}
-use Rattle.labels.specs.declared.refusal.Check.{Check}
-use Rattle.labels.specs.declared.refusal.Check.TheVariants.{Sound, Refused}
 use Rattle.labels.proofs.Refusals.{both_sound, passed}
 use Rattle.labels.proofs.Answers.{Within, none, next}
 use Rattle.labels.specs.declared.label.Labels.{Labels}
@@ -18,9 +16,10 @@ use Rattle.halves.proofs.HalfRuns.{accepted_half}
 use Rattle.joining.specs.Joinings.{join_bytes, check_halves, check_join, joined, joining_of, join_answer}
 use Rattle.joining.proofs.Joined.{join-length}
 use Rattle.joining.proofs.JoinCalls.{halves_call}
+use Rattle.std.specs.Prelude.{Err, Ok}
 
 module _ (k : Labels) (l r a b : List ℕ) where
-  left-run : check_halves k l r a b ≡ Sound → is_half_run l a ≡ true
+  left-run : check_halves k l r a b ≡ Ok tt → is_half_run l a ≡ true
   unfolding check_halves check_half first_of
   left-run e =
       let (_, c) = both_sound (check_labels k) _ e in
@@ -29,7 +28,7 @@ module _ (k : Labels) (l r a b : List ℕ) where
       passed (is_half_run l a) _ (both_sound (check_half l a) _ f).0
 
   -- the run of halves that no check refuses has at most 200 steps
-  join_most : check_halves k l r a b ≡ Sound → length (join_bytes k a b) ≤ 602
+  join_most : check_halves k l r a b ≡ Ok tt → length (join_bytes k a b) ≤ 602
   join_most e =
       let h = halves_call k l r a b e in
       let w = accepted_half l a (left-run e) in
@@ -37,10 +36,10 @@ module _ (k : Labels) (l r a b : List ℕ) where
 
   -- of a join: at most 602
   pub join-within : (room : ℕ) → Within 602 (join_answer (joining_of k l r a b room)).values
-  unfolding joining_of join_answer check_join first_of
+  unfolding joining_of value_answer check_join first_of
   join-within room = go (check_join k l r a b room) refl
     where
       go : (c : Check) → check_join k l r a b room ≡ c
           → Within 602 (join_answer (joined c (length (join_bytes k a b)))).values
-      go Sound e = next (join_most (both_sound (check_halves k l r a b) _ e).0) none
-      go (Refused x) e = none
+      go (Ok _) e = next (join_most (both_sound (check_halves k l r a b) _ e).0) none
+      go (Err x) e = none

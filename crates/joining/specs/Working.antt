@@ -1,21 +1,15 @@
 -- How the code works: what functions ask for and promise that serve others. No call's promise cites this file.
-use Rattle.std.specs.Prelude.{ℕ, List, [], ◌∷◌, length}
-use Rattle.std.proofs.Math.Option.{Option, none, some}
+use Rattle.std.specs.Prelude.{ℕ, List, [], ◌∷◌, length, None, Option, Some}
 use Rattle.hml.specs.Lists.{guard}
 use Rattle.hml.specs.System.{Pairing}
 use Rattle.hml.specs.Compose.{shakes}
-use Rattle.labels.specs.Refusals.{first_of}
-use Rattle.labels.specs.declared.refusal.Check.{Check}
+use Rattle.labels.specs.Refusals.{first_of, Check}
 use Rattle.labels.specs.declared.label.Labels.{Labels}
 use Rattle.tables.specs.Tables.{check_table}
 use Rattle.halves.specs.Halves.{check_half}
 use Rattle.halves.specs.Working.{HeldHalf}
 use Rattle.halves.specs.declared.step.Step.{Step}
 use Rattle.halves.specs.declared.step.Step.TheVariants as step
-use Rattle.halves.specs.declared.step.StepRead.{StepRead}
-use Rattle.halves.specs.declared.step.StepRead.TheVariants as read
-use Rattle.joining.specs.declared.join.JointLabel.{JointLabel}
-use Rattle.joining.specs.declared.join.JointLabel.TheVariants as joint
 
 -- the tables' and the halves' numbers
 unfoldable pub check_runs : Labels → List ℕ → List ℕ → List ℕ → List ℕ → Check
@@ -32,18 +26,12 @@ shaken_label P a b = guard (shakes P a b) 0
 -- that of two steps
 unfoldable pub joint_label : Pairing → Step → Step → Option ℕ
 joint_label P (step.Move m) (step.Move n) = shaken_label P m.label.0 n.label.0
-joint_label P (step.Move m) step.Idle = some m.label.0
-joint_label P step.Idle (step.Move n) = some n.label.0
-joint_label P step.Idle step.Idle = some 255
+joint_label P (step.Move m) step.Idle = Some m.label.0
+joint_label P step.Idle (step.Move n) = Some n.label.0
+joint_label P step.Idle step.Idle = Some 255
 
--- a label as the lookup answers it
-unfoldable pub label_found : Option ℕ → JointLabel
-label_found none = joint.NoMatch
-label_found (some c) = joint.Label (record { 0 = c })
-
--- the answer for what is read of each half
-unfoldable pub label_read : Pairing → StepRead → StepRead → JointLabel
-label_read P (read.Step x) (read.Step y) = label_found (joint_label P x y)
-label_read P (read.Step x) read.NoSuchStep = joint.NoMatch
-label_read P read.NoSuchStep (read.Step y) = joint.NoMatch
-label_read P read.NoSuchStep read.NoSuchStep = joint.Ended
+-- that of what is read of each half: none, where a half has no step
+unfoldable pub label_read : Pairing → Option Step → Option Step → Option ℕ
+label_read P (Some x) (Some y) = joint_label P x y
+label_read P (Some x) None = None
+label_read P None t = None

@@ -1,15 +1,12 @@
 -- Labels of a call: document 01, "Machines and labels", which names them by k, their number of handshake pairs. The
 -- pairing itself is the theory's (`hml`, Labels).
-use Rattle.std.specs.Prelude.{ℕ, ltb}
-use Rattle.std.proofs.Math.Option.{Option, none, some}
+use Rattle.std.specs.Prelude.{ℕ, ltb, None, Option, Some}
 use Rattle.hml.specs.Labels.{highest, partner_among, pairs}
-use Rattle.labels.specs.Refusals.{refused_if}
-use Rattle.labels.specs.declared.refusal.Check.{Check}
+use Rattle.labels.specs.Refusals.{refused_if, Check}
 use Rattle.labels.specs.declared.refusal.Refusal.TheVariants.{TooManyPairs}
-use Rattle.labels.specs.declared.label.Partner.{Partner}
-use Rattle.labels.specs.declared.label.Partner.TheVariants as partner
 use Rattle.hml.specs.System.{Pairing}
 use Rattle.labels.specs.declared.label.Labels.{Labels}
+use Rattle.labels.specs.declared.label.Label.{Label}
 
 -- the labels of k pairs
 abbrev pub of_pairs : ℕ → Labels
@@ -33,6 +30,6 @@ unfoldable pub any_partner : ℕ → Option ℕ
 any_partner a = partner_among 127 a
 
 -- a partner as the lookup answers it
-unfoldable pub partner_found : Option ℕ → Partner
-partner_found none = partner.Nobody
-partner_found (some b) = partner.Label (record { 0 = b })
+unfoldable pub partner_found : Option ℕ → Option Label
+partner_found None = None
+partner_found (Some b) = Some (record { 0 = b })

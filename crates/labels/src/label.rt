@@ -2,18 +2,11 @@
 ghost use Rattle.std.specs.Prelude.{◌≡◌, eqb, leb};
 ghost use Rattle.labels.specs.Labels.{of_pairs, count, pairing, check_labels, any_partner, partner_found};
 
-use crate::refusal::{Check, Refusal};
+use crate::refusal::Refusal;
 
 // A label by its number.
-#[derive(Clone, Copy)]
+#[derive(Clone, Copy, PartialEq, Eq, PartialOrd, Ord)]
 pub struct Label(pub u8);
-
-// The label that a label shakes hands with, if there is one.
-#[derive(Clone, Copy)]
-pub enum Partner {
-    Label(Label),
-    Nobody,
-}
 
 impl Label {
     // The silent step.
@@ -25,31 +18,29 @@ impl Label {
     pub fn is_silent(self) -> bool
         ensures { result ≡ eqb self.0 0 }
     {
-        self.0 == Label::SILENT.0
+        self == Label::SILENT
     }
 
     pub fn is_idle(self) -> bool
         ensures { result ≡ eqb self.0 255 }
     {
-        self.0 == Label::IDLE.0
+        self == Label::IDLE
     }
 
     // Of an odd label the next number, of an even one the number before. The silent step and the mark of an idle have
     // none.
-    pub fn partner(self) -> Partner
+    pub fn partner(self) -> Option<Label>
         ensures { result ≡ partner_found (any_partner self.0) }
     {
+        if self.is_silent() || self.is_idle() {
+            return None;
+        }
         let code = self.0;
-        if code == Label::SILENT.0 {
-            return Partner::Nobody;
-        }
-        if code == Label::IDLE.0 {
-            return Partner::Nobody;
-        }
         if code % 2 == 1 {
-            return Partner::Label(Label(code + 1));
+            Some(Label(code + 1))
+        } else {
+            Some(Label(code - 1))
         }
-        Partner::Label(Label(code - 1))
     }
 }
 
@@ -71,11 +62,7 @@ impl Labels {
     pub fn count(self) -> u8
         ensures { result ≡ count self }
     {
-        let pairs = self.pairs;
-        if 127 < pairs {
-            return 254;
-        }
-        2 * pairs
+        2 * self.pairs.min(127)
     }
 
     // Is this one of the labels?
@@ -86,22 +73,24 @@ impl Labels {
     }
 
     // The partner of a label of the call; what is no label of it has none.
-    pub fn partner(self, label: Label) -> Partner
+    pub fn partner(self, label: Label) -> Option<Label>
         ensures { result ≡ partner_found ((pairing self).partner label.0) }
     {
         if self.has(label) {
-            return label.partner();
+            label.partner()
+        } else {
+            None
         }
-        Partner::Nobody
     }
 
     // k over 15 is 4.
-    pub fn check(self) -> Check
+    #[tactic(auto, unfolding(crate::specs::Labels::check_labels))]
+    pub fn check(self) -> Result<(), Refusal>
         ensures { result ≡ check_labels self }
     {
         if 15 < self.pairs {
-            return Check::Refused(Refusal::TooManyPairs);
+            return Err(Refusal::TooManyPairs);
         }
-        Check::Sound
+        Ok(())
     }
 }

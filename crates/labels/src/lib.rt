@@ -1,7 +1,6 @@
-// The refusals of document 01, and its labels; the smaller of two numbers, and bytes copied.
+// The refusals of documents 01 and 02, the labels of a call, and bytes copied.
 #![tactic(auto)]
 
 pub mod copying;
 pub mod label;
-pub mod number;
 pub mod refusal;

@@ -1,56 +1,56 @@
-// The refusals of documents 01 and 02, and the answer of a check.
+// The refusals of documents 01 and 02. A check answers `Result<(), Refusal>`, a call `Result` of what it gives: of
+// checks in a row, each ended by `?`, the first that refuses decides.
 ghost use Rattle.std.specs.Prelude.{◌≡◌};
-ghost use Rattle.labels.specs.Refusals.{number_of, then_of};
+ghost use Rattle.labels.specs.Refusals.{number_of};
 
-// Why a call is refused: one case for each number of "Who can cause a refusal", then of document 02, in the order of
-// the numbers.
-#[derive(Clone, Copy)]
+// Why a call is refused: one case for each number of "Who can cause a refusal", then of document 02, with its number.
+#[derive(Clone, Copy, PartialEq, Eq, PartialOrd, Ord)]
 pub enum Refusal {
     // 1 to 11: the author of the bytes.
     // The bytes end before the question record is complete.
-    Truncated,
+    Truncated = 1,
     // Not the kind of record that is due.
-    WrongKind,
+    WrongKind = 2,
     // A length that the record, or the part, cannot have.
-    WrongLength,
+    WrongLength = 3,
     // k over 15.
-    TooManyPairs,
+    TooManyPairs = 4,
     // No state at all or over 64, or a row with a state or label out of range.
-    OutOfRange,
+    OutOfRange = 5,
     // A row not above the one before; in an Aldebaran text, a row given twice.
-    RowNotAbove,
+    RowNotAbove = 6,
     // A ninth row from one state.
-    NinthRow,
+    NinthRow = 7,
     // A start state out of range, or a step not real.
-    NotReal,
+    NotReal = 8,
     // A formula that is not one whole tree of its operators and labels.
-    NotATree,
+    NotATree = 9,
     // Forward modalities nested over 4 deep.
-    NestedTooDeep,
+    NestedTooDeep = 10,
     // Bytes after the question record.
-    BytesAfter,
+    BytesAfter = 11,
     // 12 to 18: the caller, but for 13 and 17, which are the size of a sound case.
     // A point beyond the run.
-    PointBeyond,
+    PointBeyond = 12,
     // Over 65,535 splittings.
-    TooManySplittings,
+    TooManySplittings = 13,
     // A splitting number not below the count.
-    NoSuchSplitting,
+    NoSuchSplitting = 14,
     // A half that is no run of its table.
-    NotARun,
+    NotARun = 15,
     // Halves that do not match.
-    HalvesDoNotMatch,
+    HalvesDoNotMatch = 16,
     // A quotient of over 4,096 nodes.
-    QuotientTooLarge,
+    QuotientTooLarge = 17,
     // A lent output shorter than the answer.
-    OutputTooShort,
+    OutputTooShort = 18,
     // 19 to 21: an Aldebaran text.
     // A missing header, or a line not of the form.
-    NotOfForm,
+    NotOfForm = 19,
     // A row count that differs from the lines, or a first state not below the states.
-    WrongHeader,
+    WrongHeader = 20,
     // A label that is not spelled as one.
-    UnknownLabel,
+    UnknownLabel = 21,
 }
 
 impl Refusal {
@@ -58,47 +58,6 @@ impl Refusal {
     pub fn number(self) -> u8
         ensures { result ≡ number_of self }
     {
-        match self {
-            Refusal::Truncated => 1,
-            Refusal::WrongKind => 2,
-            Refusal::WrongLength => 3,
-            Refusal::TooManyPairs => 4,
-            Refusal::OutOfRange => 5,
-            Refusal::RowNotAbove => 6,
-            Refusal::NinthRow => 7,
-            Refusal::NotReal => 8,
-            Refusal::NotATree => 9,
-            Refusal::NestedTooDeep => 10,
-            Refusal::BytesAfter => 11,
-            Refusal::PointBeyond => 12,
-            Refusal::TooManySplittings => 13,
-            Refusal::NoSuchSplitting => 14,
-            Refusal::NotARun => 15,
-            Refusal::HalvesDoNotMatch => 16,
-            Refusal::QuotientTooLarge => 17,
-            Refusal::OutputTooShort => 18,
-            Refusal::NotOfForm => 19,
-            Refusal::WrongHeader => 20,
-            Refusal::UnknownLabel => 21,
-        }
-    }
-}
-
-// What a check of one argument finds.
-#[derive(Clone, Copy)]
-pub enum Check {
-    Sound,
-    Refused(Refusal),
-}
-
-impl Check {
-    // The first of two checks that refuses decides.
-    pub fn then(self, next: Check) -> Check
-        ensures { result ≡ then_of self next }
-    {
-        match self {
-            Check::Sound => next,
-            Check::Refused(refusal) => Check::Refused(refusal),
-        }
+        self as u8
     }
 }

@@ -13,7 +13,6 @@ use Rattle.hml.proofs.Lists.{each_append, length-each}
 use Rattle.hml.specs.System.{Run, start, ◌▸◌, move, idle, first, last, steps, stop, RunOf}
 use Rattle.hml.proofs.NewestSteps.{behind, last-behind, first-behind, steps-from, run-behind}
 use Rattle.labels.specs.Refusals.{first_of}
-use Rattle.labels.specs.declared.refusal.Check.TheVariants.{Sound}
 use Rattle.labels.proofs.Refusals.{judges}
 use Rattle.labels.specs.declared.label.Labels.{Labels}
 use Rattle.tables.specs.Tables.{states_of, table_of}
@@ -24,6 +23,7 @@ use Rattle.machines.specs.Joints.{joint_bytes, joint_of, JointRun, fit_joint, is
 use Rattle.machines.proofs.JointRuns.{state_bytes, steps_chunks, accepted_joint, joint_read_lem, joint_decides}
 use Rattle.machines.proofs.JointRuns.{joint_in_range, joint-stop, joint_stopped, judged-joint}
 use Rattle.machines.specs.Working.{Tables, AcceptedJoint, tables_of}
+use Rattle.std.specs.Prelude.{Ok}
 
 -- a written step more, in a run and in its newest steps
 more-behind : (n : ℕ) (j : Run (ℕ × ℕ)) (e : ℕ × (ℕ × ℕ))
@@ -52,7 +52,7 @@ bytes-behind (suc n) (j ▸ idle) h =
     rw (last-behind n j) (more-behind n j (255, last j) (bytes-behind n j (omega arith)))
 
 -- an accepted joint run of two sound tables
-module _ (k : Labels) (l r : List ℕ) (tables : Tables k l r) (s : List ℕ) (sound : check_joint k l r s ≡ Sound) where
+module _ (k : Labels) (l r : List ℕ) (tables : Tables k l r) (s : List ℕ) (sound : check_joint k l r s ≡ Ok tt) where
   abbrev free : NoIdleLabel (table_of l) × NoIdleLabel (table_of r)
   free = (no_idle-label tables.left, no_idle-label tables.right)
 
@@ -66,7 +66,7 @@ module _ (k : Labels) (l r : List ℕ) (tables : Tables k l r) (s : List ℕ) (s
 
   module _ (n : ℕ) where
     -- up to a point it is accepted
-    pub joint_until : check_joint k l r (take (3 * n + 2) s) ≡ Sound
+    pub joint_until : check_joint k l r (take (3 * n + 2) s) ≡ Ok tt
     unfolding check_joint first_of
     joint_until = let (f, e) = joint_stopped k l r s n tested.0 tested.1 in rw (f, e)
 
@@ -97,7 +97,7 @@ module _ (k : Labels) (l r : List ℕ) (tables : Tables k l r) (s : List ℕ) (s
       joint_later = ap joint_of (sym follows_bytes) ∙ joint_read_lem k l r free.0 free.1 follows_run
 
       -- and are accepted
-      pub joint-from : check_joint k l r (drop (3 * n) s) ≡ Sound
+      pub joint-from : check_joint k l r (drop (3 * n) s) ≡ Ok tt
       unfolding JointRun
       joint-from =
           let f = first-behind (steps (joint_of s) - n) (joint_of s) in

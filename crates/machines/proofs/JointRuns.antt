@@ -6,7 +6,6 @@ use mathlib.Core.Logic.{◌⊎◌, inl, inr}
 use mathlib.Core.Bool.{Bool, true, not, ◌&&◌, ◌||◌, false≢true, or_assoc}
 use mathlib.Core.List.Memᴰ.{cast as ∈-cast}
 use mathlib.Core.List.{List, [], ◌∷◌, ◌++◌}
-use mathlib.Core.Option.{some}
 use native.Mathlib.Omega.{arith}
 use lib.ListN.{length, take, length-take}
 use lib.Seq.{take-nil}
@@ -33,6 +32,7 @@ use Rattle.tables.proofs.SoundTables.{judged_table, no_idle-label}
 use Rattle.tables.proofs.Chunks.{Chunks, chunks_map, threes_chunks, chunks_take, chunks_read, chunks_append}
 use Rattle.tables.proofs.Rows.{has_move_decides}
 use Rattle.machines.specs.Working.{tables_of, AcceptedJoint}
+use Rattle.std.specs.Prelude.{Some}
 
 module _ (P : Pairing) (L R : System ℕ) where
   -- two systems without the label 255 have none beside each other
@@ -54,7 +54,7 @@ module _ (P : Pairing) (L R : System ℕ) where
 
     abbrev Handshake : Type 0
     Handshake =
-        (c ≡ 0) × ((m : ℕ × ℕ) × m ∈ L p × ((m.1 ≡ p') × ((b : ℕ) × (P.partner m.0 ≡ some b) × (b, q') ∈ R q)))
+        (c ≡ 0) × ((m : ℕ × ℕ) × m ∈ L p × ((m.1 ≡ p') × ((b : ℕ) × (P.partner m.0 ≡ Some b) × (b, q') ∈ R q)))
 
     way_real : LeftAlone ⊎ (RightAlone ⊎ Handshake) → Real P L R p q (c, (p', q'))
     way_real (inl (e, i)) = (left c p', i, rw e)

@@ -5,10 +5,9 @@ use Rattle.hml.specs.Lists.{same, any, present, each}
 use Rattle.hml.specs.System.{System, Run, start, steps, first, RunOf, Pairing}
 use Rattle.hml.specs.Compose.{beside}
 use Rattle.labels.specs.Labels.{pairing}
-use Rattle.labels.specs.Refusals.{refused_if, first_of}
+use Rattle.labels.specs.Refusals.{refused_if, first_of, Check}
 use Rattle.tables.specs.Tables.{states_of, threes, table_of, has_move, check_table}
 use Rattle.halves.specs.Runs.{written, lengthened, go_on}
-use Rattle.labels.specs.declared.refusal.Check.{Check}
 use Rattle.labels.specs.declared.refusal.Refusal.TheVariants.{WrongLength, NotReal}
 use Rattle.labels.specs.declared.label.Labels.{Labels}
 

@@ -1,7 +1,6 @@
 -- How the code works: what functions ask for and promise that serve others. No call's promise cites this file.
-use Rattle.std.specs.Prelude.{ℕ, ◌-◌, ◌/◌, ◌%◌, ◌≤◌, ◌<◌, ◌+◌, ◌*◌, Bool, cond, List, ◌≡◌, length, get_or, take, set}
-use Rattle.std.proofs.Math.Option.{Option, none, some}
-use Rattle.hml.specs.Lists.{guard, same}
+use Rattle.std.specs.Prelude.{ℕ, ◌-◌, ◌/◌, ◌%◌, ◌≤◌, ◌<◌, ◌+◌, ◌*◌, Bool, true, cond, List, ◌≡◌, length, get_or, take, set, None, Option, Some}
+use Rattle.hml.specs.Lists.{guard, present, same}
 use Rattle.hml.specs.System.{Pairing, System, first, last, steps, RunOf}
 use Rattle.tables.specs.Tables.{among, table_of, SoundTable, states_of}
 use Rattle.hml.specs.Compose.{beside}
@@ -11,12 +10,16 @@ use Rattle.machines.specs.Joints.{joint_bytes, joint_of}
 
 -- what is there, if it passes the test
 abbrev pub kept : (ℕ → Bool) → Option ℕ → Option ℕ
-kept f none = none
-kept f (some b) = guard (f b) b
+kept f None = None
+kept f (Some b) = guard (f b) b
 
 -- the label by which one of the right's moves answers the left's move m in a handshake to (p', q'), if one does
 unfoldable pub answer_to : Pairing → List (ℕ × ℕ) → ℕ → ℕ → ℕ × ℕ → Option ℕ
-answer_to P answers p' q' m = cond (same m.1 p') (kept (λ b. among answers b q') (P.partner m.0)) none
+answer_to P answers p' q' m = cond (same m.1 p') (kept (λ b. among answers b q') (P.partner m.0)) None
+
+-- is a move of the left answered?
+abbrev pub is_answered : Pairing → List (ℕ × ℕ) → ℕ → ℕ → ℕ × ℕ → Bool
+is_answered P answers p' q' m = present (λ b. true) (answer_to P answers p' q' m)
 
 -- the two tables beside each other
 abbrev pub tables_of : Labels → List ℕ → List ℕ → System (ℕ × ℕ)

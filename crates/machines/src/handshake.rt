@@ -4,7 +4,7 @@ ghost use Rattle.labels.specs.Labels.{partner_found, pairing};
 ghost use Rattle.tables.specs.Working.{moves_in};
 ghost use Rattle.machines.specs.Working.{answer_to};
 
-use labels::label::{Label, Labels, Partner};
+use labels::label::{Label, Labels};
 use tables::leaving::leads_to;
 
 // The label by which one of these rows of the right, with its target, answers a move of the left in a handshake that
@@ -16,21 +16,13 @@ pub fn answer_to(
     answers: &[u8],
     left: u8,
     right: u8,
-) -> Partner
+) -> Option<Label>
     ensures { result ≡ partner_found (answer_to (pairing labels) (moves_in answers.now) left right
         (label.0, target)) }
 {
-    let elsewhere = target != left;
-    if elsewhere {
-        return Partner::Nobody;
+    if target != left {
+        return None;
     }
-    match labels.partner(label) {
-        Partner::Label(partner) => {
-            if leads_to(answers, partner, right) {
-                return Partner::Label(partner);
-            }
-            Partner::Nobody
-        }
-        Partner::Nobody => Partner::Nobody,
-    }
+    let partner = labels.partner(label)?;
+    leads_to(answers, partner, right).then_some(partner)
 }

@@ -1,63 +1,57 @@
 // Joint runs: the check against two tables.
 ghost use Rattle.std.specs.Prelude.{◌≡◌, ◌%◌, ◌&&◌, eqb, length};
+ghost use Rattle.hml.specs.Lists.{any};
 ghost use Rattle.labels.specs.Labels.{pairing};
-ghost use Rattle.tables.specs.Tables.{rows_of, table_of, has_move, Rising};
-ghost use Rattle.tables.specs.Working.{Ready};
-ghost use Rattle.machines.specs.Joints.{is_handshake, is_joint_idle, is_real_step, is_joint_run, check_tables_and_joint};
+ghost use Rattle.tables.specs.Tables.{table_of, among};
+ghost use Rattle.tables.specs.Working.{Ready, moves_in};
+ghost use Rattle.machines.specs.Working.{is_answered};
+ghost use Rattle.machines.specs.Joints.{is_joint_idle, is_real_step, is_joint_run, check_tables_and_joint};
 
 use crate::handshake::answer_to;
-use crate::step::{JointRead, JointStep, joint_step};
-use labels::label::{Label, Labels, Partner};
-use labels::refusal::{Check, Refusal};
+use crate::step::{JointStep, States, joint_step};
+use labels::label::{Label, Labels};
+use labels::refusal::Refusal;
 use tables::check::check_table;
-use tables::leaving::{has_row, rows_leaving};
+use tables::leaving::{leads_to, rows_leaving};
+use tables::row::rows_in;
 
 // The check of two tables and of a joint run of them: the tables' numbers, then 3 and 8.
-pub fn check_joint(labels: Labels, left: &[u8], right: &[u8], run: &[u8]) -> Check
+pub fn check_joint(labels: Labels, left: &[u8], right: &[u8], run: &[u8]) -> Result<(), Refusal>
     ensures { result ≡ check_tables_and_joint labels left.now right.now
         run.now }
 {
-    match check_table(labels, left).then(check_table(labels, right)) {
-        Check::Sound => {}
-        Check::Refused(refusal) => return Check::Refused(refusal),
-    }
+    check_table(labels, left)?;
+    check_table(labels, right)?;
     let n = run.len();
-    if n % 3 != 2 {
-        return Check::Refused(Refusal::WrongLength);
-    }
-    if 602 < n {
-        return Check::Refused(Refusal::WrongLength);
+    if n % 3 != 2 || 602 < n {
+        return Err(Refusal::WrongLength);
     }
     if is_joint_run(labels, left, right, run) {
-        return Check::Sound;
+        Ok(())
+    } else {
+        Err(Refusal::NotReal)
     }
-    Check::Refused(Refusal::NotReal)
 }
 
 // 8, for tables that no check refuses and a run of fit length.
+#[tactic(auto, using(crate::proofs::Steps::step_found))]
 fn is_joint_run(labels: Labels, left: &[u8], right: &[u8], run: &[u8]) -> bool
     requires ready { Ready left.now × Ready right.now }
     requires run_len { length run.now % 3 ≡ 2 }
     ensures { result ≡ is_joint_run labels left.now right.now run.now }
 {
-    if left[0] <= run[0] {
+    if left[0] <= run[0] || right[0] <= run[1] {
         return false;
     }
-    if right[0] <= run[1] {
-        return false;
-    }
-    let mut i: usize = 0;
-    loop {
-        match joint_step(run, i) {
-            JointRead::Step(step) => {
-                if !is_real(labels, left, right, step) {
-                    return false;
-                }
-            }
-            JointRead::NoSuchStep => return true,
+    // Counted by hand, since `joint_step` says where the steps end: a `for` would have an arm that is never taken.
+    let mut i = 0;
+    while let Some(step) = joint_step(run, i) {
+        if !is_real(labels, left, right, step) {
+            return false;
         }
         i += 1;
     }
+    true
 }
 
 // The four ways that make a step real.
@@ -69,66 +63,39 @@ fn is_real(labels: Labels, left: &[u8], right: &[u8], step: JointStep) -> bool
     let from = step.before;
     let to = step.after;
     let label = step.label;
-    if moves_alone(left, from.left, from.right, label, to.left, to.right) {
-        return true;
-    }
-    if moves_alone(right, from.right, from.left, label, to.right, to.left) {
-        return true;
-    }
-    if is_handshake(labels, left, right, step) {
-        return true;
-    }
-    is_joint_idle(step)
+    let left = rows_leaving(left, from.left);
+    let right = rows_leaving(right, from.right);
+    moves_alone(left, label, to.left, from.right, to.right)
+        || moves_alone(right, label, to.right, from.left, to.left)
+        || is_handshake(labels, left, right, label, to)
+        || is_joint_idle(step)
 }
 
-// One side moves by a row of its table, and the other keeps its state.
-fn moves_alone(table: &[u8], from: u8, other: u8, label: Label, to: u8, after: u8) -> bool
-    requires { Rising (rows_of table.now) }
-    ensures { result ≡ (eqb after other && has_move (table_of table.now) from label.0 to) }
+// One side moves by one of these rows, and the other keeps its state.
+pub fn moves_alone(rows: &[u8], label: Label, to: u8, other: u8, kept: u8) -> bool
+    ensures { result ≡ (eqb kept other && among (moves_in rows.now) label.0 to) }
 {
-    if after != other {
-        return false;
-    }
-    has_row(table, from, label, to)
+    kept == other && leads_to(rows, label, to)
 }
 
-// Label 0, and a row of the left with a label whose partner leads the right to its target.
-fn is_handshake(labels: Labels, left: &[u8], right: &[u8], step: JointStep) -> bool
-    requires { Ready left.now × Ready right.now }
-    ensures { result ≡ is_handshake (pairing labels) (table_of left.now) (table_of right.now)
-        step.before.left step.before.right step.label.0 step.after.left step.after.right }
+// Label 0, and one of these rows of the left has a label whose partner leads there by one of these rows of the right.
+fn is_handshake(labels: Labels, left: &[u8], right: &[u8], label: Label, to: States) -> bool
+    ensures { result ≡ (eqb label.0 0
+        && any (is_answered (pairing labels) (moves_in right.now) to.left to.right) (moves_in left.now)) }
 {
-    let from = step.before;
-    let to = step.after;
-    let label = step.label;
     if !label.is_silent() {
         return false;
     }
-    let answers = rows_leaving(right, from.right);
-    let mut rows = rows_leaving(left, from.left);
-    while 3 <= rows.len() {
-        match answer_to(labels, Label(rows[1]), rows[2], answers, to.left, to.right) {
-            Partner::Label(_) => return true,
-            Partner::Nobody => {}
-        }
-        rows = &rows[3..];
-    }
-    false
+    rows_in(left).iter().any(|row| {
+        answer_to(labels, Label(row[1]), row[2], right, to.left, to.right).is_some()
+    })
 }
 
 // Label 255, and both states kept.
+#[tactic(auto, unfolding(crate::specs::Joints::is_joint_idle))]
 fn is_joint_idle(step: JointStep) -> bool
     ensures { result ≡ is_joint_idle step.before.left step.before.right step.label.0
         step.after.left step.after.right }
 {
-    let from = step.before;
-    let to = step.after;
-    let label = step.label;
-    if !label.is_idle() {
-        return false;
-    }
-    if to.left != from.left {
-        return false;
-    }
-    to.right == from.right
+    step.label.is_idle() && step.after == step.before
 }

@@ -5,7 +5,7 @@ ghost use Rattle.machines.specs.Steps.{joint_read};
 use labels::label::Label;
 
 // A state of the left table and one of the right.
-#[derive(Clone, Copy)]
+#[derive(Clone, Copy, PartialEq, Eq)]
 pub struct States {
     pub left: u8,
     pub right: u8,
@@ -19,23 +19,14 @@ pub struct JointStep {
     pub after: States,
 }
 
-// What reading a step of a joint run finds.
-#[derive(Clone, Copy)]
-pub enum JointRead {
-    Step(JointStep),
-    NoSuchStep,
-}
-
 // Step i of a joint run's bytes. The states before it stand in the two bytes before its own.
-pub fn joint_step(run: &[u8], i: usize) -> JointRead
+#[tactic(auto, unfolding(crate::specs::Steps::joint_read, crate::specs::Steps::joint_step_at))]
+pub fn joint_step(run: &[u8], i: usize) -> Option<JointStep>
     ensures { result ≡ joint_read run.now i }
 {
     let n = run.len();
-    if n % 3 != 2 {
-        return JointRead::NoSuchStep;
-    }
-    if n / 3 <= i {
-        return JointRead::NoSuchStep;
+    if n % 3 != 2 || n / 3 <= i {
+        return None;
     }
     let at = 3 * i;
     let before = States {
@@ -47,7 +38,7 @@ pub fn joint_step(run: &[u8], i: usize) -> JointRead
         left: run[at + 3],
         right: run[at + 4],
     };
-    JointRead::Step(JointStep {
+    Some(JointStep {
         before,
         label,
         after,

@@ -6,7 +6,6 @@ use Prim.Native.Nat.{ℕ, ◌*◌, ◌≤◌}
 use mathlib.Core.Bool.{Bool, true, false}
 use mathlib.Core.Path.{◌≡◌, refl, sym, ◌∙◌, ap}
 use mathlib.Core.List.{List, []}
-use mathlib.Core.Option.{some}
 use lib.ListN.{length, take, drop}
 use lib.Dec.{ltb}
 use borrow.Author.Tests.{ltb-true, ltb-false}
@@ -17,7 +16,6 @@ use Rattle.hml.specs.Compose.{beside}
 use Rattle.labels.specs.Labels.{pairing}
 use Rattle.hml.specs.Spell.{spell}
 use Rattle.hml.specs.Quotient.{quotient}
-use Rattle.labels.specs.declared.refusal.Check.TheVariants.{Sound}
 use Rattle.labels.specs.declared.label.Labels.{Labels}
 use Rattle.tables.specs.Tables.{table_of}
 use Rattle.halves.specs.Halves.{half_of}
@@ -32,8 +30,6 @@ use Rattle.joining.specs.Joinings.{join_bytes, check_halves}
 use Rattle.splitting.specs.Splittings.{splitting_limit, check_log, left_half, right_half}
 use Rattle.splitting.proofs.AllSplittings.{splitting_joins}
 use Rattle.dividing.specs.Quotients.{answer_of, output_after}
-use Rattle.dividing.specs.declared.divide.Quotient.{Quotient}
-use Rattle.dividing.specs.declared.divide.Quotient.TheVariants.{Written}
 use Rattle.dividing.proofs.Answers.{refused_kept, too_short, enough_room, text-written, rest_kept, exactly_too_large}
 use Rattle.quotient.specs.Calls.{tree_by_half, by_half, by_half_output, tree_by_number, by_number, by_number_output}
 use Rattle.quotient.proofs.Quotients.{tree-found, question_read, question-fits, quotient_fits, verdict-kept}
@@ -41,6 +37,8 @@ use Rattle.quotient.proofs.SplitRuns.{LogParts, log_parts, SplitRun, split-run, 
 use Rattle.quotient.proofs.SplitRuns.{by_number_sound, known_within, by_half_sound, half_call_sound}
 use Rattle.quotient.proofs.GivenVerdicts.{joint-given, half_given}
 use Rattle.quotient.specs.Demand.{DemandThree, Given, Decomposed, Demand, verdict_at}
+use Rattle.labels.specs.declared.refusal.Refusal.{Refusal}
+use Rattle.std.specs.Prelude.{Ok, Result, Some}
 
 -- one splitting of a sound log and a legal question φ: a call whose checks pass does what the demand says
 module _ (k : Labels) (l r s a b f : List ℕ) (side : Side) (point : ℕ) (log : LogParts k l r s)
@@ -52,7 +50,7 @@ module _ (k : Labels) (l r s a b f : List ℕ) (side : Side) (point : ℕ) (log 
         quotient (pairing k) (table_of (known_part l r (known_of side))) φ
         (stop point (half_of (known_part a b (known_of side))))
 
-    tree_is : tree_by_half k l r a b f side point ≡ some ψ
+    tree_is : tree_by_half k l r a b f side point ≡ Some ψ
     unfolding tree_by_half
     tree_is = tree-found k (known_part l r (known_of side)) (stop point (half_of (known_part a b (known_of side)))) f φ asked
 
@@ -60,7 +58,7 @@ module _ (k : Labels) (l r s a b f : List ℕ) (side : Side) (point : ℕ) (log 
     unfolding cut_of
     cut_is = cut_stopped (known_part a b (known_of side)) point (known_within k l r s a b point split (known_of side))
 
-    module _ (legal : check_formula k question_limit f ≡ Sound) where
+    module _ (legal : check_formula k question_limit f ≡ Ok tt) where
       log-verdict : joint_verdict k l r s f point
           ≡ verdict_of (holds (beside (pairing k) (table_of l) (table_of r)) φ (stop point (joint_of s)))
       log-verdict =
@@ -80,9 +78,9 @@ module _ (k : Labels) (l r s a b f : List ℕ) (side : Side) (point : ℕ) (log 
           ∙ ap verdict_of (sym (verdict-kept k l r a b (known_of side) φ (joint_of s) point split.join))
           ∙ sym log-verdict
 
-      module _ (answer : ℕ → Quotient) (output : List ℕ → List ℕ)
-          (answers : (room : ℕ) → answer room ≡ answer_of Sound (some ψ) room)
-          (outputs : (out : List ℕ) → output out ≡ output_after Sound (some ψ) out) where
+      module _ (answer : ℕ → Result ℕ Refusal) (output : List ℕ → List ℕ)
+          (answers : (room : ℕ) → answer room ≡ answer_of (Ok tt) (Some ψ) room)
+          (outputs : (out : List ℕ) → output out ≡ output_after (Ok tt) (Some ψ) out) where
         tree-given : size ψ ≤ quotient_limit → (out : List ℕ) → 2 * size ψ ≤ length out
             → Given (case_with k l r s f) a b side point answer output ψ out
         tree-given h out i =
@@ -108,13 +106,13 @@ module _ (k : Labels) (l r s a b f : List ℕ) (side : Side) (point : ℕ) (log 
           verdict = log-verdict;
           too_large = λ room. rw (answers room) (exactly_too_large ψ room);
           too_short = λ h room i. answers room ∙ too_short ψ h room i;
-          untouched = λ out x e. outputs out ∙ sym (refused_kept Sound (some ψ) out x (sym (answers (length out)) ∙ e));
+          untouched = λ out x e. outputs out ∙ sym (refused_kept (Ok tt) (Some ψ) out x (sym (answers (length out)) ∙ e));
           given = tree-given;
         }
 
 -- demand 3, of the case of these parts
-by_parts : (k : Labels) (l r s f : List ℕ) (side : Side) (point : ℕ) → check_log k l r s ≡ Sound
-    → check_formula k question_limit f ≡ Sound → point ≤ steps (joint_of s)
+by_parts : (k : Labels) (l r s f : List ℕ) (side : Side) (point : ℕ) → check_log k l r s ≡ Ok tt
+    → check_formula k question_limit f ≡ Ok tt → point ≤ steps (joint_of s)
     → Demand (case_with k l r s f) side point
 unfolding by_half by_half_output by_number by_number_output tree_by_number splitting_limit
 by_parts k l r s f side point log question within = record {
@@ -138,7 +136,7 @@ by_parts k l r s f side point log question within = record {
     asked : f ≡ spell φ []
     asked = (question_read k f question).1
 
-    by_halves : (a b : List ℕ) → check_halves k l r a b ≡ Sound → join_bytes k a b ≡ s
+    by_halves : (a b : List ℕ) → check_halves k l r a b ≡ Ok tt → join_bytes k a b ≡ s
         → Decomposed (case_with k l r s f) a b side point (by_half k l r a b f side point)
         (by_half_output k l r a b f side point)
     by_halves a b e j =
@@ -153,9 +151,9 @@ pub demand_three : DemandThree
 demand_three c = by_parts c.labels c.left c.right c.run c.question
 
 -- where a call that does as demand 3 says tells of n bytes written, the verdicts agree under these n bytes
-pub written_agrees : {c : Case} {a b : List ℕ} {side : Side} {point : ℕ} {answer : ℕ → Quotient}
+pub written_agrees : {c : Case} {a b : List ℕ} {side : Side} {point : ℕ} {answer : ℕ → Result ℕ Refusal}
     {output : List ℕ → List ℕ} → Decomposed c a b side point answer output
-    → (out : List ℕ) (n : ℕ) → answer (length out) ≡ Written n
+    → (out : List ℕ) (n : ℕ) → answer (length out) ≡ Ok n
     → half_verdict c.labels (other_part c.left c.right (known_of side)) (other_part a b (known_of side))
     (take n (output out)) point
     ≡ verdict_at c point

@@ -3,7 +3,6 @@ use Prim.Native.Nat.{ℕ, ◌*◌, ◌≤◌}
 use mathlib.Core.Path.{◌≡◌, refl, sym, ◌∙◌, ap}
 use mathlib.Core.Bool.{Bool, true, false}
 use mathlib.Core.List.{List, [], ◌∷◌}
-use mathlib.Core.Option.{Option}
 use native.Mathlib.Omega.{arith}
 use lib.ListN.{length, take}
 use lib.Dec.{ltb}
@@ -16,11 +15,9 @@ use Rattle.hml.proofs.Composition.{Join}
 use Rattle.hml.specs.Spell.{spell}
 use Rattle.hml.proofs.Joins.{join-steps}
 use Rattle.labels.specs.Labels.{pairing}
-use Rattle.labels.specs.Refusals.{then_of, first_of, refused_if}
+use Rattle.labels.specs.Refusals.{then_of, first_of, refused_if, Check}
 use Rattle.labels.specs.declared.refusal.Refusal.{Refusal}
 use Rattle.labels.specs.declared.refusal.Refusal.TheVariants.{QuotientTooLarge, OutputTooShort}
-use Rattle.labels.specs.declared.refusal.Check.{Check}
-use Rattle.labels.specs.declared.refusal.Check.TheVariants.{Sound, Refused}
 use Rattle.labels.proofs.Refusals.{both_sound, passed, unrefused}
 use Rattle.labels.specs.declared.label.Labels.{Labels}
 use Rattle.halves.specs.Halves.{half_of, is_half_run, check_half}
@@ -32,31 +29,27 @@ use Rattle.halves.proofs.Cuts.{cut-points}
 use Rattle.machines.specs.Joints.{joint_of}
 use Rattle.machines.specs.Cases.{case_with}
 use Rattle.verdict.specs.Verdicts.{verdict_of, joint_verdict, half_verdict}
-use Rattle.verdict.specs.declared.answer.Verdict.{Verdict}
 use Rattle.joining.specs.Joinings.{join_bytes, check_halves}
 use Rattle.splitting.proofs.LogRuns.{sound_halves, halves_join, joined_read}
 use Rattle.splitting.proofs.AllSplittings.{joined-log}
 use Rattle.dividing.specs.Quotients.{nodes_of, text_of, check_size, check_tree, written, answer_of}
-use Rattle.dividing.specs.declared.divide.Quotient.TheVariants as answer
 use Rattle.quotient.specs.Calls.{tree_by_half, check_by_half, by_half, by_half_output, line_holds, machine_holds}
 use Rattle.quotient.specs.Calls.{check_line, verdicts_of, office_of, Same}
-use Rattle.quotient.specs.Working.{both_of}
-use Rattle.quotient.specs.declared.line.LineOffice.{LineOffice}
-use Rattle.quotient.specs.declared.line.LineOffice.TheVariants as line
 use Rattle.quotient.proofs.QuotientCalls.{by_half_checked}
 use Rattle.quotient.proofs.Quotients.{verdict-kept}
 use Rattle.quotient.proofs.GivenVerdicts.{joint-holds, half_holds_lem}
 use Rattle.quotient.proofs.DemandThree.{demand_three, written_agrees}
 use Rattle.quotient.specs.Demand.{Decomposed}
+use Rattle.std.specs.Prelude.{Err, Ok, Option, Result}
 
 -- an answer and the checks behind it
-written_refused : (c : Check) (m : ℕ) (x : Refusal) → written c m ≡ answer.Refused x → c ≡ Refused x
-written_refused Sound m x e = absurd (apart cc)
-written_refused (Refused y) m x e = let z : y ≡ x = cc in ap Refused z
+written_refused : (c : Check) (m : ℕ) (x : Refusal) → written c m ≡ Err x → c ≡ Err x
+written_refused (Ok _) m x e = absurd (apart cc)
+written_refused (Err y) m x e = let z : y ≡ x = cc in ap Err z
 
-written_told : (c : Check) (m n : ℕ) → written c m ≡ answer.Written n → (c ≡ Sound) × (m ≡ n)
-written_told Sound m n e = (refl, cc)
-written_told (Refused y) m n e = absurd (apart cc)
+written_told : (c : Check) (m n : ℕ) → written c m ≡ Ok n → (c ≡ Ok tt) × (m ≡ n)
+written_told (Ok _) m n e = (refl, cc)
+written_told (Err y) m n e = absurd (apart cc)
 
 -- with two bytes lent for each node of the limit there is no 18
 no_short : (parts : Check) (tree : Option Formula) (room : ℕ) → 8192 ≤ room
@@ -65,16 +58,19 @@ unfolding check_tree check_size first_of
 no_short parts tree room h = ap (then_of parts) (go (ltb 4096 (nodes_of tree)) refl)
   where
     go : (b : Bool) → ltb 4096 (nodes_of tree) ≡ b
-        → then_of (refused_if b QuotientTooLarge) (then_of (refused_if (ltb room (2 * nodes_of tree)) OutputTooShort) Sound)
-        ≡ then_of (refused_if b QuotientTooLarge) Sound
+        → then_of (refused_if b QuotientTooLarge) (then_of (refused_if (ltb room (2 * nodes_of tree)) OutputTooShort) (Ok tt))
+        ≡ then_of (refused_if b QuotientTooLarge) (Ok tt)
     go true e = refl
     go false e = rw (le-ltb room (2 * nodes_of tree) (omega (arith, ltb-false 4096 (nodes_of tree) e)))
 
--- both verdicts, given
-both-given : (h : Bool) → both_of (verdict_of h) ≡ line.Verdicts h h
-unfolding verdict_of
-both-given true = refl
-both-given false = refl
+-- what is said of an answer is said of its equal
+pub given_same : {x y z : Result (Bool × Bool) Refusal} → x ≡ y → (y ≡ z) × Same y → (x ≡ z) × Same x
+given_same e t = (e ∙ t.0, rw e t.1)
+
+-- the verdict on the machine as the line office answers both
+abbrev pub both_of : Result Bool Refusal → Result (Bool × Bool) Refusal
+both_of (Ok b) = Ok (b, b)
+both_of (Err x) = Err x
 
 module _ (k : Labels) (l r a b f : List ℕ) (side : Side) (point : ℕ) where
   -- the log that the halves join to
@@ -85,12 +81,12 @@ module _ (k : Labels) (l r a b f : List ℕ) (side : Side) (point : ℕ) where
   tree = tree_by_half k l r a b f side point
 
   -- where the line office refuses nothing, demand 3 applies
-  module _ (e : check_line k l r a b f side point ≡ Sound) where
-    parts_sound : check_by_half k l r a b f side point ≡ Sound
+  module _ (e : check_line k l r a b f side point ≡ Ok tt) where
+    parts_sound : check_by_half k l r a b f side point ≡ Ok tt
     unfolding check_line first_of
     parts_sound = (both_sound (check_by_half k l r a b f side point) _ e).0
 
-    halves_sound : check_halves k l r a b ≡ Sound
+    halves_sound : check_halves k l r a b ≡ Ok tt
     halves_sound = (by_half_checked k l r a b f side point parts_sound).1
 
     point_within : point ≤ steps (joint_of log)
@@ -145,7 +141,7 @@ module _ (k : Labels) (l r a b f : List ℕ) (side : Side) (point : ℕ) where
         )
 
     -- under the bytes that were written
-    machine-verdict : (n : ℕ) (out : List ℕ) → by_half k l r a b f side point (length out) ≡ answer.Written n
+    machine-verdict : (n : ℕ) (out : List ℕ) → by_half k l r a b f side point (length out) ≡ Ok n
         → half_verdict k (other_part l r (known_of side)) (other_part a b (known_of side))
         (take n (by_half_output k l r a b f side point out)) point
         ≡ verdict_of (machine_holds k l r a b f side point)
@@ -159,12 +155,12 @@ module _ (k : Labels) (l r a b f : List ℕ) (side : Side) (point : ℕ) where
     where
       go : (c : Check) → check_line k l r a b f side point ≡ c
           → Same (verdicts_of c (line_holds k l r a b f point) (machine_holds k l r a b f side point))
-      go Sound e = verdicts_same e
-      go (Refused x) e = tt
+      go (Ok _) e = verdicts_same e
+      go (Err x) e = tt
 
   -- the checks of the quotient, with room for every quotient, are those of the line office
-  module _ (room n : ℕ) (told : by_half k l r a b f side point room ≡ answer.Written n) (enough : 8192 ≤ room) where
-    line_sound : check_line k l r a b f side point ≡ Sound
+  module _ (room n : ℕ) (told : by_half k l r a b f side point room ≡ Ok n) (enough : 8192 ≤ room) where
+    line_sound : check_line k l r a b f side point ≡ Ok tt
     unfolding by_half answer_of check_line
     line_sound = sym (no_short (check_by_half k l r a b f side point) tree room enough) ∙ (written_told _ _ n told).0
 
@@ -180,22 +176,22 @@ module _ (k : Labels) (l r a b f : List ℕ) (side : Side) (point : ℕ) where
         )
 
   -- the answers
-  pub line_refused : (room : ℕ) (x : Refusal) → by_half k l r a b f side point room ≡ answer.Refused x → 8192 ≤ room
-      → (line.Refused x ≡ office_of k l r a b f side point) × Same (line.Refused x)
+  pub line_refused : (room : ℕ) (x : Refusal) → by_half k l r a b f side point room ≡ Err x → 8192 ≤ room
+      → (Err x ≡ office_of k l r a b f side point) × Same (Err x)
   unfolding by_half answer_of office_of check_line Same
   line_refused room x told enough =
       let c = sym (no_short (check_by_half k l r a b f side point) tree room enough)
       ∙ written_refused _ _ x told in (rw c, tt)
 
-  pub line-answered : (out text : List ℕ) (n : ℕ) → by_half k l r a b f side point (length out) ≡ answer.Written n
+  pub line-answered : (out text : List ℕ) (n : ℕ) → by_half k l r a b f side point (length out) ≡ Ok n
       → text ≡ by_half_output k l r a b f side point out
-      → (t h : List ℕ) → t ≡ other_part l r (known_of side) → h ≡ other_part a b (known_of side) → (m : Verdict)
+      → (t h : List ℕ) → t ≡ other_part l r (known_of side) → h ≡ other_part a b (known_of side) → (m : Result Bool Refusal)
       → m ≡ half_verdict k t h (take n text) point
-      → (q : LineOffice) → q ≡ both_of m → 8192 ≤ length out → (q ≡ office_of k l r a b f side point) × Same q
+      → (q : Result (Bool × Bool) Refusal) → q ≡ both_of m → 8192 ≤ length out → (q ≡ office_of k l r a b f side point) × Same q
   unfolding office_of
   line-answered out text n told e t h u v m y q z enough = (given, rw given answers_same)
     where
       given : q ≡ office_of k l r a b f side point
       given =
           let sound = line_sound (length out) n told enough in
-          z ∙ rw (y, u, v, e, machine-verdict sound n out told, both-given, sound, verdicts_same sound)
+          z ∙ rw (y, u, v, e, machine-verdict sound n out told, sound, verdicts_same sound)

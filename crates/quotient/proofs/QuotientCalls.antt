@@ -10,13 +10,11 @@ use lib.Dec.{ltb, leb}
 use borrow.Author.Tests.{le-ltb, ltb-false, leb-false}
 use Rattle.hml.proofs.Tests.{apart}
 use Rattle.hml.specs.System.{steps}
-use Rattle.labels.specs.Refusals.{then_of, first_of, refused_if, in_front}
+use Rattle.labels.specs.Refusals.{then_of, first_of, refused_if, in_front, Check}
 use Rattle.labels.specs.Labels.{check_labels}
 use Rattle.labels.specs.declared.refusal.Refusal.{Refusal}
 use Rattle.labels.specs.declared.refusal.Refusal.TheVariants.{PointBeyond, TooManySplittings, NoSuchSplitting}
 use Rattle.labels.specs.declared.refusal.Refusal.TheVariants.{OutputTooShort}
-use Rattle.labels.specs.declared.refusal.Check.{Check}
-use Rattle.labels.specs.declared.refusal.Check.TheVariants.{Sound, Refused}
 use Rattle.labels.proofs.Refusals.{both_sound, passed, unrefused}
 use Rattle.labels.specs.declared.label.Labels.{Labels}
 use Rattle.tables.specs.Tables.{check_table}
@@ -32,36 +30,34 @@ use Rattle.formulas.specs.Formulas.{question_limit, check_formula}
 use Rattle.joining.specs.Joinings.{check_halves}
 use Rattle.splitting.specs.Splittings.{splittings_of, check_log, splitting_limit, check_count, check_number, check_split}
 use Rattle.splitting.specs.Splittings.{left_half, right_half, half_length, halved, split_of, left_output, right_output}
-use Rattle.splitting.specs.declared.split.Splitting.TheVariants as splitting
 use Rattle.splitting.proofs.LogRuns.{sound_log, nth_length}
 use Rattle.splitting.proofs.Values.{half_most}
 use Rattle.splitting.proofs.Outcomes.{halves-answered}
 use Rattle.splitting.proofs.AllSplittings.{splitting_joins}
 use Rattle.dividing.specs.Quotients.{quotient_by, answer_of, output_after, check_division}
 use Rattle.dividing.proofs.Answers.{part_refused}
-use Rattle.dividing.specs.declared.divide.Quotient.{Quotient}
-use Rattle.dividing.specs.declared.divide.Quotient.TheVariants as answer
 use Rattle.quotient.specs.Calls.{tree_by_half, check_by_half, by_half, by_half_output, tree_by_number, check_by_number}
 use Rattle.quotient.specs.Calls.{by_number, by_number_output}
 use Rattle.quotient.specs.Working.{check_asked_run, log_first, check_asked_log}
 use Rattle.quotient.proofs.SplitRuns.{log_parts, split-run, known_within}
+use Rattle.std.specs.Prelude.{Err, Ok, Result}
 
 -- the known table, the known half of it and the question, that no check refuses, at a point of the half
 pub record KnownParts (k : Labels) (l r a b f : List ℕ) (side : Side) (point : ℕ) : Type 0 where
-  pub labels : check_labels k ≡ Sound
-  pub table : check_table k (known_part l r (known_of side)) ≡ Sound
-  pub half : check_half (known_part l r (known_of side)) (known_part a b (known_of side)) ≡ Sound
-  pub question : check_formula k question_limit f ≡ Sound
+  pub labels : check_labels k ≡ Ok tt
+  pub table : check_table k (known_part l r (known_of side)) ≡ Ok tt
+  pub half : check_half (known_part l r (known_of side)) (known_part a b (known_of side)) ≡ Ok tt
+  pub question : check_formula k question_limit f ≡ Ok tt
   pub within : beyond (known_part a b (known_of side)) point ≡ false
 
 -- the known one of two sound tables, and of two sound halves
-known_table : (k : Labels) (l r : List ℕ) (known : Known) → check_table k l ≡ Sound → check_table k r ≡ Sound
-    → check_table k (known_part l r known) ≡ Sound
+known_table : (k : Labels) (l r : List ℕ) (known : Known) → check_table k l ≡ Ok tt → check_table k r ≡ Ok tt
+    → check_table k (known_part l r known) ≡ Ok tt
 known_table k l r known.Left e f = e
 known_table k l r known.Right e f = f
 
-known_half : (l r a b : List ℕ) (known : Known) → check_half l a ≡ Sound → check_half r b ≡ Sound
-    → check_half (known_part l r known) (known_part a b known) ≡ Sound
+known_half : (l r a b : List ℕ) (known : Known) → check_half l a ≡ Ok tt → check_half r b ≡ Ok tt
+    → check_half (known_part l r known) (known_part a b known) ≡ Ok tt
 known_half l r a b known.Left e f = e
 known_half l r a b known.Right e f = f
 
@@ -69,7 +65,7 @@ known_half l r a b known.Right e f = f
 -- the known half stopped at the point
 module _ (k : Labels) (l r a b f : List ℕ) (side : Side) (point : ℕ) (parts : KnownParts k l r a b f side point)
     (t h : List ℕ) (u : t ≡ known_part l r (known_of side)) (v : h ≡ cut_of a b side point) where
-  division_sound : check_division k t h f ≡ Sound
+  division_sound : check_division k t h f ≡ Ok tt
   unfolding check_division first_of cut_of check_half
   division_sound =
       rw (
@@ -87,26 +83,26 @@ module _ (k : Labels) (l r a b f : List ℕ) (side : Side) (point : ℕ) (parts 
   unfolding tree_by_half cut_of
   division_tree = rw (u, v, cut_stopped (known_part a b (known_of side)) point parts.within)
 
-  divided_answer : {q : Quotient} (room : ℕ) → q ≡ answer_of (check_division k t h f) (quotient_by k t (half_of h) f) room
-      → q ≡ answer_of Sound (tree_by_half k l r a b f side point) room
+  divided_answer : {q : Result ℕ Refusal} (room : ℕ) → q ≡ answer_of (check_division k t h f) (quotient_by k t (half_of h) f) room
+      → q ≡ answer_of (Ok tt) (tree_by_half k l r a b f side point) room
   divided_answer room e = rw (← division_sound, ← division_tree) e
 
   divided_output : {x : List ℕ} (out : List ℕ)
       → x ≡ output_after (check_division k t h f) (quotient_by k t (half_of h) f) out
-      → x ≡ output_after Sound (tree_by_half k l r a b f side point) out
+      → x ≡ output_after (Ok tt) (tree_by_half k l r a b f side point) out
   divided_output out e = rw (← division_sound, ← division_tree) e
 
 -- the quotient by a half
 module _ (k : Labels) (l r a b f : List ℕ) (side : Side) (point : ℕ) where
-  pub by_half_refused : (x : Refusal) → check_by_half k l r a b f side point ≡ Refused x → (out : List ℕ)
-      → (answer.Refused x ≡ by_half k l r a b f side point (length out))
+  pub by_half_refused : (x : Refusal) → check_by_half k l r a b f side point ≡ Err x → (out : List ℕ)
+      → (Err x ≡ by_half k l r a b f side point (length out))
       × (out ≡ by_half_output k l r a b f side point out)
   unfolding by_half by_half_output
   by_half_refused x e out = part_refused (check_by_half k l r a b f side point) _ out x e
 
-  module _ (e : check_by_half k l r a b f side point ≡ Sound) where
+  module _ (e : check_by_half k l r a b f side point ≡ Ok tt) where
     -- what the checks let through
-    pub by_half_checked : KnownParts k l r a b f side point × (check_halves k l r a b ≡ Sound)
+    pub by_half_checked : KnownParts k l r a b f side point × (check_halves k l r a b ≡ Ok tt)
     unfolding check_by_half check_halves first_of
     by_half_checked =
         let (labels, c) = both_sound (check_labels k) _ e in
@@ -126,7 +122,7 @@ module _ (k : Labels) (l r a b f : List ℕ) (side : Side) (point : ℕ) where
           rw (labels, left, right, x, y) m,
         )
 
-    pub by_half_divided : (t h out x : List ℕ) (q : Quotient) → t ≡ known_part l r (known_of side)
+    pub by_half_divided : (t h out x : List ℕ) (q : Result ℕ Refusal) → t ≡ known_part l r (known_of side)
         → h ≡ cut_of a b side point
         → q ≡ answer_of (check_division k t h f) (quotient_by k t (half_of h) f) (length out)
         → x ≡ output_after (check_division k t h f) (quotient_by k t (half_of h) f) out
@@ -140,21 +136,21 @@ module _ (k : Labels) (l r a b f : List ℕ) (side : Side) (point : ℕ) where
         )
 
 -- checks in a row, grouped: the log's four, what is asked (two), the number's two. Those of the number's log count once
-grouped : (c t u j q p m n : Check) → let log = then_of c (then_of t (then_of u (then_of j Sound))) in
-    then_of c (then_of t (then_of u (then_of j (then_of q (then_of p (then_of m (then_of n Sound)))))))
-    ≡ then_of log (then_of (then_of q (then_of p Sound)) (then_of (then_of log (then_of m Sound)) (then_of n Sound)))
-grouped (Refused x) t u j q p m n = refl
-grouped Sound (Refused x) u j q p m n = refl
-grouped Sound Sound (Refused x) j q p m n = refl
-grouped Sound Sound Sound (Refused x) q p m n = refl
-grouped Sound Sound Sound Sound (Refused x) p m n = refl
-grouped Sound Sound Sound Sound Sound (Refused x) m n = refl
-grouped Sound Sound Sound Sound Sound Sound (Refused x) n = refl
-grouped Sound Sound Sound Sound Sound Sound Sound n = refl
+grouped : (c t u j q p m n : Check) → let log = then_of c (then_of t (then_of u (then_of j (Ok tt)))) in
+    then_of c (then_of t (then_of u (then_of j (then_of q (then_of p (then_of m (then_of n (Ok tt))))))))
+    ≡ then_of log (then_of (then_of q (then_of p (Ok tt))) (then_of (then_of log (then_of m (Ok tt))) (then_of n (Ok tt))))
+grouped (Err x) t u j q p m n = refl
+grouped (Ok _) (Err x) u j q p m n = refl
+grouped (Ok _) (Ok _) (Err x) j q p m n = refl
+grouped (Ok _) (Ok _) (Ok _) (Err x) q p m n = refl
+grouped (Ok _) (Ok _) (Ok _) (Ok _) (Err x) p m n = refl
+grouped (Ok _) (Ok _) (Ok _) (Ok _) (Ok _) (Err x) m n = refl
+grouped (Ok _) (Ok _) (Ok _) (Ok _) (Ok _) (Ok _) (Err x) n = refl
+grouped (Ok _) (Ok _) (Ok _) (Ok _) (Ok _) (Ok _) (Ok _) n = refl
 
 -- what the check of a number lets through
-number_checked : (k : Labels) (l r s : List ℕ) (n : ℕ) → check_number k l r s n ≡ Sound
-    → (check_log k l r s ≡ Sound) × (length (splittings_of k l r s) ≤ 65535) × (n < length (splittings_of k l r s))
+number_checked : (k : Labels) (l r s : List ℕ) (n : ℕ) → check_number k l r s n ≡ Ok tt
+    → (check_log k l r s ≡ Ok tt) × (length (splittings_of k l r s) ≤ 65535) × (n < length (splittings_of k l r s))
 unfolding check_number check_count first_of splitting_limit
 number_checked k l r s n e =
     let (count, a) = both_sound (check_count k l r s) _ e in
@@ -164,25 +160,25 @@ number_checked k l r s n e =
     (log, ltb-false _ _ (unrefused _ _ few), leb-false _ _ (unrefused _ _ below))
 
 -- what a split's answer says of its checks
-halved_refused : (c : Check) (m : ℕ) (x : Refusal) → halved c m ≡ splitting.Refused x → c ≡ Refused x
-halved_refused Sound m x e = absurd (apart cc)
-halved_refused (Refused y) m x e = let z : y ≡ x = cc in ap Refused z
+halved_refused : (c : Check) (m : ℕ) (x : Refusal) → halved c m ≡ Err x → c ≡ Err x
+halved_refused (Ok _) m x e = absurd (apart cc)
+halved_refused (Err y) m x e = let z : y ≡ x = cc in ap Err z
 
 -- the quotient by the splitting of a number
 module _ (k : Labels) (l r s f : List ℕ) (n point : ℕ) where
   -- where the log is sound it has as many steps as threes of bytes
   same_points : (c d : Check)
       → then_of (check_log k l r s)
-      (then_of (then_of c (then_of (refused_if (ltb (steps (joint_of s)) point) PointBeyond) Sound)) d)
+      (then_of (then_of c (then_of (refused_if (ltb (steps (joint_of s)) point) PointBeyond) (Ok tt))) d)
       ≡ then_of (check_log k l r s)
-      (then_of (then_of c (then_of (refused_if (ltb (length s / 3) point) PointBeyond) Sound)) d)
+      (then_of (then_of c (then_of (refused_if (ltb (length s / 3) point) PointBeyond) (Ok tt))) d)
   same_points c d = go (check_log k l r s) refl
     where
       go : (log : Check) → check_log k l r s ≡ log
-          → then_of log (then_of (then_of c (then_of (refused_if (ltb (steps (joint_of s)) point) PointBeyond) Sound)) d)
-          ≡ then_of log (then_of (then_of c (then_of (refused_if (ltb (length s / 3) point) PointBeyond) Sound)) d)
-      go (Refused x) e = refl
-      go Sound e = rw (sound_log k l r s e).run.counted
+          → then_of log (then_of (then_of c (then_of (refused_if (ltb (steps (joint_of s)) point) PointBeyond) (Ok tt))) d)
+          ≡ then_of log (then_of (then_of c (then_of (refused_if (ltb (length s / 3) point) PointBeyond) (Ok tt))) d)
+      go (Err x) e = refl
+      go (Ok _) e = rw (sound_log k l r s e).run.counted
 
   -- what the call judges: the log, what is asked of it, the number
   number_regroup : check_by_number (case_with k l r s f) n point
@@ -196,38 +192,38 @@ module _ (k : Labels) (l r s f : List ℕ) (n point : ℕ) where
       ∙ same_points (check_formula k question_limit f) (check_number k l r s n)
 
   -- where something asked is refused, the log or that decides
-  asked-log_decides : (x : Refusal) → check_asked_log k l r s f point ≡ Refused x
-      → check_by_number (case_with k l r s f) n point ≡ Refused x
+  asked-log_decides : (x : Refusal) → check_asked_log k l r s f point ≡ Err x
+      → check_by_number (case_with k l r s f) n point ≡ Err x
   unfolding check_asked_log
   asked-log_decides x e = number_regroup ∙ go (check_asked_run k s f point) e
     where
-      go : (c : Check) → log_first (check_log k l r s) c ≡ Refused x
-          → then_of (check_log k l r s) (then_of c (check_number k l r s n)) ≡ Refused x
-      go Sound e = absurd (apart cc)
-      go (Refused y) e = e
+      go : (c : Check) → log_first (check_log k l r s) c ≡ Err x
+          → then_of (check_log k l r s) (then_of c (check_number k l r s n)) ≡ Err x
+      go (Ok _) e = absurd (apart cc)
+      go (Err y) e = e
 
-  pub labels_refuse : (x : Refusal) → check_labels k ≡ Refused x → (side : Side) (out : List ℕ)
-      → (answer.Refused x ≡ by_number (case_with k l r s f) n side point (length out))
+  pub labels_refuse : (x : Refusal) → check_labels k ≡ Err x → (side : Side) (out : List ℕ)
+      → (Err x ≡ by_number (case_with k l r s f) n side point (length out))
       × (out ≡ by_number_output (case_with k l r s f) n side point out)
   unfolding by_number by_number_output check_by_number first_of
   labels_refuse x e side out = part_refused (check_by_number (case_with k l r s f) n point) _ out x (rw e)
 
-  pub asked-log_refuses : (x : Refusal) → check_asked_log k l r s f point ≡ Refused x → (side : Side) (out : List ℕ)
-      → (answer.Refused x ≡ by_number (case_with k l r s f) n side point (length out))
+  pub asked-log_refuses : (x : Refusal) → check_asked_log k l r s f point ≡ Err x → (side : Side) (out : List ℕ)
+      → (Err x ≡ by_number (case_with k l r s f) n side point (length out))
       × (out ≡ by_number_output (case_with k l r s f) n side point out)
   unfolding by_number by_number_output
   asked-log_refuses x e side out = part_refused (check_by_number (case_with k l r s f) n point) _ out x
       (asked-log_decides x e)
 
-  module _ (asked : check_asked_log k l r s f point ≡ Sound) where
+  module _ (asked : check_asked_log k l r s f point ≡ Ok tt) where
     -- nothing asked is refused
-    asked_sound : check_asked_run k s f point ≡ Sound
+    asked_sound : check_asked_run k s f point ≡ Ok tt
     unfolding check_asked_log
     asked_sound = go (check_asked_run k s f point) asked
       where
-        go : (c : Check) → log_first (check_log k l r s) c ≡ Sound → c ≡ Sound
-        go Sound e = refl
-        go (Refused y) e = let z = (both_sound (check_log k l r s) (Refused y) e).1 in absurd (apart cc)
+        go : (c : Check) → log_first (check_log k l r s) c ≡ Ok tt → c ≡ Ok tt
+        go (Ok _) e = refl
+        go (Err y) e = let z = (both_sound (check_log k l r s) (Err y) e).1 in absurd (apart cc)
 
     -- the number decides
     number_decides : check_by_number (case_with k l r s f) n point ≡ check_number k l r s n
@@ -235,8 +231,8 @@ module _ (k : Labels) (l r s f : List ℕ) (n point : ℕ) where
     number_decides = number_regroup ∙ rw asked_sound (go (check_log k l r s) _ _)
       where
         go : (c m d : Check) → then_of c (then_of (then_of c m) d) ≡ then_of (then_of c m) d
-        go Sound m d = refl
-        go (Refused x) m d = refl
+        go (Ok _) m d = refl
+        go (Err x) m d = refl
 
     -- and so does a split into outputs that have room for every half: it gives no 18
     split_decides : (x y : ℕ) → (401 ≤ x) × (401 ≤ y) → check_split k l r s n x y ≡ check_by_number (case_with k l r s f) n
@@ -245,15 +241,15 @@ module _ (k : Labels) (l r s f : List ℕ) (n point : ℕ) where
     split_decides x y (i, j) = go (check_number k l r s n) refl ∙ sym number_decides
       where
         go : (c : Check) → check_number k l r s n ≡ c
-            → then_of c (then_of (refused_if (ltb x (half_length s) || ltb y (half_length s)) OutputTooShort) Sound) ≡ c
-        go Sound e =
+            → then_of c (then_of (refused_if (ltb x (half_length s) || ltb y (half_length s)) OutputTooShort) (Ok tt)) ≡ c
+        go (Ok _) e =
             let h = half_most k l r s (number_checked k l r s n e).0 in
             rw (le-ltb x (half_length s) (omega (arith, h, i)), le-ltb y (half_length s) (omega (arith, h, j)))
-        go (Refused z) e = refl
+        go (Err z) e = refl
 
-    pub split_refuses : (x y : ℕ) (z : Refusal) → split_of k l r s n x y ≡ splitting.Refused z → (401 ≤ x) × (401 ≤ y)
+    pub split_refuses : (x y : ℕ) (z : Refusal) → split_of k l r s n x y ≡ Err z → (401 ≤ x) × (401 ≤ y)
         → (side : Side) (out : List ℕ)
-        → (answer.Refused z ≡ by_number (case_with k l r s f) n side point (length out))
+        → (Err z ≡ by_number (case_with k l r s f) n side point (length out))
         × (out ≡ by_number_output (case_with k l r s f) n side point out)
     unfolding split_of by_number by_number_output
     split_refuses x y z e room side out =
@@ -261,15 +257,15 @@ module _ (k : Labels) (l r s f : List ℕ) (n point : ℕ) where
         ∙ halved_refused _ _ z e)
 
     -- the split gives the halves of the number
-    module _ (x y m : ℕ) (told : split_of k l r s n x y ≡ splitting.Halves m) (room : (401 ≤ x) × (401 ≤ y)) where
-      split_sound : check_split k l r s n x y ≡ Sound
+    module _ (x y m : ℕ) (told : split_of k l r s n x y ≡ Ok m) (room : (401 ≤ x) × (401 ≤ y)) where
+      split_sound : check_split k l r s n x y ≡ Ok tt
       unfolding split_of
       split_sound = (halves-answered _ _ m told).0
 
-      by_number_passed : check_by_number (case_with k l r s f) n point ≡ Sound
+      by_number_passed : check_by_number (case_with k l r s f) n point ≡ Ok tt
       by_number_passed = sym (split_decides x y room) ∙ split_sound
 
-      number_sound : check_number k l r s n ≡ Sound
+      number_sound : check_number k l r s n ≡ Ok tt
       number_sound = sym number_decides ∙ by_number_passed
 
       half_size : half_length s ≡ m
@@ -302,7 +298,7 @@ module _ (k : Labels) (l r s f : List ℕ) (n point : ℕ) where
           }
 
     -- the fronts of the outputs x and y of a split, afterwards u and v
-    module _ (x y u v : List ℕ) (m : ℕ) (told : split_of k l r s n (length x) (length y) ≡ splitting.Halves m)
+    module _ (x y u v : List ℕ) (m : ℕ) (told : split_of k l r s n (length x) (length y) ≡ Ok m)
         (left : u ≡ left_output k l r s n x (length y)) (right : v ≡ right_output k l r s n (length x) y)
         (room : (401 ≤ length x) × (401 ≤ length y)) where
       fronts : (take m u ≡ left_half k l r s n) × (take m v ≡ right_half k l r s n)
@@ -316,7 +312,7 @@ module _ (k : Labels) (l r s f : List ℕ) (n point : ℕ) where
             rw (right, sound) (take_at (right_half k l r s n) _ m (q ∙ size)),
           )
 
-      pub by_number-divided : (side : Side) (t h out z : List ℕ) (q : Quotient) → t ≡ known_part l r (known_of side)
+      pub by_number-divided : (side : Side) (t h out z : List ℕ) (q : Result ℕ Refusal) → t ≡ known_part l r (known_of side)
           → h ≡ cut_of (take m u) (take m v) side point
           → q ≡ answer_of (check_division k t h f) (quotient_by k t (half_of h) f) (length out)
           → z ≡ output_after (check_division k t h f) (quotient_by k t (half_of h) f) out

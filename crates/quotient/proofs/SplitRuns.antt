@@ -12,7 +12,6 @@ use Rattle.hml.proofs.Composition.{Join}
 use Rattle.hml.proofs.Joins.{join-steps}
 use Rattle.labels.specs.Refusals.{first_of, refused_if}
 use Rattle.labels.specs.Labels.{check_labels, pairing}
-use Rattle.labels.specs.declared.refusal.Check.TheVariants.{Sound}
 use Rattle.labels.proofs.Refusals.{both_sound, passed}
 use Rattle.labels.specs.declared.label.Labels.{Labels}
 use Rattle.tables.specs.Tables.{check_table}
@@ -30,34 +29,35 @@ use Rattle.joining.specs.Joinings.{halves_match, join_bytes, check_halves}
 use Rattle.splitting.specs.Splittings.{splittings_of, splitting_limit, check_log}
 use Rattle.splitting.proofs.LogRuns.{SoundMachines, sound_log, sound_halves, halves_join, joined_read}
 use Rattle.quotient.specs.Calls.{check_by_half, check_by_number}
+use Rattle.std.specs.Prelude.{Ok}
 
 -- the parts of a log that no check refuses, each by its check
 pub record LogParts (k : Labels) (l r s : List ℕ) : Type 0 where
   pub machines : SoundMachines k l r
-  pub run : check_joint k l r s ≡ Sound
+  pub run : check_joint k l r s ≡ Ok tt
 
-pub log_parts : (k : Labels) (l r s : List ℕ) → check_log k l r s ≡ Sound → LogParts k l r s
+pub log_parts : (k : Labels) (l r s : List ℕ) → check_log k l r s ≡ Ok tt → LogParts k l r s
 unfolding check_log first_of
 log_parts k l r s e =
     let machines = (sound_log k l r s e).machines in
     let behind = rw (machines.labels, machines.left, machines.right) at e in
-    record { machines = machines; run = (both_sound (check_joint k l r s) Sound behind).0 }
+    record { machines = machines; run = (both_sound (check_joint k l r s) (Ok tt) behind).0 }
 
 -- halves that no check refuses and that join to the log, at a point of it
 pub record SplitRun (k : Labels) (l r s a b : List ℕ) (point : ℕ) : Type 0 where
-  pub left : check_half l a ≡ Sound
-  pub right : check_half r b ≡ Sound
+  pub left : check_half l a ≡ Ok tt
+  pub right : check_half r b ≡ Ok tt
   pub match : halves_match k a b ≡ true
   pub join : Join (pairing k) paired (half_of a) (half_of b) (joint_of s)
   pub left_within : beyond a point ≡ false
   pub right_within : beyond b point ≡ false
 
 -- a point of a half: at most its number of steps
-within_half : (t a : List ℕ) (point : ℕ) → check_half t a ≡ Sound → point ≤ steps (half_of a) → beyond a point ≡ false
+within_half : (t a : List ℕ) (point : ℕ) → check_half t a ≡ Ok tt → point ≤ steps (half_of a) → beyond a point ≡ false
 unfolding check_half
 within_half t a point e h = cut-points a point t (passed (is_half_run t a) _ e) ∙ le-ltb (steps (half_of a)) point h
 
-pub split-run : (k : Labels) (l r s a b : List ℕ) (point : ℕ) → check_halves k l r a b ≡ Sound → join_bytes k a b ≡ s
+pub split-run : (k : Labels) (l r s a b : List ℕ) (point : ℕ) → check_halves k l r a b ≡ Ok tt → join_bytes k a b ≡ s
     → point ≤ steps (joint_of s) → SplitRun k l r s a b point
 unfolding check_halves first_of
 split-run k l r s a b point e j h =
@@ -90,7 +90,7 @@ module _ (k : Labels) (l r s : List ℕ) (log : LogParts k l r s) (point : ℕ) 
     (f : List ℕ)
   where
     -- the verdict on the log refuses nothing
-    pub joint_call_sound : check_formula k quotient_limit f ≡ Sound → check_joint_call k l r s f point ≡ Sound
+    pub joint_call_sound : check_formula k quotient_limit f ≡ Ok tt → check_joint_call k l r s f point ≡ Ok tt
     unfolding check_joint_call first_of
     joint_call_sound e =
         rw (
@@ -103,8 +103,8 @@ module _ (k : Labels) (l r s : List ℕ) (log : LogParts k l r s) (point : ℕ) 
         )
 
     -- nor does the quotient by the splitting of a number
-    pub by_number_sound : check_formula k question_limit f ≡ Sound → (n : ℕ) → n < length (splittings_of k l r s)
-        → length (splittings_of k l r s) ≤ 65535 → check_by_number (case_with k l r s f) n point ≡ Sound
+    pub by_number_sound : check_formula k question_limit f ≡ Ok tt → (n : ℕ) → n < length (splittings_of k l r s)
+        → length (splittings_of k l r s) ≤ 65535 → check_by_number (case_with k l r s f) n point ≡ Ok tt
     unfolding check_by_number first_of splitting_limit
     by_number_sound e n h i =
         rw (
@@ -120,8 +120,8 @@ module _ (k : Labels) (l r s : List ℕ) (log : LogParts k l r s) (point : ℕ) 
 
     module _ (a b : List ℕ) (split : SplitRun k l r s a b point) where
       -- nor the quotient by the known one of its halves
-      pub by_half_sound : check_formula k question_limit f ≡ Sound → (side : Side)
-          → check_by_half k l r a b f side point ≡ Sound
+      pub by_half_sound : check_formula k question_limit f ≡ Ok tt → (side : Side)
+          → check_by_half k l r a b f side point ≡ Ok tt
       unfolding check_by_half first_of
       by_half_sound e side =
           rw (
@@ -136,8 +136,8 @@ module _ (k : Labels) (l r s : List ℕ) (log : LogParts k l r s) (point : ℕ) 
           )
 
       -- nor the verdict on the other half
-      pub half_call_sound : check_formula k quotient_limit f ≡ Sound → (known : Known)
-          → check_half_call k (other_part l r known) (other_part a b known) f point ≡ Sound
+      pub half_call_sound : check_formula k quotient_limit f ≡ Ok tt → (known : Known)
+          → check_half_call k (other_part l r known) (other_part a b known) f point ≡ Ok tt
       unfolding check_half_call first_of
       half_call_sound e known.Left =
           rw (log.machines.labels, log.machines.right, e, split.right_within, split.right)

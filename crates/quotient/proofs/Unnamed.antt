@@ -6,7 +6,6 @@ use mathlib.Core.Path.{◌≡◌, refl}
 use mathlib.Core.List.{List}
 use lib.ListN.{length, take}
 use Rattle.hml.specs.System.{steps, stop}
-use Rattle.labels.specs.declared.refusal.Check.TheVariants.{Sound}
 use Rattle.labels.specs.declared.label.Labels.{Labels}
 use Rattle.halves.specs.Halves.{half_of}
 use Rattle.halves.specs.declared.side.Side.TheVariants as side
@@ -17,11 +16,11 @@ use Rattle.verdict.specs.Verdicts.{half_holds, half_verdict}
 use Rattle.joining.specs.Joinings.{join_bytes, check_halves}
 use Rattle.splitting.specs.Splittings.{check_log, splitting_limit}
 use Rattle.dividing.specs.Quotients.{quotient_by, text_of}
-use Rattle.dividing.specs.declared.divide.Quotient.TheVariants.{Written}
 use Rattle.quotient.specs.Calls.{tree_by_half, check_by_half, by_half, by_half_output, tree_by_number, by_number}
 use Rattle.quotient.specs.Calls.{by_number_output, splittings_in, right_in, machine_holds, check_line, office_of}
 use Rattle.quotient.specs.Demand.{verdict_at, halves_given, halves_output}
 use Rattle.quotient.proofs.DemandThree.{demand_three, written_agrees}
+use Rattle.std.specs.Prelude.{Ok}
 
 -- "A caller who names no side now gets the quotient by the left half", given halves: the tree; the answer, 12 on the
 -- left half among it; the lent output
@@ -63,19 +62,19 @@ module _ (c : Case) (n point : ℕ) where
 
 -- "Equality of the two verdicts covers the unnamed call with its new meaning": under the very bytes that it writes, the
 -- right half's verdict is that on the log. Given halves, however many splittings there are, and by number
-module _ (c : Case) (point : ℕ) (log : check_log c.labels c.left c.right c.run ≡ Sound)
-    (question : check_formula c.labels question_limit c.question ≡ Sound)
+module _ (c : Case) (point : ℕ) (log : check_log c.labels c.left c.right c.run ≡ Ok tt)
+    (question : check_formula c.labels question_limit c.question ≡ Ok tt)
     (within : point ≤ steps (joint_of c.run)) where
-  pub unnamed_agrees : (a b : List ℕ) → check_halves c.labels c.left c.right a b ≡ Sound
+  pub unnamed_agrees : (a b : List ℕ) → check_halves c.labels c.left c.right a b ≡ Ok tt
       → join_bytes c.labels a b ≡ c.run
-      → (out : List ℕ) (n : ℕ) → halves_given c a b side.Unnamed point (length out) ≡ Written n
+      → (out : List ℕ) (n : ℕ) → halves_given c a b side.Unnamed point (length out) ≡ Ok n
       → half_verdict c.labels c.right b (take n (halves_output c a b side.Unnamed point out)) point
       ≡ verdict_at c point
   unnamed_agrees a b halves join =
       written_agrees ((demand_three c side.Unnamed point log question within).by_halves a b halves join)
 
   pub unnamed_number_agrees : (i : ℕ) → i < length (splittings_in c) → length (splittings_in c) ≤ splitting_limit
-      → (out : List ℕ) (n : ℕ) → by_number c i side.Unnamed point (length out) ≡ Written n
+      → (out : List ℕ) (n : ℕ) → by_number c i side.Unnamed point (length out) ≡ Ok n
       → half_verdict c.labels c.right (right_in c i) (take n (by_number_output c i side.Unnamed point out)) point
       ≡ verdict_at c point
   unnamed_number_agrees i below few =

@@ -10,8 +10,8 @@ use Rattle.verdict.proofs.Values.{bit_small}
 use Rattle.dividing.specs.Quotients.{quotient_answer}
 use Rattle.dividing.proofs.Values.{quotient-within}
 use Rattle.quotient.specs.Calls.{by_half, by_number, line_answer}
-use Rattle.quotient.specs.declared.line.LineOffice.{LineOffice}
-use Rattle.quotient.specs.declared.line.LineOffice.TheVariants as line
+use Rattle.labels.specs.declared.refusal.Refusal.{Refusal}
+use Rattle.std.specs.Prelude.{Bool, Err, Ok, Result}
 
 -- of a quotient: at most 8,192
 pub half_within : (k : Labels) (l r a b f : List ℕ) (side : Side) (point room : ℕ)
@@ -25,7 +25,7 @@ unfolding by_number
 number-within c n side point room = quotient-within _ _ room
 
 -- of the line office: each at most 1
-pub line-within : (a : LineOffice) → Within 1 (line_answer a).values
+pub line-within : (a : Result (Bool × Bool) Refusal) → Within 1 (line_answer a).values
 unfolding line_answer
-line-within (line.Verdicts j h) = next (bit_small j) (next (bit_small h) none)
-line-within (line.Refused x) = none
+line-within (Ok (j, h)) = next (bit_small j) (next (bit_small h) none)
+line-within (Err x) = none

@@ -5,7 +5,6 @@
 use Prim.Native.Nat.{ℕ, ◌-◌, ◌*◌, ◌/◌, ◌%◌, ◌≤◌, ◌<◌}
 use mathlib.Core.Path.{◌≡◌, ◌∙◌, ap}
 use mathlib.Core.List.{List}
-use mathlib.Core.Option.{some}
 use native.Mathlib.Nat.{mod-lt}
 use native.Mathlib.Omega.{arith}
 use lib.ListN.{length, drop}
@@ -19,7 +18,6 @@ use Rattle.hml.proofs.Window.{Alike, quotient_alike}
 use Rattle.hml.proofs.NewestSteps.{behind, window_cut, window_steps, run-undo, fewer_undone, fewer_behind, nth_window}
 use Rattle.labels.specs.Labels.{pairing}
 use Rattle.labels.specs.Refusals.{first_of}
-use Rattle.labels.specs.declared.refusal.Check.TheVariants.{Sound}
 use Rattle.labels.specs.declared.label.Labels.{Labels}
 use Rattle.tables.specs.Tables.{table_of}
 use Rattle.halves.specs.Halves.{half_of}
@@ -40,12 +38,13 @@ use Rattle.dividing.specs.Quotients.{tree_by, quotient_by}
 use Rattle.quotient.specs.Calls.{tree_by_half, tree_by_number}
 use Rattle.quotient.specs.Working.{window_of, rest_of}
 use Rattle.quotient.proofs.SplitRuns.{LogParts, log_parts}
+use Rattle.std.specs.Prelude.{Ok, Some}
 
 -- what a window of b steps gives, at a point of a log
 pub record Windowed (k : Labels) (l r s : List ℕ) (p b : ℕ) : Type 0 where
   -- the window and the rest are logs that no check refuses
-  pub window : check_log k l r (window_of s p b) ≡ Sound
-  pub rest : check_log k l r (rest_of s p) ≡ Sound
+  pub window : check_log k l r (window_of s p b) ≡ Ok tt
+  pub rest : check_log k l r (rest_of s p) ≡ Ok tt
   -- the window ends at its own last point
   pub points : steps (joint_of (window_of s p b)) ≡ p - (p - b)
   -- neither has more splittings than the log, and each has one
@@ -54,14 +53,14 @@ pub record Windowed (k : Labels) (l r s : List ℕ) (p b : ℕ) : Type 0 where
   pub some_window : 1 ≤ length (splittings_of k l r (window_of s p b))
   pub some_rest : 1 ≤ length (splittings_of k l r (rest_of s p))
   -- the quotient by the known half of splitting n, at the point, is that by the window's splitting
-  pub tree : (f : List ℕ) (φ : Formula) → formula_of f ≡ some φ → backs φ ≤ b → (n : ℕ)
+  pub tree : (f : List ℕ) (φ : Formula) → formula_of f ≡ Some φ → backs φ ≤ b → (n : ℕ)
       → n < length (splittings_of k l r s) → (side : Side)
       → tree_by_number (case_with k l r s f) n side p
       ≡ tree_by_number (case_with k l r (window_of s p b) f)
       ((n / length (splittings_of k l r (rest_of s p))) % length (splittings_of k l r (window_of s p b))) side (p - (p - b))
 
 -- an accepted log, at a point of it
-module _ (k : Labels) (l r s : List ℕ) (p b : ℕ) (sound : check_log k l r s ≡ Sound) (within : p ≤ steps (joint_of s))
+module _ (k : Labels) (l r s : List ℕ) (p b : ℕ) (sound : check_log k l r s ≡ Ok tt) (within : p ≤ steps (joint_of s))
   where
     parts : LogParts k l r s
     parts = log_parts k l r s sound
@@ -73,7 +72,7 @@ module _ (k : Labels) (l r s : List ℕ) (p b : ℕ) (sound : check_log k l r s 
     run = (sound_log k l r s sound).run.run
 
     -- what follows the point is accepted, and read as what follows
-    rest_sound : check_log k l r (rest_of s p) ≡ Sound
+    rest_sound : check_log k l r (rest_of s p) ≡ Ok tt
     unfolding check_log first_of rest_of
     rest_sound =
         rw (
@@ -88,7 +87,7 @@ module _ (k : Labels) (l r s : List ℕ) (p b : ℕ) (sound : check_log k l r s 
     rest_read = joint_later k l r tables s parts.run p within
 
     -- so is the window
-    window_sound : check_log k l r (window_of s p b) ≡ Sound
+    window_sound : check_log k l r (window_of s p b) ≡ Ok tt
     unfolding check_log first_of window_of
     window_sound = rw (
       parts.machines.labels,
@@ -147,7 +146,7 @@ module _ (k : Labels) (l r s : List ℕ) (p b : ℕ) (sound : check_log k l r s 
           below)
 
       -- so the quotients by them are the same
-      tree_known : (f : List ℕ) (φ : Formula) → formula_of f ≡ some φ → backs φ ≤ b → (known : Known)
+      tree_known : (f : List ℕ) (φ : Formula) → formula_of f ≡ Some φ → backs φ ≤ b → (known : Known)
           → quotient_by k (known_part l r known)
           (stop p (half_of (known_part (left_half k l r s n) (right_half k l r s n) known))) f
           ≡ quotient_by k (known_part l r known)
@@ -159,15 +158,15 @@ module _ (k : Labels) (l r s : List ℕ) (p b : ℕ) (sound : check_log k l r s 
           let (_, x, _) = nth_joins k l r s n below in
           let (_, y, _) = nth_joins k l r (window_of s p b) (place n) placed in
           rw (e, left_read parts.machines x, left_read parts.machines y)
-          (ap some (quotient_alike (pairing k) (table_of l) φ b _ _ h halves_alike.0))
+          (ap Some (quotient_alike (pairing k) (table_of l) φ b _ _ h halves_alike.0))
       tree_known f φ e h known.Right =
           let (_, _, x) = nth_joins k l r s n below in
           let (_, _, y) = nth_joins k l r (window_of s p b) (place n) placed in
           rw (e, right_read parts.machines x, right_read parts.machines y)
-          (ap some (quotient_alike (pairing k) (table_of r) φ b _ _ h halves_alike.1))
+          (ap Some (quotient_alike (pairing k) (table_of r) φ b _ _ h halves_alike.1))
 
 -- every accepted log, every point of it and every length of the window
-pub windowed : (k : Labels) (l r s : List ℕ) (p b : ℕ) → check_log k l r s ≡ Sound → p ≤ steps (joint_of s)
+pub windowed : (k : Labels) (l r s : List ℕ) (p b : ℕ) → check_log k l r s ≡ Ok tt → p ≤ steps (joint_of s)
     → Windowed k l r s p b
 unfolding tree_by_number tree_by_half
 windowed k l r s p b sound within = record {

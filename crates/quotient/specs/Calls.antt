@@ -1,13 +1,10 @@
 -- The quotient's calls: document 01, "The quotient" and "Who can cause a refusal". The tree of a quotient, its bytes
 -- and the numbers 17 and 18 are dividing's (Quotients).
-use Rattle.std.specs.Prelude.{ℕ, ◌≡◌, Bool, not, List, [], ◌∷◌, length, leb, ltb}
-use Rattle.std.proofs.Math.Option.{Option}
+use Rattle.std.specs.Prelude.{ℕ, ◌≡◌, Bool, not, List, [], ◌∷◌, length, leb, ltb, Err, Ok, Option, Result}
 use Rattle.hml.specs.System.{Run, steps, stop}
 use Rattle.hml.specs.Formula.{Formula}
-use Rattle.labels.specs.Refusals.{refused_if, first_of, Answer, refused_as, giving}
+use Rattle.labels.specs.Refusals.{refused_if, first_of, Answer, refused_as, giving, Check}
 use Rattle.labels.specs.Labels.{check_labels}
-use Rattle.labels.specs.declared.refusal.Check.{Check}
-use Rattle.labels.specs.declared.refusal.Check.TheVariants as check
 use Rattle.labels.specs.declared.refusal.Refusal.TheVariants.{PointBeyond, TooManySplittings, NoSuchSplitting}
 use Rattle.labels.specs.declared.refusal.Refusal.TheVariants.{HalvesDoNotMatch}
 use Rattle.labels.specs.declared.label.Labels.{Labels}
@@ -22,9 +19,7 @@ use Rattle.verdict.specs.Verdicts.{joint_holds, half_holds, bit_of}
 use Rattle.joining.specs.Joinings.{halves_match, join_bytes}
 use Rattle.splitting.specs.Splittings.{splittings_of, splitting_limit, left_half, right_half}
 use Rattle.dividing.specs.Quotients.{quotient_by, text_of, check_size, answer_of, output_after}
-use Rattle.dividing.specs.declared.divide.Quotient.{Quotient}
-use Rattle.quotient.specs.declared.line.LineOffice.{LineOffice}
-use Rattle.quotient.specs.declared.line.LineOffice.TheVariants as line
+use Rattle.labels.specs.declared.refusal.Refusal.{Refusal}
 
 -- the quotient of a question by the known half stopped at a point: by the right half from the right table, "by the left
 -- half everything is mirrored"
@@ -47,7 +42,7 @@ check_by_half k l r a b f side point = first_of
     ∷ [])
 
 -- the answer, with so many bytes lent, and the lent output afterwards; 17 and 18 come last
-unfoldable pub by_half : Labels → List ℕ → List ℕ → List ℕ → List ℕ → List ℕ → Side → ℕ → ℕ → Quotient
+unfoldable pub by_half : Labels → List ℕ → List ℕ → List ℕ → List ℕ → List ℕ → Side → ℕ → ℕ → Result ℕ Refusal
 by_half k l r a b f side point room =
     answer_of (check_by_half k l r a b f side point) (tree_by_half k l r a b f side point) room
 
@@ -83,7 +78,7 @@ check_by_number c n point = first_of
     ∷ refused_if (leb (length (splittings_in c)) n) NoSuchSplitting
     ∷ [])
 
-unfoldable pub by_number : Case → ℕ → Side → ℕ → ℕ → Quotient
+unfoldable pub by_number : Case → ℕ → Side → ℕ → ℕ → Result ℕ Refusal
 by_number c n side point room = answer_of (check_by_number c n point) (tree_by_number c n side point) room
 
 unfoldable pub by_number_output : Case → ℕ → Side → ℕ → List ℕ → List ℕ
@@ -105,20 +100,20 @@ check_line k l r a b f side point =
     first_of (check_by_half k l r a b f side point ∷ check_size (tree_by_half k l r a b f side point) ∷ [])
 
 -- the answer: both verdicts, of the line and of the machine
-abbrev pub verdicts_of : Check → Bool → Bool → LineOffice
-verdicts_of check.Sound j h = line.Verdicts j h
-verdicts_of (check.Refused x) j h = line.Refused x
+abbrev pub verdicts_of : Check → Bool → Bool → Result (Bool × Bool) Refusal
+verdicts_of (Ok _) j h = Ok (j, h)
+verdicts_of (Err x) j h = Err x
 
-unfoldable pub office_of : Labels → List ℕ → List ℕ → List ℕ → List ℕ → List ℕ → Side → ℕ → LineOffice
+unfoldable pub office_of : Labels → List ℕ → List ℕ → List ℕ → List ℕ → List ℕ → Side → ℕ → Result (Bool × Bool) Refusal
 office_of k l r a b f side point =
     verdicts_of (check_line k l r a b f side point) (line_holds k l r a b f point) (machine_holds k l r a b f side point)
 
 -- the number of the line office, and its values: the line's verdict and the machine's
-unfoldable pub line_answer : LineOffice → Answer
-line_answer (line.Verdicts j h) = giving (bit_of j ∷ bit_of h ∷ [])
-line_answer (line.Refused x) = refused_as x
+unfoldable pub line_answer : Result (Bool × Bool) Refusal → Answer
+line_answer (Ok (j, h)) = giving (bit_of j ∷ bit_of h ∷ [])
+line_answer (Err x) = refused_as x
 
 -- where both are given they are the same
-unfoldable pub Same : LineOffice → Type 0
-Same (line.Verdicts j h) = j ≡ h
-Same (line.Refused x) = Unit {0}
+unfoldable pub Same : Result (Bool × Bool) Refusal → Type 0
+Same (Ok (j, h)) = j ≡ h
+Same (Err x) = Unit {0}

@@ -1,18 +1,12 @@
 -- How the code works: what functions ask for and promise that serve others. No call's promise cites this file.
-use Rattle.std.specs.Prelude.{ℕ, ◌/◌, ◌+◌, ◌-◌, ◌*◌, true, false, List, [], ◌∷◌, length, take, drop, ltb}
-use Rattle.labels.specs.Refusals.{then_of, refused_if, first_of}
-use Rattle.labels.specs.declared.refusal.Check.{Check}
-use Rattle.labels.specs.declared.refusal.Check.TheVariants as check
+use Rattle.std.specs.Prelude.{ℕ, ◌/◌, ◌+◌, ◌-◌, ◌*◌, List, [], ◌∷◌, length, take, drop, ltb, Err, Ok}
+use Rattle.labels.specs.Refusals.{then_of, refused_if, first_of, Check}
 use Rattle.labels.specs.declared.refusal.Refusal.TheVariants.{PointBeyond}
 use Rattle.labels.specs.declared.label.Labels.{Labels}
 use Rattle.halves.specs.Cuts.{known_of, known_part, beyond}
 use Rattle.halves.specs.declared.side.Side.{Side}
 use Rattle.formulas.specs.Formulas.{question_limit, check_formula}
-use Rattle.verdict.specs.declared.answer.Verdict.{Verdict}
-use Rattle.verdict.specs.declared.answer.Verdict.TheVariants as verdict
 use Rattle.splitting.specs.Splittings.{check_log}
-use Rattle.quotient.specs.declared.line.LineOffice.{LineOffice}
-use Rattle.quotient.specs.declared.line.LineOffice.TheVariants as line
 
 -- the window of a point: the last b steps before it, or all where they are fewer, as a log of their own
 unfoldable pub window_of : List ℕ → ℕ → ℕ → List ℕ
@@ -35,14 +29,8 @@ check_asked_run k s f point =
 -- a log is judged before what is asked of it is refused; where nothing of that is refused the log is left to the
 -- splitting
 abbrev pub log_first : Check → Check → Check
-log_first log check.Sound = check.Sound
-log_first log (check.Refused x) = then_of log (check.Refused x)
+log_first log (Ok _) = Ok tt
+log_first log (Err x) = then_of log (Err x)
 
 unfoldable pub check_asked_log : Labels → List ℕ → List ℕ → List ℕ → List ℕ → ℕ → Check
 check_asked_log k l r s f point = log_first (check_log k l r s) (check_asked_run k s f point)
-
--- the verdict on the machine as the line office answers both
-abbrev pub both_of : Verdict → LineOffice
-both_of verdict.Holds = line.Verdicts true true
-both_of verdict.Fails = line.Verdicts false false
-both_of (verdict.Refused x) = line.Refused x

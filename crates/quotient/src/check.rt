@@ -7,7 +7,7 @@ use formulas::check::check_formula;
 use halves::side::{Side, cut};
 use joining::join::check_halves;
 use labels::label::Labels;
-use labels::refusal::{Check, Refusal};
+use labels::refusal::Refusal;
 use splitting::count::check_log;
 use tables::check::check_table;
 
@@ -21,19 +21,18 @@ pub(crate) fn check_by_half<'a>(
     question: &[u8],
     side: Side,
     point: usize,
-) -> Check
+) -> Result<(), Refusal>
     ensures { result ≡ check_by_half labels left.now right.now left_half.now
         right_half.now question.now side point }
 {
-    match labels.check() {
-        Check::Sound => {}
-        Check::Refused(refusal) => return Check::Refused(refusal),
-    }
+    labels.check()?;
     match check_asked(labels, left_half, right_half, question, side, point) {
-        Check::Sound => check_halves(labels, left, right, left_half, right_half),
-        Check::Refused(refusal) => check_table(labels, left)
-            .then(check_table(labels, right))
-            .then(Check::Refused(refusal)),
+        Ok(()) => check_halves(labels, left, right, left_half, right_half),
+        Err(refusal) => {
+            check_table(labels, left)?;
+            check_table(labels, right)?;
+            Err(refusal)
+        }
     }
 }
 
@@ -45,19 +44,16 @@ fn check_asked<'a>(
     question: &[u8],
     side: Side,
     point: usize,
-) -> Check
+) -> Result<(), Refusal>
     ensures { result ≡ check_asked labels left_half.now right_half.now
         question.now side point }
 {
-    match check_formula(labels, 64, question) {
-        Check::Sound => {}
-        Check::Refused(refusal) => return Check::Refused(refusal),
-    }
+    check_formula(labels, 64, question)?;
     let known = cut(left_half, right_half, side, point);
-    if known.len() == 0 {
-        return Check::Refused(Refusal::PointBeyond);
+    if known.is_empty() {
+        return Err(Refusal::PointBeyond);
     }
-    Check::Sound
+    Ok(())
 }
 
 // What a call judges that names a splitting by its number, before the splitting does. Where nothing is refused the log
@@ -69,28 +65,26 @@ pub(crate) fn check_asked_log(
     run: &[u8],
     question: &[u8],
     point: usize,
-) -> Check
+) -> Result<(), Refusal>
     ensures { result ≡ check_asked_log labels left.now right.now run.now
         question.now point }
 {
     match check_asked_run(labels, run, question, point) {
-        Check::Sound => Check::Sound,
-        Check::Refused(refusal) => {
-            check_log(labels, left, right, run).then(Check::Refused(refusal))
+        Ok(()) => Ok(()),
+        Err(refusal) => {
+            check_log(labels, left, right, run)?;
+            Err(refusal)
         }
     }
 }
 
 // The question (9, 10), then the point (12).
-fn check_asked_run(labels: Labels, run: &[u8], question: &[u8], point: usize) -> Check
+fn check_asked_run(labels: Labels, run: &[u8], question: &[u8], point: usize) -> Result<(), Refusal>
     ensures { result ≡ check_asked_run labels run.now question.now point }
 {
-    match check_formula(labels, 64, question) {
-        Check::Sound => {}
-        Check::Refused(refusal) => return Check::Refused(refusal),
-    }
+    check_formula(labels, 64, question)?;
     if run.len() / 3 < point {
-        return Check::Refused(Refusal::PointBeyond);
+        return Err(Refusal::PointBeyond);
     }
-    Check::Sound
+    Ok(())
 }

@@ -4,10 +4,10 @@ ghost use Rattle.quotient.specs.Calls.{by_half, by_half_output};
 
 use crate::check::check_by_half;
 use crate::part::known_part;
-use dividing::divide::{Quotient, divide};
+use dividing::divide::divide;
 use halves::side::{Side, cut};
 use labels::label::Labels;
-use labels::refusal::Check;
+use labels::refusal::Refusal;
 
 // Writes the quotient by the known half stopped at the point: the parts' numbers, 12, 15, 16, 17, 18.
 pub fn by_half<'a>(
@@ -20,7 +20,7 @@ pub fn by_half<'a>(
     side: Side,
     point: usize,
     out: &mut [u8],
-) -> Quotient
+) -> Result<usize, Refusal>
     ensures value { result ≡ by_half labels left.now right.now left_half.now
         right_half.now question.now side point (length out.old) }
     ensures out_after { out.new
@@ -28,12 +28,9 @@ pub fn by_half<'a>(
         right_half.now
         question.now side point out.old }
 {
-    match check_by_half(
+    check_by_half(
         labels, left, right, left_half, right_half, question, side, point,
-    ) {
-        Check::Sound => {}
-        Check::Refused(refusal) => return Quotient::Refused(refusal),
-    }
+    )?;
     let table = known_part(left, right, side);
     let known = cut(left_half, right_half, side, point);
     divide(labels, table, known, question, out)

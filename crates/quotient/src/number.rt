@@ -5,11 +5,11 @@ ghost use Rattle.quotient.specs.Calls.{by_number, by_number_output};
 
 use crate::check::check_asked_log;
 use crate::part::known_part;
-use dividing::divide::{Quotient, divide};
+use dividing::divide::divide;
 use halves::side::{Side, cut};
 use labels::label::Labels;
-use labels::refusal::Check;
-use splitting::split::{Splitting, split};
+use labels::refusal::Refusal;
+use splitting::split::split;
 
 // Writes the quotient by the known half, stopped at the point, of the splitting of a number: the parts' numbers, 12,
 // 13, 14, 17, 18.
@@ -23,7 +23,7 @@ pub fn by_number<'a>(
     side: Side,
     point: usize,
     out: &mut [u8],
-) -> Quotient
+) -> Result<usize, Refusal>
     ensures value { result ≡ by_number
         (case_with labels left.now right.now run.now question.now)
         number side point (length out.old) }
@@ -32,17 +32,11 @@ pub fn by_number<'a>(
         (case_with labels left.now right.now run.now question.now)
         number side point out.old }
 {
-    match labels.check() {
-        Check::Sound => {}
-        Check::Refused(refusal) => return Quotient::Refused(refusal),
-    }
-    match check_asked_log(labels, left, right, run, question, point) {
-        Check::Sound => {}
-        Check::Refused(refusal) => return Quotient::Refused(refusal),
-    }
+    labels.check()?;
+    check_asked_log(labels, left, right, run, question, point)?;
     let mut left_half = [0u8; 401];
     let mut right_half = [0u8; 401];
-    match split(
+    let n = split(
         labels,
         left,
         right,
@@ -50,12 +44,8 @@ pub fn by_number<'a>(
         number,
         &mut left_half,
         &mut right_half,
-    ) {
-        Splitting::Halves(n) => {
-            let table = known_part(left, right, side);
-            let known = cut(&left_half[..n], &right_half[..n], side, point);
-            divide(labels, table, known, question, out)
-        }
-        Splitting::Refused(refusal) => Quotient::Refused(refusal),
-    }
+    )?;
+    let table = known_part(left, right, side);
+    let known = cut(&left_half[..n], &right_half[..n], side, point);
+    divide(labels, table, known, question, out)
 }

@@ -13,6 +13,7 @@ pub fn read_full<R: Read>(input: &mut R, buffer: &mut [u8]) -> io::Result<usize>
     ensures bytes { IfOk result (λ n. Consumes (R.remaining input.old) (R.remaining input.new) (take n buffer.new)) }
     ensures end { IfOk result (λ n. n < length buffer.new → IsAtEnd (R.remaining input.new)) }
 {
+    // As far as each read comes; std's `read_exact` says too little of an input that ends early.
     let mut n = 0;
     while n < buffer.len() {
         let read = input.read(&mut buffer[n..])?;

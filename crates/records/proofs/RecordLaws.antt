@@ -1,6 +1,6 @@
 -- Laws of records: the next record of some bytes, when it was written and when it was read.
 use Prim.Native.Nat.{ℕ, suc, ◌+◌, ◌-◌, ◌*◌, ◌/◌, ◌%◌, ◌≤◌, ◌<◌}
-use mathlib.Core.Path.{◌≡◌, refl, ◌∙◌, ap}
+use mathlib.Core.Path.{◌≡◌, refl, sym, ◌∙◌, ap}
 use mathlib.Core.Bool.{Bool, true, false, cond, not}
 use mathlib.Core.List.{List, [], ◌∷◌, ◌++◌}
 use native.Mathlib.Omega.{arith}
@@ -14,11 +14,16 @@ use Rattle.records.specs.Records.{word_at, lengths_of, fit_length, may_stand, ne
 use Rattle.records.proofs.Records.{decided_fit, fit_some}
 use Rattle.records.specs.declared.record.Cursor.{Cursor}
 use Rattle.records.specs.declared.record.Record.{Record}
-use Rattle.records.specs.declared.record.Next.TheVariants as next
+use Rattle.std.specs.Prelude.{Result, Err, Ok}
+use Rattle.labels.specs.declared.refusal.Refusal.{Refusal}
 
 -- all elements are bytes
 abbrev pub Bytes : List ℕ → Type 0
 Bytes s = (i : ℕ) → get_or s i 0 < 256
+
+-- pairs that are given alike are alike in both parts
+ok_pair : {T U E : Type 0} {a c : T} {b d : U} → ◌≡◌ {A = Result (T × U) E} (Ok (a, b)) (Ok (c, d)) → (a ≡ c) × (b ≡ d)
+ok_pair {T} {U} {E} {a} {c} {b} {d} e = let p : ◌≡◌ {A = T × U} (a, b) (c, d) = cc in (ap (λ t. t.0) p, ap (λ t. t.1) p)
 
 -- the record whose body stands behind four bytes at a position
 abbrev pub placed : ℕ → ℕ → List ℕ → Record
@@ -83,8 +88,7 @@ module _ (s : List ℕ) (at : ℕ) (kinds : List ℕ) where
   -- a record is found if it is there
   found-next : (kind n : ℕ) → word_at s at ≡ n → word_at s (at + 2) ≡ kind → may_stand kinds kind ≡ true
       → fit_length kind n ≡ true → at + 4 ≤ length s → at + 2 + n ≤ length s
-      → next_at s at kinds ≡ next.Found (record { kind = kind; start = at + 4; len = n - 2 })
-      (record { at = at + 2 + n })
+      → next_at s at kinds ≡ Ok (record { kind = kind; start = at + 4; len = n - 2 }, record { at = at + 2 + n })
   unfolding next_at
   found-next kind n e f m g a b =
       rw (le-ltb (length s) (at + 4) a, f, m, e, g, le-ltb (length s) (at + 2 + n) b)
@@ -93,7 +97,7 @@ module _ (s : List ℕ) (at : ℕ) (kinds : List ℕ) where
   pub next-record : (kind : ℕ) (body rest : List ℕ) → may_stand kinds kind ≡ true
       → fit_length kind (2 + length body) ≡ true
       → drop at s ≡ record_bytes kind body ++ rest
-      → (next_at s at kinds ≡ next.Found (placed kind at body) (behind at body))
+      → (next_at s at kinds ≡ Ok (placed kind at body, behind at body))
       × (body_of s (placed kind at body) ≡ body)
       × (drop (at + 4 + length body) s ≡ rest)
   unfolding record_bytes body_of
@@ -109,7 +113,7 @@ module _ (s : List ℕ) (at : ℕ) (kinds : List ℕ) where
       body_on : drop (at + 4) s ≡ body ++ rest
       body_on = rw (← drop-drop 4 at s, e)
 
-      found : next_at s at kinds ≡ next.Found (placed kind at body) (behind at body)
+      found : next_at s at kinds ≡ Ok (placed kind at body, behind at body)
       found =
           let z : at + 0 ≡ at = omega arith in
           let m : 2 + length body - 2 ≡ length body = omega arith in
@@ -127,7 +131,7 @@ module _ (s : List ℕ) (at : ℕ) (kinds : List ℕ) where
     found : r ≡ record { kind = word_at s (at + 2); start = at + 4; len = word_at s at - 2 }
     behind : c ≡ record { at = at + 2 + word_at s at }
 
-  seen : (r : Record) (c : Cursor) → next_at s at kinds ≡ next.Found r c → Seen r c
+  seen : (r : Record) (c : Cursor) → next_at s at kinds ≡ Ok (r, c) → Seen r c
   unfolding next_at
   seen r c e =
       go (ltb (length s) (at + 4)) (may_stand kinds (word_at s (at + 2))) (fit_length (word_at s (at + 2)) (word_at s at))
@@ -135,11 +139,10 @@ module _ (s : List ℕ) (at : ℕ) (kinds : List ℕ) where
     where
       go : (a b d f : Bool) → ltb (length s) (at + 4) ≡ a → may_stand kinds (word_at s (at + 2)) ≡ b
           → fit_length (word_at s (at + 2)) (word_at s at) ≡ d → ltb (length s) (at + 2 + word_at s at) ≡ f
-          → cond a (next.Refused Truncated)
-          (cond (not b) (next.Refused WrongKind)
-          (cond (not d) (next.Refused WrongLength) (cond f (next.Refused Truncated)
-          (next.Found (record { kind = word_at s (at + 2); start = at + 4; len = word_at s at - 2 })
-          (record { at = at + 2 + word_at s at }))))) ≡ next.Found r c
+          → cond {A = Result (Record × Cursor) Refusal} a (Err Truncated)
+          (cond (not b) (Err WrongKind)
+          (cond (not d) (Err WrongLength) (cond f (Err Truncated)
+          (Ok (record { kind = word_at s (at + 2); start = at + 4; len = word_at s at - 2 }, record { at = at + 2 + word_at s at }))))) ≡ Ok (r, c)
           → Seen r c
       go true b d f ea eb ed ef e = absurd (apart cc)
       go false false d f ea eb ed ef e = absurd (apart cc)
@@ -150,15 +153,15 @@ module _ (s : List ℕ) (at : ℕ) (kinds : List ℕ) where
         may = eb;
         fits = ed;
         room = ltb-false (length s) (at + 2 + word_at s at) ef;
-        found = cc;
-        behind = cc;
+        found = sym (ok_pair e).0;
+        behind = sym (ok_pair e).1;
       }
 
   -- a record that was found has one of the kinds that may stand there, and a length that fits that kind
-  pub found_kind : (r : Record) (c : Cursor) → next_at s at kinds ≡ next.Found r c → may_stand kinds r.kind ≡ true
+  pub found_kind : (r : Record) (c : Cursor) → next_at s at kinds ≡ Ok (r, c) → may_stand kinds r.kind ≡ true
   found_kind r c e = let w = seen r c e in rw w.found w.may
 
-  pub found-fits : (r : Record) (c : Cursor) → next_at s at kinds ≡ next.Found r c → fit_length r.kind (2 + r.len)
+  pub found-fits : (r : Record) (c : Cursor) → next_at s at kinds ≡ Ok (r, c) → fit_length r.kind (2 + r.len)
       ≡ true
   found-fits r c e =
       let w = seen r c e in
@@ -167,7 +170,7 @@ module _ (s : List ℕ) (at : ℕ) (kinds : List ℕ) where
       rw (w.found, n) w.fits
 
   -- a record that stepping over finds stands there as bytes
-  pub record-next : Bytes s → (r : Record) (c : Cursor) → next_at s at kinds ≡ next.Found r c → Lies s at kinds r c
+  pub record-next : Bytes s → (r : Record) (c : Cursor) → next_at s at kinds ≡ Ok (r, c) → Lies s at kinds r c
   unfolding record_bytes body_of
   record-next b r c e = let w = seen r c e in rw (w.found, w.behind) (lies w.head w.may w.fits w.room)
     where

@@ -1,7 +1,7 @@
 -- Records: document 01, "The casebook". "A record is a two-byte length, a two-byte kind, then the body; both
 -- little-endian. The length counts kind and body. A reading position steps over one record and yields the next
 -- position."
-use Rattle.std.specs.Prelude.{ℕ, ◌+◌, ◌-◌, ◌*◌, ◌/◌, ◌%◌, max, Bool, cond, ◌&&◌, ◌||◌, not, List, [], ◌∷◌, ◌++◌, length, get_or, take, drop, eqb, leb, ltb}
+use Rattle.std.specs.Prelude.{ℕ, ◌+◌, ◌-◌, ◌*◌, ◌/◌, ◌%◌, max, Bool, cond, ◌&&◌, ◌||◌, not, List, [], ◌∷◌, ◌++◌, length, get_or, take, drop, eqb, leb, ltb, Err, Ok, Result}
 use Rattle.hml.specs.Lists.{any}
 use Rattle.labels.specs.Refusals.{Answer, refused_as, giving}
 use Rattle.labels.specs.Labels.{of_pairs}
@@ -9,8 +9,8 @@ use Rattle.labels.specs.declared.label.Labels.{Labels}
 use Rattle.labels.specs.declared.refusal.Refusal.TheVariants.{Truncated, WrongKind, WrongLength}
 use Rattle.records.specs.declared.record.Lengths.{Lengths}
 use Rattle.records.specs.declared.record.Record.{Record}
-use Rattle.records.specs.declared.record.Next.{Next}
-use Rattle.records.specs.declared.record.Next.TheVariants as next
+use Rattle.records.specs.declared.record.Cursor.{Cursor}
+use Rattle.labels.specs.declared.refusal.Refusal.{Refusal}
 
 -- two bytes, the low one first
 abbrev pub word_at : List ℕ → ℕ → ℕ
@@ -49,19 +49,18 @@ unfoldable pub may_stand : List ℕ → ℕ → Bool
 may_stand kinds kind = any (λ k. eqb k kind) kinds
 
 -- stepping over one record, of one of the kinds that may stand there: "1 (header), 2, 3, 1 (body)"
-unfoldable pub next_at : List ℕ → ℕ → List ℕ → Next
+unfoldable pub next_at : List ℕ → ℕ → List ℕ → Result (Record × Cursor) Refusal
 next_at s at kinds =
-    cond (ltb (length s) (at + 4)) (next.Refused Truncated)
-    (cond (not (may_stand kinds (word_at s (at + 2)))) (next.Refused WrongKind)
-    (cond (not (fit_length (word_at s (at + 2)) (word_at s at))) (next.Refused WrongLength)
-    (cond (ltb (length s) (at + 2 + word_at s at)) (next.Refused Truncated)
-    (next.Found (record { kind = word_at s (at + 2); start = at + 4; len = word_at s at - 2 })
-    (record { at = at + 2 + word_at s at })))))
+    cond (ltb (length s) (at + 4)) (Err Truncated)
+    (cond (not (may_stand kinds (word_at s (at + 2)))) (Err WrongKind)
+    (cond (not (fit_length (word_at s (at + 2)) (word_at s at))) (Err WrongLength)
+    (cond (ltb (length s) (at + 2 + word_at s at)) (Err Truncated)
+    (Ok (record { kind = word_at s (at + 2); start = at + 4; len = word_at s at - 2 }, record { at = at + 2 + word_at s at })))))
 
 -- the number of such a step, and its values: kind, start and length of the record's body, and the next position
-unfoldable pub next_answer : Next → Answer
-next_answer (next.Found r c) = giving (r.kind ∷ r.start ∷ r.len ∷ c.at ∷ [])
-next_answer (next.Refused x) = refused_as x
+unfoldable pub next_answer : Result (Record × Cursor) Refusal → Answer
+next_answer (Ok (r, c)) = giving (r.kind ∷ r.start ∷ r.len ∷ c.at ∷ [])
+next_answer (Err x) = refused_as x
 
 -- the body of a record
 unfoldable pub body_of : List ℕ → Record → List ℕ

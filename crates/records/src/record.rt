@@ -25,63 +25,43 @@ impl Record {
     pub fn body<'a>(self, s: &'a [u8]) -> &'a [u8]
         ensures { result.now ≡ body_of s.now self }
     {
-        let start = self.start;
-        let len = self.len;
-        if s.len() < start {
-            return &s[..0];
-        }
-        if s.len() - start < len {
-            return &s[start..];
-        }
-        let end = start + len;
-        &s[start..end]
+        let rest = s.get(self.start..).unwrap_or(&[]);
+        &rest[..self.len.min(rest.len())]
     }
 
     // The labels that the first record shows: its body is k.
+    #[tactic(auto, unfolding(crate::specs::Records::labels_of))]
     pub fn labels(self, s: &[u8]) -> Labels
         ensures { result ≡ labels_of s.now self }
     {
-        let start = self.start;
-        if s.len() <= start {
-            return Labels::of_pairs(0);
-        }
-        Labels::of_pairs(s[start])
+        Labels::of_pairs(s.get(self.start).copied().unwrap_or(0))
     }
-}
-
-// What stepping over one record gives: the record and the next position, or why there is none.
-#[derive(Clone, Copy)]
-pub enum Next {
-    Found(Record, Cursor),
-    Refused(Refusal),
 }
 
 impl Cursor {
     // Steps over one record of one of the kinds that may stand here: 1 (header), 2, 3, 1 (body).
-    pub fn next(self, s: &[u8], kinds: &[u8]) -> Next
+    #[tactic(auto, using(crate::proofs::Records::fit_some), unfolding(crate::specs::Records::next_at))]
+    pub fn next(self, s: &[u8], kinds: &[u8]) -> Result<(Record, Cursor), Refusal>
         ensures { result ≡ next_at s.now self.at kinds.now }
     {
         let at = self.at;
-        if s.len() < at {
-            return Next::Refused(Refusal::Truncated);
-        }
-        if s.len() - at < 4 {
-            return Next::Refused(Refusal::Truncated);
+        if s.len() < at || s.len() - at < 4 {
+            return Err(Refusal::Truncated);
         }
         let kind = word(s, at + 2);
         if !may_stand(kinds, kind) {
-            return Next::Refused(Refusal::WrongKind);
+            return Err(Refusal::WrongKind);
         }
         let n = word(s, at);
         if !fits(kind, n) {
-            return Next::Refused(Refusal::WrongLength);
+            return Err(Refusal::WrongLength);
         }
         if s.len() - at - 2 < n {
-            return Next::Refused(Refusal::Truncated);
+            return Err(Refusal::Truncated);
         }
         let start = at + 4;
         let len = n - 2;
-        Next::Found(Record { kind, start, len }, Cursor { at: at + 2 + n })
+        Ok((Record { kind, start, len }, Cursor { at: at + 2 + n }))
     }
 }
 
@@ -89,14 +69,7 @@ impl Cursor {
 fn may_stand(kinds: &[u8], kind: usize) -> bool
     ensures { result ≡ may_stand kinds.now kind }
 {
-    let mut i: usize = 0;
-    while i < kinds.len() {
-        if kinds[i] as usize == kind {
-            return true;
-        }
-        i = i + 1;
-    }
-    false
+    kinds.iter().any(|k| usize::from(*k) == kind)
 }
 
 // The lengths that records of a kind can have: from the shortest to the longest, a step apart.
@@ -144,40 +117,27 @@ impl Lengths {
     };
 }
 
-// The table of records.
+// The table of records. Kinds stay numbers: `Record.kind` is one for the callers in C, and only this match asks for it.
+#[tactic(auto, unfolding(crate::specs::Records::lengths_of))]
 fn lengths_of(kind: usize) -> Lengths
     ensures { result ≡ lengths_of kind }
 {
-    if kind == 1 {
-        return Lengths::LABELS;
+    match kind {
+        1 => Lengths::LABELS,
+        2 | 3 => Lengths::TABLE,
+        4 => Lengths::RUN,
+        5 => Lengths::QUESTION,
+        _ => Lengths::NONE,
     }
-    if kind == 2 {
-        return Lengths::TABLE;
-    }
-    if kind == 3 {
-        return Lengths::TABLE;
-    }
-    if kind == 4 {
-        return Lengths::RUN;
-    }
-    if kind == 5 {
-        return Lengths::QUESTION;
-    }
-    Lengths::NONE
 }
 
 // Can a record of this kind have this length?
+#[tactic(auto, using(crate::proofs::Records::lengths_some), unfolding(crate::specs::Records::fit_length))]
 fn fits(kind: usize, n: usize) -> bool
     ensures { result ≡ fit_length kind n }
 {
     let lengths = lengths_of(kind);
-    if n < lengths.shortest {
-        return false;
-    }
-    if lengths.longest < n {
-        return false;
-    }
-    (n - lengths.shortest) % lengths.step == 0
+    lengths.shortest <= n && n <= lengths.longest && (n - lengths.shortest) % lengths.step == 0
 }
 
 // Two bytes, the low one first.
@@ -186,5 +146,5 @@ fn word(s: &[u8], at: usize) -> usize
     ensures value { result ≡ word_at s.now at }
     ensures small { result < 65536 }
 {
-    (s[at] as usize) + 256 * (s[at + 1] as usize)
+    usize::from(u16::from_le_bytes([s[at], s[at + 1]]))
 }

@@ -6,39 +6,23 @@ use native.Mathlib.Omega.{arith}
 use lib.ListN.{length, take, drop, length-take, length-drop}
 use lib.Seq.{take_all, take-take, drop-drop}
 use Rattle.labels.specs.declared.label.Labels.{Labels}
-use Rattle.labels.specs.declared.refusal.Check.TheVariants.{Sound}
 use Rattle.machines.specs.Cases.{Case, with_run}
 use Rattle.records.specs.Records.{body_of}
 use Rattle.records.specs.declared.record.Record.{Record}
-use Rattle.casebook.specs.Reading.{case_of}
-use Rattle.casebook.specs.declared.read.Parts.{Parts}
 use Rattle.splitting.proofs.LogRuns.{sound_log}
 use Rattle.sheet_lines.specs.Working.{log_check, between}
 use Rattle.sheet_lines.proofs.Puts.{part-front}
+use Rattle.std.specs.Prelude.{Ok}
 
--- what is made of its labels, and of the bodies of its records, is made of the case
-module _ (s : List ℕ) (p : Parts) {A : Type 0} where
-  pub run_shown : (j : List ℕ) → j ≡ body_of s p.run → (g : List ℕ → A) → g j ≡ g (case_of s p).run
-  unfolding case_of
-  run_shown j e g = ap g e
+-- what is made of its labels and of its parts is made of the case
+module _ (c : Case) {A : Type 0} (x : Labels) (l r j : List ℕ) (p : x ≡ c.labels) (u : l ≡ c.left) (v : r ≡ c.right)
+    (w : j ≡ c.run) where
+  pub log_shown : (g : Labels → List ℕ → List ℕ → List ℕ → A) → g x l r j ≡ g c.labels c.left c.right c.run
+  log_shown g = rw (p, u, v, w)
 
-  pub question_shown : (q : List ℕ) → q ≡ body_of s p.question → (g : List ℕ → A) → g q ≡ g (case_of s p).question
-  unfolding case_of
-  question_shown q e g = ap g e
-
-  module _ (x : Labels) (l r j : List ℕ) (a : x ≡ (case_of s p).labels) (b : l ≡ body_of s p.left)
-      (c : r ≡ body_of s p.right) (d : j ≡ body_of s p.run) where
-    pub log_shown : (g : Labels → List ℕ → List ℕ → List ℕ → A)
-        → g x l r j ≡ g (case_of s p).labels (case_of s p).left (case_of s p).right (case_of s p).run
-    unfolding case_of
-    log_shown g = rw (a, b, c, d)
-
-    pub case_shown : (q : List ℕ) → q ≡ body_of s p.question
-        → (g : Labels → List ℕ → List ℕ → List ℕ → List ℕ → A)
-        → g x l r j q
-        ≡ g (case_of s p).labels (case_of s p).left (case_of s p).right (case_of s p).run (case_of s p).question
-    unfolding case_of
-    case_shown q e g = rw (a, b, c, d, e)
+  pub case_shown : (q : List ℕ) → q ≡ c.question → (g : Labels → List ℕ → List ℕ → List ℕ → List ℕ → A)
+      → g x l r j q ≡ g c.labels c.left c.right c.run c.question
+  case_shown q e g = rw (p, u, v, w, e)
 
 -- the record of a part of a run: it lies in the bytes, and its body is that part of the run's
 module _ (s : List ℕ) (r : Record) (from to : ℕ) (order : from ≤ to) (within : 3 * to + 2 ≤ length (body_of s r)) where
@@ -67,7 +51,7 @@ pub between_start : (c : Case) (m : ℕ) → between c 0 m ≡ with_run c (take 
 unfolding between
 between_start c m = let z : m - 0 ≡ m = omega arith in ap (λ n. with_run c (take (3 * n + 2) c.run)) z
 
-pub between_end : (c : Case) → log_check c ≡ Sound
+pub between_end : (c : Case) → log_check c ≡ Ok tt
     → (p : ℕ) → between c p (length c.run / 3) ≡ with_run c (drop (3 * p) c.run)
 unfolding between
 between_end c sound p =

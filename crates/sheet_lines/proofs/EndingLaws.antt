@@ -2,7 +2,6 @@
 use Prim.Native.Nat.{ℕ, ◌+◌, ◌*◌, ◌/◌, ◌≤◌}
 use mathlib.Core.Path.{◌≡◌, refl, sym, ◌∙◌, ap}
 use mathlib.Core.List.{List, [], ◌∷◌, ◌++◌}
-use mathlib.Core.Option.{Option, none, some}
 use native.Mathlib.Omega.{arith}
 use lib.ListN.{length, take, drop, replicate, length-append, length-replicate}
 use lib.Dec.{ltb}
@@ -10,16 +9,12 @@ use lib.Seq.{take_at}
 use borrow.Author.Tests.{ltb-false}
 use Rattle.hml.proofs.Tests.{apart}
 use Rattle.hml.specs.Formula.{Formula}
-use Rattle.labels.specs.Refusals.{number_of, first_of, refused_if, in_front, output_of}
+use Rattle.labels.specs.Refusals.{number_of, first_of, refused_if, in_front, output_of, Check}
 use Rattle.labels.specs.declared.refusal.Refusal.{Refusal}
 use Rattle.labels.specs.declared.refusal.Refusal.TheVariants.{OutputTooShort}
-use Rattle.labels.specs.declared.refusal.Check.{Check}
-use Rattle.labels.specs.declared.refusal.Check.TheVariants as check
 use Rattle.labels.proofs.Refusals.{both_sound, unrefused}
 use Rattle.machines.specs.Cases.{Case}
 use Rattle.dividing.specs.Quotients.{nodes_of, text_of, check_size, check_tree, written, answer_of, output_after}
-use Rattle.dividing.specs.declared.divide.Quotient.{Quotient}
-use Rattle.dividing.specs.declared.divide.Quotient.TheVariants as quotient
 use Rattle.dividing.proofs.Answers.{text-length}
 use Rattle.quotient.specs.Calls.{by_number, by_number_output}
 use Rattle.digits.specs.Digits.{decimal, hexadecimal}
@@ -28,16 +23,17 @@ use Rattle.sheet_lines.specs.Working.{put_at, check_at, tree_at, answer_at, quot
 use Rattle.digits.proofs.HexadecimalLaws.{length-hexadecimal}
 use Rattle.sheet_lines.proofs.LineLaws.{digits_two, number_small}
 use Rattle.sheet_lines.proofs.Puts.{put_first}
+use Rattle.std.specs.Prelude.{Err, None, Ok, Option, Result, Some}
 
 -- two bytes a node
 nodes_bytes : (tree : Option Formula) → length (text_of tree) ≡ 2 * nodes_of tree
 unfolding text_of nodes_of
-nodes_bytes none = refl
-nodes_bytes (some ψ) = text-length ψ
+nodes_bytes None = refl
+nodes_bytes (Some ψ) = text-length ψ
 
 -- an answer with so many bytes: they are the tree's, and fit
 module _ (parts : Check) (tree : Option Formula) (out : List ℕ) where
-  room : check_tree parts tree (length out) ≡ check.Sound → 2 * nodes_of tree ≤ length out
+  room : check_tree parts tree (length out) ≡ Ok tt → 2 * nodes_of tree ≤ length out
   unfolding check_tree first_of
   room s =
       let (_, a) = both_sound parts _ s in
@@ -45,18 +41,18 @@ module _ (parts : Check) (tree : Option Formula) (out : List ℕ) where
       let (c, _) = both_sound (refused_if (ltb (length out) (2 * nodes_of tree)) OutputTooShort) _ b in
       ltb-false (length out) (2 * nodes_of tree) (unrefused _ _ c)
 
-  written-bytes : (n : ℕ) → answer_of parts tree (length out) ≡ quotient.Written n
+  written-bytes : (n : ℕ) → answer_of parts tree (length out) ≡ Ok n
       → (take n (output_after parts tree out) ≡ text_of tree) × (n ≡ length (text_of tree)) × (n ≤ length out)
   unfolding answer_of output_after in_front
   written-bytes n e = go (check_tree parts tree (length out)) refl e
     where
-      go : (c : Check) → check_tree parts tree (length out) ≡ c → written c (2 * nodes_of tree) ≡ quotient.Written n
+      go : (c : Check) → check_tree parts tree (length out) ≡ c → written c (2 * nodes_of tree) ≡ Ok n
           → (take n (output_of c (text_of tree) out) ≡ text_of tree) × (n ≡ length (text_of tree)) × (n ≤ length out)
-      go check.Sound s w =
+      go (Ok _) s w =
           let z : 2 * nodes_of tree ≡ n = cc in
           let l : length (text_of tree) ≡ n = nodes_bytes tree ∙ z in
           (take_at (text_of tree) (drop (length (text_of tree)) out) n l, sym l, omega (arith, z, room s))
-      go (check.Refused x) s w = absurd (apart cc)
+      go (Err x) s w = absurd (apart cc)
 
 -- the call for a quotient, at the end of a window
 module _ (c : Case) (letter t : ℕ) where
@@ -64,7 +60,7 @@ module _ (c : Case) (letter t : ℕ) where
   q = length c.run / 3
 
   module _ (text : List ℕ) (size : length text ≡ 8192) where
-    module _ (n : ℕ) (told : quotient_in c t (length text) ≡ quotient.Written n) where
+    module _ (n : ℕ) (told : quotient_in c t (length text) ≡ Ok n) where
       pub text_told : (z : List ℕ) → z ≡ output_in c t text
           → (take n z ≡ text_at c q t) × (n ≡ length (text_at c q t)) × (n ≤ 8192)
       unfolding text_at by_number by_number_output
@@ -74,12 +70,12 @@ module _ (c : Case) (letter t : ℕ) where
 
       pub ending-written : ending_in c letter t ≡ hexadecimal (text_at c q t) ++ (blank ∷ letter ∷ line_feed ∷ [])
       unfolding ending_in ending_of quotient_at
-      ending-written = let e : quotient_in c t text_room ≡ quotient.Written n = rw size at told in rw e
+      ending-written = let e : quotient_in c t text_room ≡ Ok n = rw size at told in rw e
 
-    pub ending_refused : (x : Refusal) → quotient_in c t (length text) ≡ quotient.Refused x
+    pub ending_refused : (x : Refusal) → quotient_in c t (length text) ≡ Err x
         → ending_in c letter t ≡ decimal (number_of x) ++ (blank ∷ dash ∷ line_feed ∷ [])
     unfolding ending_in ending_of quotient_at
-    ending_refused x told = let e : quotient_in c t text_room ≡ quotient.Refused x = rw size at told in rw e
+    ending_refused x told = let e : quotient_in c t text_room ≡ Err x = rw size at told in rw e
 
 -- an ending that was written to the front of a buffer
 pub ending-front : (xs ys e d : List ℕ) (n : ℕ) → length xs ≡ 16387 → e ≡ d → n ≡ length d → n ≤ 16387
@@ -110,7 +106,7 @@ module _ (c : Case) (letter t : ℕ) (text : List ℕ) (size : length text ≡ 8
   abbrev Ending : Type 0
   Ending = (m ≡ length (ending_in c letter t)) × (take m ys ≡ ending_in c letter t) × (m ≤ 16387)
 
-  pub fields_ending : (n : ℕ) → quotient_in c t (length text) ≡ quotient.Written n
+  pub fields_ending : (n : ℕ) → quotient_in c t (length text) ≡ Ok n
       → (z : List ℕ) → z ≡ output_in c t text
       → m ≡ 2 * length (take n z) + 3 → ys ≡ put_at xs 0 (hexadecimal (take n z) ++ (blank ∷ letter ∷ line_feed ∷ []))
       → Ending
@@ -122,7 +118,7 @@ module _ (c : Case) (letter t : ℕ) (text : List ℕ) (size : length text ≡ 8
       ∙ ap (λ x. hexadecimal x ++ (blank ∷ letter ∷ line_feed ∷ [])) (sym a)) (p ∙ sym d)
       (omega (arith, p, ap length a, b, i)) q
 
-  pub refusal_ending : (x : Refusal) → quotient_in c t (length text) ≡ quotient.Refused x
+  pub refusal_ending : (x : Refusal) → quotient_in c t (length text) ≡ Err x
       → m ≡ length (decimal (number_of x)) + 3 → ys ≡ put_at xs 0 (decimal (number_of x) ++ (blank ∷ dash ∷ line_feed ∷ []))
       → Ending
   refusal_ending x told p q =
@@ -145,11 +141,11 @@ any-ending_short c point n letter = go (answer_at c point n text_room) refl
     size : length room ≡ 8192
     size = length-replicate {A = ℕ} 8192 0
 
-    go : (a : Quotient) → answer_at c point n text_room ≡ a → length (ending_of a (text_of tree) letter) ≤ 16387
-    go (quotient.Written m) e =
+    go : (a : Result ℕ Refusal) → answer_at c point n text_room ≡ a → length (ending_of a (text_of tree) letter) ≤ 16387
+    go (Ok m) e =
         let (_, b, i) = written-bytes (check_at c point n) tree room m (rw size e) in
         omega (arith, length_fields (text_of tree) letter, b, i, size)
-    go (quotient.Refused x) e = let (d, few) = length_refusal x in omega (arith, d, few)
+    go (Err x) e = let (d, few) = length_refusal x in omega (arith, d, few)
 
 pub ending_short : (c : Case) (letter t : ℕ) → length (ending_in c letter t) ≤ 16387
 unfolding ending_in

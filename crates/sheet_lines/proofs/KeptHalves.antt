@@ -17,7 +17,6 @@ use Rattle.hml.proofs.Window.{Alike, alike_last, ends, begins, steps as alike_st
 use Rattle.hml.proofs.NewestSteps.{behind, steps-from, count_parts, fewer_undone, fewer_behind, nth_undone, nth_alike}
 use Rattle.labels.specs.Labels.{pairing}
 use Rattle.labels.specs.Refusals.{first_of}
-use Rattle.labels.specs.declared.refusal.Check.TheVariants.{Sound}
 use Rattle.tables.specs.Tables.{table_of}
 use Rattle.halves.specs.Runs.{written}
 use Rattle.halves.specs.Halves.{half_bytes}
@@ -33,6 +32,7 @@ use Rattle.splitting.proofs.LogRuns.{sound_ready, sound_log, nth, nth_joins}
 use Rattle.splitting.proofs.AllSplittings.{count-some}
 use Rattle.quotient.proofs.SplitRuns.{LogParts, log_parts}
 use Rattle.sheet_lines.specs.Working.{log_check, ways_of, half_in, older_part, newer_part}
+use Rattle.std.specs.Prelude.{Ok}
 
 module _ {S : Type 0} where
   -- a run starts where it starts without its newest steps
@@ -75,8 +75,8 @@ splitting_in c t = nth c.labels c.left c.right c.run t
 -- what the two parts of a window give
 pub record Cut (c : Case) (m : ℕ) : Type 0 where
   -- they are logs that no check refuses
-  pub older : log_check (older_part c m) ≡ Sound
-  pub newer : log_check (newer_part c m) ≡ Sound
+  pub older : log_check (older_part c m) ≡ Ok tt
+  pub newer : log_check (newer_part c m) ≡ Ok tt
   -- their steps are those of the window
   pub older_steps : steps (joint_of (older_part c m).run) ≡ m
   pub newer_steps : m + steps (joint_of (newer_part c m).run) ≡ length c.run / 3
@@ -91,7 +91,7 @@ pub record Cut (c : Case) (m : ℕ) : Type 0 where
       ++ drop 1 (half_in (newer_part c m) (t % ways_of (newer_part c m)))
 
 -- an accepted window, cut behind its first m steps
-module _ (c : Case) (m : ℕ) (sound : log_check c ≡ Sound) (within : m ≤ length c.run / 3) where
+module _ (c : Case) (m : ℕ) (sound : log_check c ≡ Ok tt) (within : m ≤ length c.run / 3) where
   parts : LogParts c.labels c.left c.right c.run
   parts = log_parts _ _ _ _ sound
 
@@ -108,7 +108,7 @@ module _ (c : Case) (m : ℕ) (sound : log_check c ≡ Sound) (within : m ≤ le
   abbrev after : ℕ
   after = steps (joint_of c.run) - m
 
-  older_sound : log_check (older_part c m) ≡ Sound
+  older_sound : log_check (older_part c m) ≡ Ok tt
   unfolding check_log first_of older_part
   older_sound =
       rw (
@@ -118,7 +118,7 @@ module _ (c : Case) (m : ℕ) (sound : log_check c ≡ Sound) (within : m ≤ le
         joint_until _ _ _ tables c.run parts.run m,
       )
 
-  newer_sound : log_check (newer_part c m) ≡ Sound
+  newer_sound : log_check (newer_part c m) ≡ Ok tt
   unfolding check_log first_of newer_part
   newer_sound =
       rw (
@@ -205,7 +205,7 @@ module _ (c : Case) (m : ℕ) (sound : log_check c ≡ Sound) (within : m ≤ le
         ∙ ap (λ x. half_bytes x ++ drop 1 (half_bytes (splitting_in (newer_part c m) (t % ways)).1)) undone_half
 
 -- every accepted window, cut anywhere
-pub cut_window : (c : Case) (m : ℕ) → log_check c ≡ Sound → m ≤ length c.run / 3 → Cut c m
+pub cut_window : (c : Case) (m : ℕ) → log_check c ≡ Ok tt → m ≤ length c.run / 3 → Cut c m
 cut_window c m sound within = record {
   older = older_sound c m sound within;
   newer = newer_sound c m sound within;

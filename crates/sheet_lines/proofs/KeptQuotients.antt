@@ -11,7 +11,6 @@ use borrow.Rule.Slice.PartMut.{put_mid}
 use Rattle.hml.specs.System.{steps, stop}
 use Rattle.labels.specs.Refusals.{first_of}
 use Rattle.labels.specs.declared.label.Labels.{Labels}
-use Rattle.labels.specs.declared.refusal.Check.TheVariants.{Sound}
 use Rattle.labels.proofs.Slices.{rest}
 use Rattle.halves.specs.Halves.{half_of, check_half}
 use Rattle.machines.specs.Cases.{Case}
@@ -20,7 +19,6 @@ use Rattle.splitting.specs.Splittings.{splitting_limit}
 use Rattle.splitting.proofs.LogRuns.{sound_log, half_passed}
 use Rattle.splitting.proofs.AllSplittings.{splitting_joins}
 use Rattle.dividing.specs.Quotients.{quotient_by, answer_of, output_after, check_division}
-use Rattle.dividing.specs.declared.divide.Quotient.{Quotient}
 use Rattle.quotient.specs.Calls.{tree_by_half, tree_by_number, by_number, by_number_output}
 use Rattle.quotient.proofs.SplitRuns.{LogParts, log_parts, split-run, by_number_sound}
 use Rattle.sheet_lines.specs.declared.kept.Kept.{Kept}
@@ -29,6 +27,8 @@ use Rattle.sheet_lines.specs.Working.{output_in, Asked, older_part, newer_part, 
 use Rattle.sheet_lines.proofs.Puts.{part-front, rest_copied}
 use Rattle.sheet_lines.proofs.KeptHalves.{Cut, cut_window}
 use Rattle.sheet_lines.proofs.KeptTable.{half_size}
+use Rattle.labels.specs.declared.refusal.Refusal.{Refusal}
+use Rattle.std.specs.Prelude.{Ok, Result}
 
 -- two parts of the table, copied one behind the other
 pub half_put : (xs half y d : List ℕ) (from n then m : ℕ) → let a = take (from + n - from) (drop from xs) in
@@ -63,7 +63,7 @@ pub kept_parts : (c : Case) (kept : Kept) (halves : List ℕ) → Halved c kept 
 kept_parts c kept halves h n = ⊎_elim (λ e. absurd (n e)) (λ p. p) h.stands
 
 -- the half of a splitting of a window, from those that are kept
-module _ (c : Case) (sound : log_check c ≡ Sound) (t : ℕ) (below : t < ways_of c) (kept : Kept) (halves : List ℕ)
+module _ (c : Case) (sound : log_check c ≡ Ok tt) (t : ℕ) (below : t < ways_of c) (kept : Kept) (halves : List ℕ)
     (p : PartHalves c kept halves) where
   cut : Cut c kept.older
   cut = cut_window c kept.older sound (omega (arith, p.points))
@@ -123,12 +123,12 @@ module _ (c : Case) (asked : Asked c) (t : ℕ) (below : t < ways_of c) (few : w
   abbrev h : List ℕ
   h = half_in c t
 
-  half_sound : check_half c.right h ≡ Sound
+  half_sound : check_half c.right h ≡ Ok tt
   half_sound =
       let (e, j, _, _, _) = splitting_joins _ _ _ _ t asked.log below in
       (split-run _ _ _ _ _ _ (length c.run / 3) e j (omega (arith, points))).right
 
-  division_sound : check_division c.labels c.right h c.question ≡ Sound
+  division_sound : check_division c.labels c.right h c.question ≡ Ok tt
   unfolding check_division first_of
   division_sound = rw (parts.machines.labels, parts.machines.right, asked.question, half_sound)
 
@@ -144,14 +144,14 @@ module _ (c : Case) (asked : Asked c) (t : ℕ) (below : t < ways_of c) (few : w
   same-tree = sym (ap (λ x. quotient_by c.labels c.right x c.question) whole)
 
   number_sound : check_at c (length c.run / 3) t
-      ≡ Sound
+      ≡ Ok tt
   unfolding splitting_limit
   number_sound =
       by_number_sound _ _ _ _ parts (length c.run / 3)
       (omega (arith, points)) c.question asked.question t below few
 
   pub kept-quotient : (x : Labels) (u v : List ℕ) → x ≡ c.labels → u ≡ c.right → v ≡ c.question
-      → (g out z : List ℕ) (q : Quotient) → g ≡ h
+      → (g out z : List ℕ) (q : Result ℕ Refusal) → g ≡ h
       → q ≡ answer_of (check_division x u g v) (quotient_by x u (half_of g) v) (length out)
       → z ≡ output_after (check_division x u g v) (quotient_by x u (half_of g) v) out
       → (q ≡ quotient_in c t (length out)) × (z ≡ output_in c t out)

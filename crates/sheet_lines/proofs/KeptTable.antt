@@ -12,11 +12,8 @@ use lib.Seq.{sets-eq, take_at, drop_at, take-length, take-take, length-take-le}
 use borrow.Rule.Slice.PartMut.{put_mid}
 use borrow.Author.Tests.{le-ltb, lt-leb, ltb-true, ltb-false}
 use Rattle.hml.specs.System.{steps}
-use Rattle.labels.specs.Refusals.{first_of, in_front, output_of}
+use Rattle.labels.specs.Refusals.{first_of, in_front, output_of, Check}
 use Rattle.labels.specs.declared.label.Labels.{Labels}
-use Rattle.labels.specs.declared.refusal.Check.{Check}
-use Rattle.labels.specs.declared.refusal.Check.TheVariants as check
-use Rattle.labels.specs.declared.refusal.Check.TheVariants.{Sound}
 use Rattle.labels.proofs.Slices.{rest, rest_length}
 use Rattle.machines.specs.Cases.{Case}
 use Rattle.machines.specs.Joints.{joint_of}
@@ -30,6 +27,7 @@ use Rattle.sheet_lines.proofs.Puts.{part-front, put_front, rest_copied}
 use Rattle.sheet_lines.proofs.CaseLaws.{between_start, between_end}
 use Rattle.sheet_lines.proofs.PointLines.{counted-log}
 use Rattle.sheet_lines.proofs.KeptHalves.{Cut, cut_window}
+use Rattle.std.specs.Prelude.{Err, Ok}
 
 -- what is counted is at most the limit, so that its square is a number of the machine
 counted-few : (c : Case) → counted_as (count_in c) ≤ 65535
@@ -38,8 +36,8 @@ counted-few c = go (check_count c.labels c.left c.right c.run) refl
   where
     go : (x : Check) → check_count c.labels c.left c.right c.run ≡ x
         → counted_as (counted x (ways_of c)) ≤ 65535
-    go check.Sound e = count_most _ _ _ _ e
-    go (check.Refused x) e = omega arith
+    go (Ok _) e = count_most _ _ _ _ e
+    go (Err x) e = omega arith
 
 pub square_few : (c : Case) (n : ℕ) → n ≡ counted_as (count_in c) → n * n ≤ 65535 * 65535
 square_few c n e = let h : n ≤ 65535 = omega (arith, e, counted-few c) in mul-le-mul h h
@@ -67,8 +65,8 @@ half_stays xs ys h i p e l m s =
     part-front ys (401 * i) (length h) ∙ ap (drop (401 * i)) f ∙ sym (part-front xs (401 * i) (length h)) ∙ s
 
 -- a case whose log no check refuses
-module _ (c : Case) (sound : log_check c ≡ Sound) where
-  count_sound : ways_of c ≤ splitting_limit → check_count c.labels c.left c.right c.run ≡ Sound
+module _ (c : Case) (sound : log_check c ≡ Ok tt) where
+  count_sound : ways_of c ≤ splitting_limit → check_count c.labels c.left c.right c.run ≡ Ok tt
   unfolding check_count first_of splitting_limit
   count_sound few = rw (sound, le-ltb 65535 (ways_of c) few)
 
@@ -82,7 +80,7 @@ module _ (c : Case) (sound : log_check c ≡ Sound) where
 
   -- a split refuses none of them where there is room
   split_sound : (i a b : ℕ) → i < ways_of c → ways_of c ≤ splitting_limit
-      → 401 ≤ a → 401 ≤ b → check_split c.labels c.left c.right c.run i a b ≡ Sound
+      → 401 ≤ a → 401 ≤ b → check_split c.labels c.left c.right c.run i a b ≡ Ok tt
   unfolding check_split check_number first_of half_length
   split_sound i a b below few x y =
       let h = (sound_log _ _ _ _ sound).run.few in

@@ -16,11 +16,7 @@ use Rattle.labels.specs.declared.refusal.Refusal.{Refusal}
 use Rattle.machines.specs.Cases.{Case}
 use Rattle.machines.specs.Joints.{joint_of}
 use Rattle.casebook.specs.Reading.{read_of}
-use Rattle.casebook.specs.declared.read.Reading.{Reading}
-use Rattle.casebook.specs.declared.read.Reading.TheVariants as reading
 use Rattle.splitting.specs.Splittings.{splitting_limit}
-use Rattle.splitting.specs.declared.count.Counted.{Counted}
-use Rattle.splitting.specs.declared.count.Counted.TheVariants as count
 use Rattle.splitting.proofs.LogRuns.{sound_log}
 use Rattle.sheet_lines.specs.Sheets.{head_of, ending_of, line_of, listed, refused_line, case_lines, read_lines}
 use Rattle.sheet_lines.specs.Sheets.{sheet_of}
@@ -28,6 +24,8 @@ use Rattle.sheet_lines.specs.Working.{count_in, Asked, Numbered, numbered_line}
 use Rattle.sheet_lines.proofs.LineLaws.{number_small, digits_two, head_short, length_refused}
 use Rattle.sheet_lines.proofs.EndingLaws.{any-ending_short}
 use Rattle.sheet_lines.proofs.PartsLines.{numbered_log, lines_are, refused_count, read_asked}
+use Rattle.casebook.specs.declared.read.Parts.{Parts}
+use Rattle.std.specs.Prelude.{Err, Ok, Result}
 
 -- the three first fields, and the ending
 together_short : (h e : List ℕ) → length h ≤ 12 → length e ≤ 16387 → length (h ++ e) ≤ 16399
@@ -69,18 +67,18 @@ module _ (c : Case) (asked : Asked c) where
   case_short : (line : List ℕ) → line ∈ case_lines c → length line ≤ 16399
   case_short line h = go (count_in c) refl
     where
-      go : (x : Counted) → count_in c ≡ x → length line ≤ 16399
-      go (count.Splittings n) e =
+      go : (x : Result ℕ Refusal) → count_in c ≡ x → length line ≤ 16399
+      go (Ok n) e =
           let (i, b, q) = in_listed (numbered_line c n) 0 (suc (steps (joint_of c.run)) * n) line
           (rw (lines_are c asked n e) at h) in
           omega (arith, ap length q, numbered_short n (numbered_log c asked n e) i (omega (arith, b)))
-      go (count.Refused x) e = refused_lines_short x line (rw (refused_count c x e) at h)
+      go (Err x) e = refused_lines_short x line (rw (refused_count c x e) at h)
 
 -- no line of any sheet has over 16,399 bytes
 pub sheet_line_short : (s line : List ℕ) → line ∈ sheet_of s → length line ≤ 16399
 unfolding sheet_of read_lines
 sheet_line_short s line h = go (read_of s) refl h
   where
-    go : (r : Reading) → read_of s ≡ r → line ∈ read_lines s r → length line ≤ 16399
-    go (reading.Casebook p) e m = case_short _ (read_asked s p e) line m
-    go (reading.Refused x) e m = refused_lines_short x line m
+    go : (r : Result Parts Refusal) → read_of s ≡ r → line ∈ read_lines s r → length line ≤ 16399
+    go (Ok p) e m = case_short _ (read_asked s p e) line m
+    go (Err x) e m = refused_lines_short x line m

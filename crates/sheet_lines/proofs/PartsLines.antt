@@ -8,15 +8,12 @@ use Rattle.hml.specs.System.{steps}
 use Rattle.hml.specs.Labels.{positive}
 use Rattle.labels.specs.Refusals.{first_of}
 use Rattle.labels.specs.declared.refusal.Refusal.{Refusal}
-use Rattle.labels.specs.declared.refusal.Check.TheVariants.{Sound}
 use Rattle.machines.specs.Cases.{Case}
 use Rattle.machines.specs.Joints.{joint_of}
 use Rattle.casebook.specs.Reading.{read_of, case_of}
 use Rattle.casebook.specs.declared.read.Parts.{Parts}
-use Rattle.casebook.specs.declared.read.Reading.TheVariants as reading
 use Rattle.casebook.proofs.RoundTrip.{read_sound, sound_parts}
 use Rattle.splitting.specs.Splittings.{splitting_limit, check_log, check_count, count_of}
-use Rattle.splitting.specs.declared.count.Counted.TheVariants as count
 use Rattle.splitting.proofs.LogRuns.{sound_log}
 use Rattle.splitting.proofs.AllSplittings.{count-some}
 use Rattle.splitting.proofs.Outcomes.{count-answered}
@@ -24,6 +21,7 @@ use Rattle.splitting.proofs.Values.{count_most}
 use Rattle.sheet_lines.specs.Sheets.{refused_line, counted_lines, case_lines, read_lines, sheet_of, listed, lines_due}
 use Rattle.sheet_lines.specs.Working.{ways_of, count_in, Asked, Numbered, numbered_line}
 use Rattle.sheet_lines.proofs.SheetLines.{lines_numbered, due-listed, none-due}
+use Rattle.std.specs.Prelude.{Err, Ok}
 
 -- a case of which no check refuses the log or the question
 module _ (c : Case) (asked : Asked c) where
@@ -35,8 +33,8 @@ module _ (c : Case) (asked : Asked c) where
   points-few = let a = (sound_log _ _ _ _ asked.log).run in omega (arith, a.counted, a.few)
 
   -- the count is given
-  module _ (ways : ℕ) (told : count_in c ≡ count.Splittings ways) where
-    answered : (check_count c.labels c.left c.right c.run ≡ Sound) × (ways_of c ≡ ways)
+  module _ (ways : ℕ) (told : count_in c ≡ Ok ways) where
+    answered : (check_count c.labels c.left c.right c.run ≡ Ok tt) × (ways_of c ≡ ways)
     unfolding count_of
     answered = count-answered _ (ways_of c) ways told
 
@@ -83,14 +81,14 @@ pub none-asked : (xs : List (List ℕ)) (most : ℕ) → most ≡ 0 → take mos
 none-asked xs most e = rw e
 
 -- the count is refused
-pub refused_count : (c : Case) (x : Refusal) → count_in c ≡ count.Refused x
+pub refused_count : (c : Case) (x : Refusal) → count_in c ≡ Err x
     → case_lines c ≡ refused_line x ∷ []
 unfolding case_lines counted_lines
 refused_count c x e = rw e
 
 -- any bytes: a casebook that was read, or a refusal
 module _ (s : List ℕ) where
-  module _ (p : Parts) (told : read_of s ≡ reading.Casebook p) where
+  module _ (p : Parts) (told : read_of s ≡ Ok p) where
     pub read_asked : Asked (case_of s p)
     unfolding check_log first_of case_of
     read_asked =
@@ -101,7 +99,7 @@ module _ (s : List ℕ) where
     unfolding lines_due sheet_of read_lines
     read_due first most = rw told
 
-  pub refused_due : (x : Refusal) → read_of s ≡ reading.Refused x
+  pub refused_due : (x : Refusal) → read_of s ≡ Err x
       → (first most : ℕ) → lines_due s first most ≡ take most (drop first (refused_line x ∷ []))
   unfolding lines_due sheet_of read_lines
   refused_due x told first most = rw told

@@ -1,56 +1,50 @@
 -- The cases of what the lines of a point share.
-use Prim.Native.Nat.{ℕ, ◌+◌, ◌≤◌, ◌<◌, min}
+use Prim.Native.Nat.{ℕ, zero, suc, ◌+◌, ◌≤◌, ◌<◌, min}
 use mathlib.Core.Path.{◌≡◌, refl, ◌∙◌}
 use mathlib.Core.Logic.{◌⊎◌, inl, inr}
 use mathlib.Core.Bool.{Bool, true, false}
-use mathlib.Core.List.{List}
+use mathlib.Core.List.{List, ◌++◌}
 use native.Mathlib.Omega.{arith}
-use lib.ListN.{length, get_or, set, get_or-eq_default}
+use lib.ListN.{length, get_or, take, replicate, get_or-eq_default}
 use lib.Dec.{ltb}
-use lib.Seq.{get_or-set_same, get_or-set_other}
+use lib.Seq.{length-take-le}
 use borrow.Author.Tests.{ltb-true, ltb-false, ne_eqb}
 use Rattle.labels.specs.declared.refusal.Refusal.{Refusal}
-use Rattle.verdict.specs.declared.answer.Verdict.{Verdict}
-use Rattle.verdict.specs.declared.answer.Verdict.TheVariants as verdict
-use Rattle.splitting.specs.declared.count.Counted.{Counted}
-use Rattle.splitting.specs.declared.count.Counted.TheVariants as count
 use Rattle.sheet_lines.specs.Sheets.{letter_of}
 use Rattle.sheet_lines.specs.Working.{counted_as, after_of, Forgotten}
+use Rattle.std.specs.Prelude.{Err, Ok, Result}
 
-module _ (v : Verdict) where
-  pub letter_holds : v ≡ verdict.Holds → 84 ≡ letter_of v
+module _ (v : Result Bool Refusal) where
+  pub letter_holds : v ≡ Ok true → 84 ≡ letter_of v
   unfolding letter_of
   letter_holds e = rw e
 
-  pub letter_fails : v ≡ verdict.Fails → 70 ≡ letter_of v
+  pub letter_fails : v ≡ Ok false → 70 ≡ letter_of v
   unfolding letter_of
   letter_fails e = rw e
 
-  pub letter_refused : (x : Refusal) → v ≡ verdict.Refused x → 45 ≡ letter_of v
+  pub letter_refused : (x : Refusal) → v ≡ Err x → 45 ≡ letter_of v
   unfolding letter_of
   letter_refused x e = rw e
 
-module _ (c : Counted) where
-  pub counted_splittings : (n : ℕ) → c ≡ count.Splittings n → n ≡ counted_as c
+module _ (c : Result ℕ Refusal) where
+  pub counted_splittings : (n : ℕ) → c ≡ Ok n → n ≡ counted_as c
   unfolding counted_as
   counted_splittings n e = rw e
 
-  pub counted_refused : (x : Refusal) → c ≡ count.Refused x → 1 ≡ counted_as c
+  pub counted_refused : (x : Refusal) → c ≡ Err x → 1 ≡ counted_as c
   unfolding counted_as
   counted_refused x e = rw e
 
--- entries forgotten one after the other
-pub forgotten_none : (xs : List ℕ) → Forgotten xs 0
+-- entries filled with 0 are forgotten
+pub forgotten_filled : (n : ℕ) (rest : List ℕ) → Forgotten (replicate n 0 ++ rest) n
 unfolding Forgotten
-forgotten_none xs t h = absurd (omega arith)
-
-pub forgotten_more : (xs : List ℕ) (n : ℕ) → Forgotten xs n → n < length xs → Forgotten (set xs n 0) (n + 1)
-unfolding Forgotten
-forgotten_more xs n f l t h = go (ltb t n) refl
+forgotten_filled n rest = go n
   where
-    go : (b : Bool) → ltb t n ≡ b → get_or (set xs n 0) t 0 ≡ 0
-    go true e = let i = ltb-true t n e in get_or-set_other xs n t 0 0 (λ q. omega (arith, i, q)) ∙ f t i
-    go false e = let z : t ≡ n = omega (arith, ltb-false t n e, h) in rw z (get_or-set_same xs n 0 0 l)
+    go : (n t : ℕ) → t < n → get_or (replicate n 0 ++ rest) t 0 ≡ 0
+    go zero t h = absurd (omega arith)
+    go (suc n) zero h = refl
+    go (suc n) (suc t) h = go n t (omega (arith, h))
 
 -- behind the list there is no entry
 pub forgotten_all : (xs : List ℕ) (i n : ℕ) → Forgotten xs i → (n ≤ i) ⊎ (length xs ≤ i) → Forgotten xs n
@@ -81,3 +75,11 @@ forgotten_enough xs i n e h = go (ltb 8192 n) refl
     go : (b : Bool) → ltb 8192 n ≡ b → (n ≤ i) ⊎ (length xs ≤ i)
     go true q = inr (omega (arith, e, h, ltb-true 8192 n q))
     go false q = inl (omega (arith, h, ltb-false 8192 n q))
+
+-- the first entries of so many filled with 0
+pub forgotten_front : (xs ys rest : List ℕ) (n m : ℕ) → length xs ≡ 8192 → m ≡ min n 8192
+    → ys ≡ replicate (length (take m xs)) 0 → length (ys ++ rest) ≡ length xs → Forgotten (ys ++ rest) n
+forgotten_front xs ys rest n m l h f k =
+    let z : length (take m xs) ≡ m = length-take-le m xs (omega (arith, h, l)) in
+    forgotten_all (ys ++ rest) m n (rw (f, z) (forgotten_filled m rest))
+    (forgotten_enough (ys ++ rest) m n (k ∙ l) (omega (arith, h)))

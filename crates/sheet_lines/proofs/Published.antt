@@ -26,18 +26,17 @@ use Rattle.machines.specs.Joints.{is_real, fit_joint, is_joint_run, check_joint}
 use Rattle.formulas.specs.Formulas.{whole_of, formula_of, is_formula, nests_fit, check_formula}
 use Rattle.records.specs.Records.{lengths_of, fit_length, may_stand, next_at, body_of, labels_of}
 use Rattle.casebook.specs.Reading.{read_question, read_run, read_right, read_left, read_of, case_of}
-use Rattle.casebook.specs.declared.read.Reading.{Reading}
-use Rattle.casebook.specs.declared.read.Reading.TheVariants as reading
-use Rattle.verdict.specs.Verdicts.{joint_holds, half_holds, check_joint_call, check_half_call, verdict_of, answered}
+use Rattle.verdict.specs.Verdicts.{joint_holds, half_holds, check_joint_call, check_half_call, answered}
 use Rattle.verdict.specs.Verdicts.{joint_verdict, half_verdict}
 use Rattle.splitting.specs.Splittings.{splittings_of, check_log, splitting_limit, check_count, left_half, right_half, count_of}
-use Rattle.splitting.specs.declared.count.Counted.{Counted}
-use Rattle.splitting.specs.declared.count.Counted.TheVariants as counted
 use Rattle.dividing.specs.Quotients.{tree_by, quotient_by, nodes_of, text_of, check_size, check_tree, answer_of}
 use Rattle.quotient.specs.Calls.{tree_by_half, tree_by_number, check_by_number, by_number}
 use Rattle.digits.specs.Digits.{digits_within, decimal, hex_digit, hexadecimal}
 use Rattle.sheet_lines.specs.Sheets.{letter_of, ending_of, head_of, quotient_at, text_at, line_of, listed, lines_of}
 use Rattle.sheet_lines.specs.Sheets.{counted_lines, case_lines, read_lines, sheet_of}
+use Rattle.casebook.specs.declared.read.Parts.{Parts}
+use Rattle.labels.specs.declared.refusal.Refusal.{Refusal}
+use Rattle.std.specs.Prelude.{Err, Ok, Result}
 
 -- a case: k, the two tables, the run and the question, as the casebook's records have them
 pub record Case : Type 0 where
@@ -49,7 +48,7 @@ pub record Case : Type 0 where
 
 -- what the calls answer
 pub record Answers : Type 0 where
-  pub count : Counted
+  pub count : Result ℕ Refusal
   -- how many lines the sheet has: two points, and a line for each splitting
   pub size : ℕ
   pub lines : List (ℕ × List ℕ)
@@ -137,14 +136,14 @@ cases =
     ∷ []
 
 abbrev due : Case → Answers
-due c = record { count = counted.Splittings c.splittings; size = 2 * c.splittings; lines = c.lines }
+due c = record { count = Ok c.splittings; size = 2 * c.splittings; lines = c.lines }
 
 -- the count of a casebook's splittings
-abbrev count_in : List ℕ → Reading → Counted
-count_in s (reading.Casebook p) =
+abbrev count_in : List ℕ → Result Parts Refusal → Result ℕ Refusal
+count_in s (Ok p) =
     let c = case_of s p in
     count_of c.labels c.left c.right c.run
-count_in s (reading.Refused x) = counted.Refused x
+count_in s (Err x) = Err x
 
 abbrev computed : Case → Answers
 computed c =
@@ -164,7 +163,7 @@ unfolding cases read_of read_left read_right read_run read_question next_at may_
     is_handshake shakes_to is_joint_idle has_move among go_on joint_steps threes rows_of table_of machine only pairing pairs
     partner_among partner_of splits ways shakes joint_of lengthened step_of
     joint_verdict check_joint_call joint_holds holds beside formula_of whole_of parse trees check_formula is_formula nests_fit
-    labelled nesting answered verdict_of
+    labelled nesting answered
     by_number check_by_number tree_by_number tree_by_half quotient_by tree_by quotient answer_of check_tree check_size nodes_of
     text_of size spell left_half right_half half_bytes written half_of twos
     half_verdict check_half_call half_holds check_half is_half_run step_fits beyond

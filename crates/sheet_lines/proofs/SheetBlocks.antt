@@ -10,36 +10,36 @@ use Rattle.labels.specs.Refusals.{in_front}
 use Rattle.machines.specs.Cases.{Case}
 use Rattle.machines.specs.Joints.{joint_of}
 use Rattle.casebook.specs.Reading.{read_of}
-use Rattle.casebook.specs.declared.read.Reading.{Reading}
-use Rattle.casebook.specs.declared.read.Reading.TheVariants as reading
-use Rattle.splitting.specs.declared.count.Counted.{Counted}
-use Rattle.splitting.specs.declared.count.Counted.TheVariants as count
-use Rattle.sheet_lines.specs.Sheets.{case_lines, read_lines, sheet_of, bytes_of, fitting, lines_due, block_of}
+use Rattle.sheet_lines.specs.Sheets.{case_lines, read_lines, sheet_of, bytes_of, fitting, lines_due, block_of, block_answer, block_output}
 use Rattle.sheet_lines.specs.Blocks.{block_from}
-use Rattle.sheet_lines.specs.Working.{count_in, Asked, numbered_line, fitted_of, fitted_output}
-use Rattle.sheet_lines.specs.declared.lines.Fitted.{Fitted}
+use Rattle.sheet_lines.specs.Working.{count_in, Asked, numbered_line}
+use Rattle.sheet_lines.proofs.SheetLines.{written_fits, answered_fits}
+use Rattle.std.specs.Result.{result_unwrap_or}
 use Rattle.sheet_lines.proofs.Filling.{length-listed}
 use Rattle.sheet_lines.proofs.FillLaws.{sheet_small}
 use Rattle.sheet_lines.proofs.PartsLines.{numbered_log, lines_are, refused_count, read_asked}
+use Rattle.casebook.specs.declared.read.Parts.{Parts}
+use Rattle.labels.specs.declared.refusal.Refusal.{Refusal}
+use Rattle.std.specs.Prelude.{Err, Ok, Result}
 
 -- a sheet has at most 201 times 65,535 lines
 case_short : (c : Case) → Asked c → length (case_lines c) ≤ 13172535
 case_short c asked = go (count_in c) refl
   where
-    go : (x : Counted) → count_in c ≡ x → length (case_lines c) ≤ 13172535
-    go (count.Splittings n) e =
+    go : (x : Result ℕ Refusal) → count_in c ≡ x → length (case_lines c) ≤ 13172535
+    go (Ok n) e =
         let z = ap length (lines_are c asked n e)
         ∙ length-listed (numbered_line c n) 0 (suc (steps (joint_of c.run)) * n) in
         omega (arith, z, sheet_small c n (numbered_log c asked n e))
-    go (count.Refused x) e = omega (arith, ap length (refused_count c x e))
+    go (Err x) e = omega (arith, ap length (refused_count c x e))
 
 pub sheet_short : (s : List ℕ) → length (sheet_of s) ≤ 13172535
 unfolding sheet_of read_lines
 sheet_short s = go (read_of s) refl
   where
-    go : (r : Reading) → read_of s ≡ r → length (read_lines s r) ≤ 13172535
-    go (reading.Casebook p) e = case_short _ (read_asked s p e)
-    go (reading.Refused x) e = omega arith
+    go : (r : Result Parts Refusal) → read_of s ≡ r → length (read_lines s r) ≤ 13172535
+    go (Ok p) e = case_short _ (read_asked s p e)
+    go (Err x) e = omega arith
 
 -- all lines that are left are asked for
 all-due : (s : List ℕ) (first : ℕ) → lines_due s first 13172535 ≡ drop first (sheet_of s)
@@ -53,13 +53,9 @@ module _ (s : List ℕ) (first : ℕ) (out : List ℕ) (size : length out ≡ 31
   unfolding block_from
   block_lines = rw (all-due s first, size)
 
-  pub block_answer_lem : (f : Fitted) → f ≡ fitted_of (lines_due s first 13172535) (length out)
-      → record { lines = f.lines; bytes = f.bytes } ≡ block_of (block_from s first)
-  unfolding fitted_of block_of
-  block_answer_lem f e =
-      ap (λ (x : Fitted). record { lines = x.lines; bytes = x.bytes }) e
-      ∙ ap (λ b. record { lines = length b; bytes = length (bytes_of b) }) block_lines
+  pub block_answer_lem : result_unwrap_or (block_answer (lines_due s first 13172535) (length out)) (record { lines = 0; bytes = 0 })
+      ≡ block_of (block_from s first)
+  block_answer_lem = answered_fits (lines_due s first 13172535) (length out) ∙ ap block_of block_lines
 
-  pub block_output_lem : fitted_output (lines_due s first 13172535) out ≡ in_front (bytes_of (block_from s first)) out
-  unfolding fitted_output
-  block_output_lem = ap (λ b. in_front (bytes_of b) out) block_lines
+  pub block_output_lem : block_output (lines_due s first 13172535) out ≡ in_front (bytes_of (block_from s first)) out
+  block_output_lem = written_fits (lines_due s first 13172535) out ∙ ap (λ b. in_front (bytes_of b) out) block_lines

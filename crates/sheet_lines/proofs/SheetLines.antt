@@ -8,20 +8,20 @@ use native.Mathlib.Nat.{zero-mul, suc-mul, mul-add-div_right, mul-add-mod_self_r
 use lib.ListN.{length, take, drop, length-append}
 use lib.Dec.{leb, ltb, eqb}
 use lib.Seq.{take-nil, drop-nil}
-use borrow.Author.Tests.{lt-ltb, le-ltb, ne_eqb, ltb-true, leb-true, leb-false}
+use borrow.Author.Tests.{lt-ltb, le-ltb, eq-eqb, ne_eqb, ltb-true, leb-true, leb-false}
 use Rattle.hml.specs.Lists.{each}
 use Rattle.hml.specs.System.{steps}
 use Rattle.machines.specs.Cases.{Case}
 use Rattle.machines.specs.Joints.{joint_of}
-use Rattle.labels.specs.Refusals.{in_front}
+use Rattle.labels.specs.Refusals.{in_front, output_of, refused_if}
 use Rattle.labels.specs.declared.refusal.Refusal.TheVariants.{OutputTooShort}
 use Rattle.sheet_lines.specs.Sheets.{line_of, lines_of, listed, bytes_of, fitting, first_too_long, check_room}
 use Rattle.sheet_lines.specs.Sheets.{block_of, written_or, block_answer, block_output}
-use Rattle.sheet_lines.specs.Working.{put_at, Full, numbered_line, fitted_of, fitted_output}
-use Rattle.sheet_lines.specs.declared.lines.Fitted.{Fitted}
-use Rattle.sheet_lines.specs.declared.lines.Lines.TheVariants as answer
+use Rattle.sheet_lines.specs.Working.{put_at, Full, numbered_line}
 use Rattle.sheet_lines.proofs.Puts.{put_first}
 use Rattle.sheet_lines.proofs.Filling.{listed-behind, listed-agree, fitting-first, fitting-none}
+use Rattle.std.specs.Prelude.{Err, Ok}
+use Rattle.std.specs.Result.{result_unwrap_or}
 
 module _ {A : Type 0} (f : ℕ → ℕ → A) (c : ℕ) (some : 1 ≤ c) where
   -- what f gives by the quotient and the remainder
@@ -123,13 +123,10 @@ fitting-room room (x ∷ due) = go (leb (length x) room) refl (fitting-room (roo
 
 -- no lines are due
 module _ (due : List (List ℕ)) (e : due ≡ []) where
-  pub nothing-fits : (room : ℕ) → record { lines = 0; bytes = 0; short = false } ≡ fitted_of due room
-  unfolding fitted_of first_too_long fitting bytes_of
-  nothing-fits room = rw e
-
-  pub nothing_output : (out : List ℕ) → out ≡ fitted_output due out
-  unfolding fitted_output fitting bytes_of in_front
-  nothing_output out = rw e
+  pub nothing-due : (out : List ℕ)
+      → (Ok (record { lines = 0; bytes = 0 }) ≡ block_answer due (length out)) × (out ≡ block_output due out)
+  unfolding block_answer block_output check_room written_or block_of first_too_long fitting bytes_of in_front
+  nothing-due out = rw e (refl, refl)
 
 -- lines are due, and none fits if the first is too long
 module _ (room : ℕ) (x : List ℕ) (due : List (List ℕ)) where
@@ -147,6 +144,13 @@ module _ (room : ℕ) (x : List ℕ) (due : List (List ℕ)) where
           )
       go false t = let h = leb-false (length x) room t in rw (lt-ltb room (length x) h, fitting-none room x due h)
 
+-- where the first line is too long nothing is written
+none_written : (due : List (List ℕ)) (out : List ℕ) → first_too_long (length out) due ≡ true
+    → in_front (bytes_of (fitting (length out) due)) out ≡ out
+unfolding first_too_long bytes_of in_front
+none_written [] out t = absurd (false≢true t)
+none_written (x ∷ due) out t = rw (fitting-none (length out) x due (ltb-true (length out) (length x) t))
+
 -- lines are due, and those that fit were filled in
 module _ (g : ℕ → List ℕ) (i m : ℕ) (some : 1 ≤ m) (xs ys : List ℕ) (at j : ℕ)
     (full : Full (fitting (length xs) (listed g i m)) xs 0 i ys at j) where
@@ -156,53 +160,64 @@ module _ (g : ℕ → List ℕ) (i m : ℕ) (some : 1 ≤ m) (xs ys : List ℕ) 
   short_listed zero h = absurd (omega arith)
   short_listed (suc n) h = none_if_short (length xs) (g i) (listed g (suc i) n)
 
-  pub filled_fits : record { lines = j - i; bytes = at; short = eqb (j - i) 0 } ≡ fitted_of (listed g i m) (length xs)
-  unfolding fitted_of
-  filled_fits =
-      let n : j - i ≡ length (fitting (length xs) (listed g i m)) = omega (arith, full.counted) in
-      let a : at ≡ length (bytes_of (fitting (length xs) (listed g i m))) = omega (arith, full.place) in
-      rw (n, a, short_listed m some)
+  filled-lines : j - i ≡ length (fitting (length xs) (listed g i m))
+  filled-lines = omega (arith, full.counted)
 
-  pub filled_output : ys ≡ fitted_output (listed g i m) xs
-  unfolding fitted_output
+  filled_output : ys ≡ in_front (bytes_of (fitting (length xs) (listed g i m))) xs
   filled_output = full.written ∙ put_first xs _ (fitting-room (length xs) (listed g i m))
+
+  pub filled_short : j - i ≡ 0
+      → (Err OutputTooShort ≡ block_answer (listed g i m) (length xs)) × (ys ≡ block_output (listed g i m) xs)
+  unfolding block_answer block_output check_room written_or
+  filled_short h =
+      let z = short_listed m some ∙ eq-eqb _ 0 (sym filled-lines ∙ h) in
+      rw z (refl, filled_output ∙ none_written (listed g i m) xs z)
+
+  pub filled_fits : (j - i ≡ 0 → ⊥)
+      → (Ok (record { lines = j - i; bytes = at }) ≡ block_answer (listed g i m) (length xs))
+      × (ys ≡ block_output (listed g i m) xs)
+  unfolding block_answer block_output check_room written_or block_of
+  filled_fits h =
+      let z = short_listed m some ∙ ne_eqb _ 0 (λ e. h (filled-lines ∙ e)) in
+      let a : at ≡ length (bytes_of (fitting (length xs) (listed g i m))) = omega (arith, full.place) in
+      rw (z, filled-lines, a) (refl, filled_output)
 
 -- one line is due: it does not fit, or it is the block
 module _ (due : List (List ℕ)) (x out : List ℕ) (e : due ≡ x ∷ []) where
   pub refused_short : length out < length x
-      → (record { lines = 0; bytes = 0; short = true } ≡ fitted_of due (length out)) × (out ≡ fitted_output due out)
-  unfolding fitted_of fitted_output first_too_long bytes_of in_front
-  refused_short h = rw (e, lt-ltb (length out) (length x) h, fitting-none (length out) x [] h) (refl, refl)
+      → (Err OutputTooShort ≡ block_answer due (length out)) × (out ≡ block_output due out)
+  unfolding block_answer block_output check_room written_or first_too_long
+  refused_short h = rw (e, lt-ltb (length out) (length x) h) (refl, refl)
 
   pub refused_block : (ys : List ℕ) (n : ℕ) → n ≡ length x → n ≤ length out → ys ≡ put_at out 0 x
-      → (record { lines = 1; bytes = n; short = false } ≡ fitted_of due (length out)) × (ys ≡ fitted_output due out)
-  unfolding fitted_of fitted_output first_too_long fitting bytes_of
+      → (Ok (record { lines = 1; bytes = n }) ≡ block_answer due (length out)) × (ys ≡ block_output due out)
+  unfolding block_answer block_output check_room written_or block_of first_too_long fitting bytes_of
   refused_block ys n m h p =
       let fits : length x ≤ length out = omega (arith, m, h) in
       let alone : bytes_of (x ∷ []) ≡ x = append-nil x in
       rw (e, le-ltb (length out) (length x) fits, fitting-first (length out) x [] fits, alone, m)
       (refl, p ∙ put_first out x fits)
 
--- the answer of a call for lines, from what fitted
-none_written : (due : List (List ℕ)) (out : List ℕ) → first_too_long (length out) due ≡ true → fitted_output due out ≡ out
-unfolding first_too_long fitted_output bytes_of in_front
-none_written [] out t = absurd (false≢true t)
-none_written (x ∷ due) out t = rw (fitting-none (length out) x due (ltb-true (length out) (length x) t))
+-- what is written is what fits, also where that is nothing
+pub written_fits : (due : List (List ℕ)) (out : List ℕ)
+    → block_output due out ≡ in_front (bytes_of (fitting (length out) due)) out
+unfolding block_output check_room
+written_fits due out = go (first_too_long (length out) due) refl
+  where
+    go : (b : Bool) → first_too_long (length out) due ≡ b
+        → output_of (refused_if b OutputTooShort) (bytes_of (fitting (length out) due)) out
+        ≡ in_front (bytes_of (fitting (length out) due)) out
+    go true e = sym (none_written due out e)
+    go false e = refl
 
-module _ (due : List (List ℕ)) (out : List ℕ) (f : Fitted) (e : f ≡ fitted_of due (length out)) where
-  short_is : f.short ≡ first_too_long (length out) due
-  unfolding fitted_of
-  short_is = ap (λ (x : Fitted). x.short) e
-
-  pub short_answer : f.short ≡ true
-      → (answer.Refused OutputTooShort ≡ block_answer due (length out)) × (fitted_output due out ≡ block_output due out)
-  unfolding block_answer block_output check_room written_or
-  short_answer t = let z = sym short_is ∙ t in rw z (refl, none_written due out z)
-
-  pub fits_answer : f.short ≡ false
-      → (answer.Written (record { lines = f.lines; bytes = f.bytes }) ≡ block_answer due (length out))
-      × (fitted_output due out ≡ block_output due out)
-  unfolding block_answer block_output check_room written_or block_of fitted_of fitted_output
-  fits_answer t =
-      let z = sym short_is ∙ t in
-      rw z (ap (λ (x : Fitted). answer.Written (record { lines = x.lines; bytes = x.bytes })) e, refl)
+pub answered_fits : (due : List (List ℕ)) (room : ℕ)
+    → result_unwrap_or (block_answer due room) (record { lines = 0; bytes = 0 }) ≡ block_of (fitting room due)
+unfolding block_answer check_room written_or block_of first_too_long bytes_of
+answered_fits due room = go due (first_too_long room due) refl
+  where
+    go : (due : List (List ℕ)) (b : Bool) → first_too_long room due ≡ b
+        → result_unwrap_or (written_or (refused_if b OutputTooShort) (fitting room due)) (record { lines = 0; bytes = 0 })
+        ≡ block_of (fitting room due)
+    go due false e = refl
+    go [] true e = absurd (false≢true e)
+    go (x ∷ due) true e = rw (fitting-none room x due (ltb-true room (length x) e))

@@ -22,12 +22,11 @@ use Rattle.sheet_lines.specs.Sheets.{sheet_of, bytes_of, fitting, lines_due, fir
 use Rattle.sheet_lines.specs.Sheets.{block_of, block_answer, block_output}
 use Rattle.sheet_lines.specs.Blocks.{block_room, block_from}
 use Rattle.sheet_lines.specs.declared.lines.Block.{Block}
-use Rattle.sheet_lines.specs.declared.lines.Lines.{Lines}
-use Rattle.sheet_lines.specs.declared.lines.Lines.TheVariants as answer
 use Rattle.sheet_lines.proofs.Filling.{bytes-behind, fitting-first}
 use Rattle.sheet_lines.proofs.SheetLines.{fitting-room}
 use Rattle.sheet_lines.proofs.FillLaws.{fitting-few}
 use Rattle.sheet_lines.proofs.LongestLine.{sheet_line_short}
+use Rattle.std.specs.Prelude.{Err, Ok, Result}
 
 -- a call for lines: how many it asks for at most, and the output that it lends
 pub record Call : Type 0 where
@@ -40,23 +39,23 @@ pub record Roomy (c : Call) : Type 0 where
   pub room : 16399 ≤ length c.out
 
 -- what `write_lines` answers it, and its output afterwards
-abbrev pub answer_to : List ℕ → ℕ → Call → Lines
+abbrev pub answer_to : List ℕ → ℕ → Call → Result Block Refusal
 answer_to s first c = block_answer (lines_due s first c.most) (length c.out)
 
 abbrev pub output_after : List ℕ → ℕ → Call → List ℕ
 output_after s first c = block_output (lines_due s first c.most) c.out
 
 -- the bytes and the lines that were written
-unfoldable pub bytes_by : Lines → List ℕ → List ℕ
-bytes_by (answer.Written b) out = take b.bytes out
-bytes_by (answer.Refused x) out = []
+unfoldable pub bytes_by : Result Block Refusal → List ℕ → List ℕ
+bytes_by (Ok b) out = take b.bytes out
+bytes_by (Err x) out = []
 
-unfoldable pub lines_by : Lines → ℕ
-lines_by (answer.Written b) = b.lines
-lines_by (answer.Refused x) = 0
+unfoldable pub lines_by : Result Block Refusal → ℕ
+lines_by (Ok b) = b.lines
+lines_by (Err x) = 0
 
 -- calls one after the other, each from where the one before ended: their answers, the bytes of all, and where they end
-unfoldable pub answers_to : List ℕ → ℕ → List Call → List Lines
+unfoldable pub answers_to : List ℕ → ℕ → List Call → List (Result Block Refusal)
 answers_to s first [] = []
 answers_to s first (c ∷ calls) = answer_to s first c ∷ answers_to s (first + lines_by (answer_to s first c)) calls
 
@@ -73,7 +72,7 @@ reached s first (c ∷ calls) = reached s (first + lines_by (answer_to s first c
 -- line where they begin; a call that writes no line comes when nothing is left; as many calls as there are lines are
 -- enough
 pub record Whole (s : List ℕ) (first : ℕ) (calls : List Call) : Type 0 where
-  pub granted : (x : Refusal) → answer.Refused x ∈ answers_to s first calls → ⊥
+  pub granted : (x : Refusal) → Err x ∈ answers_to s first calls → ⊥
   pub front : printed s first calls ++ bytes_of (drop (reached s first calls) (sheet_of s))
       ≡ bytes_of (drop first (sheet_of s))
   pub ended : (c : Call) → Roomy c → lines_by (answer_to s (reached s first calls) c) ≡ 0
@@ -162,7 +161,7 @@ module _ (s : List ℕ) (first : ℕ) (c : Call) (roomy : Roomy c) where
   fits : first_too_long (length c.out) (due s first c.most (length c.out)) ≡ false
   fits = not_short (length c.out) _ (due_short s first c.most (length c.out) roomy.room)
 
-  answered : answer_to s first c ≡ answer.Written (block_of lines)
+  answered : answer_to s first c ≡ Ok (block_of lines)
   unfolding block_answer lines_due check_room written_or
   answered = rw fits
 
@@ -180,7 +179,7 @@ module _ (s : List ℕ) (first : ℕ) (c : Call) (roomy : Roomy c) where
 module _ (s : List ℕ) where
   -- none is refused
   all_granted : (first : ℕ) (calls : List Call) → ((c : Call) → c ∈ calls → Roomy c)
-      → (x : Refusal) → answer.Refused x ∈ answers_to s first calls → ⊥
+      → (x : Refusal) → Err x ∈ answers_to s first calls → ⊥
   unfolding answers_to
   all_granted first [] roomy x h = nowhere h
   all_granted first (c ∷ calls) roomy x h = elim (∈-cons h) [

@@ -6,7 +6,6 @@ use native.Mathlib.Nat.{mod-lt}
 use native.Mathlib.Omega.{arith}
 use lib.ListN.{length}
 use Rattle.hml.specs.System.{steps}
-use Rattle.labels.specs.declared.refusal.Check.TheVariants.{Sound}
 use Rattle.halves.specs.declared.side.Side.TheVariants as side
 use Rattle.machines.specs.Cases.{Case, with_run}
 use Rattle.machines.specs.Joints.{joint_of}
@@ -24,6 +23,7 @@ use Rattle.sheet_lines.specs.Sheets.{text_room, head_of, ending_of, quotient_at,
 use Rattle.sheet_lines.specs.Working.{ways_of, half_in, letter_at, tree_at, answer_at, output_at, Asked, ending_in}
 use Rattle.sheet_lines.specs.Working.{line_in}
 use Rattle.sheet_lines.proofs.WindowLines as lines
+use Rattle.std.specs.Prelude.{Ok}
 
 -- a point of a log that no check refuses, and one of its splittings, where they can be numbered, with a window that reaches
 -- as far back as the question does
@@ -61,7 +61,7 @@ module _ (c : Case) (asked : Asked c) (p : ℕ) (within : p ≤ steps (joint_of 
       (omega (arith, window.points, points)) _ asked.question t
       (mod-lt (n / ways_of (with_run c (rest_of c.run p))) window.some_window)
       (omega (arith, window.few_window, few)) in
-      rw (here, there) (ap (λ x. answer_of Sound x text_room) same-tree)
+      rw (here, there) (ap (λ x. answer_of (Ok tt) x text_room) same-tree)
 
   same_text : text_at c p n ≡ text_at w (length w.run / 3) t
   unfolding text_at

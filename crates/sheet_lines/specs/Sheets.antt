@@ -1,33 +1,22 @@
 -- The sheet: document 01, "The casebook". A sheet is a list of lines, each as bytes.
 -- The verdicts, the quotient and its number are those that the calls of verdict and quotient promise.
-use Rattle.std.specs.Prelude.{ℕ, zero, suc, ◌-◌, Bool, false, cond, List, [], ◌∷◌, ◌++◌, length, take, drop, leb, ltb}
+use Rattle.std.specs.Prelude.{ℕ, zero, suc, ◌-◌, Bool, true, false, false, cond, List, [], ◌∷◌, ◌++◌, length, take, drop, leb, ltb, Err, Ok, Result}
 use Rattle.hml.specs.Lists.{each}
 use Rattle.hml.specs.System.{steps}
-use Rattle.labels.specs.Refusals.{number_of, refused_if, output_of, Answer, refused_as, giving}
+use Rattle.labels.specs.Refusals.{number_of, refused_if, output_of, Answer, refused_as, giving, Check}
 use Rattle.labels.specs.declared.refusal.Refusal.{Refusal}
 use Rattle.labels.specs.declared.refusal.Refusal.TheVariants.{OutputTooShort}
-use Rattle.labels.specs.declared.refusal.Check.{Check}
-use Rattle.labels.specs.declared.refusal.Check.TheVariants as check
 use Rattle.halves.specs.declared.side.Side.TheVariants as side
 use Rattle.machines.specs.Cases.{Case}
 use Rattle.machines.specs.Joints.{joint_of}
 use Rattle.casebook.specs.Reading.{read_of, case_of}
-use Rattle.casebook.specs.declared.read.Reading.{Reading}
-use Rattle.casebook.specs.declared.read.Reading.TheVariants as reading
 use Rattle.verdict.specs.Verdicts.{joint_verdict, half_verdict}
-use Rattle.verdict.specs.declared.answer.Verdict.{Verdict}
-use Rattle.verdict.specs.declared.answer.Verdict.TheVariants as verdict
 use Rattle.splitting.specs.Splittings.{left_half, count_of}
-use Rattle.splitting.specs.declared.count.Counted.{Counted}
-use Rattle.splitting.specs.declared.count.Counted.TheVariants as count
 use Rattle.dividing.specs.Quotients.{text_of}
-use Rattle.dividing.specs.declared.divide.Quotient.{Quotient}
-use Rattle.dividing.specs.declared.divide.Quotient.TheVariants as quotient
 use Rattle.quotient.specs.Calls.{tree_by_number, by_number}
 use Rattle.digits.specs.Digits.{decimal, hexadecimal}
 use Rattle.sheet_lines.specs.declared.lines.Block.{Block}
-use Rattle.sheet_lines.specs.declared.lines.Lines.{Lines}
-use Rattle.sheet_lines.specs.declared.lines.Lines.TheVariants as answer
+use Rattle.casebook.specs.declared.read.Parts.{Parts}
 
 -- a blank, a line feed, and the mark of a last field that a refusal leaves out
 abbrev pub blank : ℕ
@@ -40,16 +29,16 @@ abbrev pub dash : ℕ
 dash = 45
 
 -- a verdict as a letter: "T or F". A refused one has no letter; no line of a casebook that was read shows it
-unfoldable pub letter_of : Verdict → ℕ
-letter_of verdict.Holds = 84
-letter_of verdict.Fails = 70
-letter_of (verdict.Refused x) = dash
+unfoldable pub letter_of : Result Bool Refusal → ℕ
+letter_of (Ok true) = 84
+letter_of (Ok false) = 70
+letter_of (Err x) = dash
 
 -- the two last fields and the line feed, from what the quotient's call answers, the quotient's bytes and the last
 -- verdict's letter: "If refused, the quotient shows as 17 and the last field as -"
-unfoldable pub ending_of : Quotient → List ℕ → ℕ → List ℕ
-ending_of (quotient.Written n) text letter = hexadecimal text ++ (blank ∷ letter ∷ line_feed ∷ [])
-ending_of (quotient.Refused x) text letter = decimal (number_of x) ++ (blank ∷ dash ∷ line_feed ∷ [])
+unfoldable pub ending_of : Result ℕ Refusal → List ℕ → ℕ → List ℕ
+ending_of (Ok n) text letter = hexadecimal text ++ (blank ∷ letter ∷ line_feed ∷ [])
+ending_of (Err x) text letter = decimal (number_of x) ++ (blank ∷ dash ∷ line_feed ∷ [])
 
 -- the three first fields, each with the blank behind it
 unfoldable pub head_of : ℕ → ℕ → ℕ → List ℕ
@@ -60,7 +49,7 @@ abbrev pub text_room : ℕ
 text_room = 8192
 
 -- the quotient of the question by the right half of a splitting, at a point: what its call answers, and its bytes
-unfoldable pub quotient_at : Case → ℕ → ℕ → Quotient
+unfoldable pub quotient_at : Case → ℕ → ℕ → Result ℕ Refusal
 quotient_at c point n = by_number c n side.Right point text_room
 
 unfoldable pub text_at : Case → ℕ → ℕ → List ℕ
@@ -90,16 +79,16 @@ lines_of c count =
 unfoldable pub refused_line : Refusal → List ℕ
 refused_line x = 82 ∷ blank ∷ (decimal (number_of x) ++ (line_feed ∷ []))
 
-unfoldable pub counted_lines : Counted → (ℕ → List (List ℕ)) → List (List ℕ)
-counted_lines (count.Splittings n) g = g n
-counted_lines (count.Refused x) g = refused_line x ∷ []
+unfoldable pub counted_lines : Result ℕ Refusal → (ℕ → List (List ℕ)) → List (List ℕ)
+counted_lines (Ok n) g = g n
+counted_lines (Err x) g = refused_line x ∷ []
 
 unfoldable pub case_lines : Case → List (List ℕ)
 case_lines c = counted_lines (count_of c.labels c.left c.right c.run) (lines_of c)
 
-unfoldable pub read_lines : List ℕ → Reading → List (List ℕ)
-read_lines s (reading.Casebook p) = case_lines (case_of s p)
-read_lines s (reading.Refused x) = refused_line x ∷ []
+unfoldable pub read_lines : List ℕ → Result Parts Refusal → List (List ℕ)
+read_lines s (Ok p) = case_lines (case_of s p)
+read_lines s (Err x) = refused_line x ∷ []
 
 -- the sheet of any bytes
 unfoldable pub sheet_of : List ℕ → List (List ℕ)
@@ -132,17 +121,17 @@ unfoldable pub block_of : List (List ℕ) → Block
 block_of block = record { lines = length block; bytes = length (bytes_of block) }
 
 -- the answer; and the lent output afterwards
-unfoldable pub written_or : Check → List (List ℕ) → Lines
-written_or check.Sound block = answer.Written (block_of block)
-written_or (check.Refused x) block = answer.Refused x
+unfoldable pub written_or : Check → List (List ℕ) → Result Block Refusal
+written_or (Ok _) block = Ok (block_of block)
+written_or (Err x) block = Err x
 
-unfoldable pub block_answer : List (List ℕ) → ℕ → Lines
+unfoldable pub block_answer : List (List ℕ) → ℕ → Result Block Refusal
 block_answer due room = written_or (check_room due room) (fitting room due)
 
 unfoldable pub block_output : List (List ℕ) → List ℕ → List ℕ
 block_output due out = output_of (check_room due (length out)) (bytes_of (fitting (length out) due)) out
 
 -- the number of a call for lines, and its values: how many lines were written, and how many bytes they are
-unfoldable pub lines_answer : Lines → Answer
-lines_answer (answer.Written b) = giving (b.lines ∷ b.bytes ∷ [])
-lines_answer (answer.Refused x) = refused_as x
+unfoldable pub lines_answer : Result Block Refusal → Answer
+lines_answer (Ok b) = giving (b.lines ∷ b.bytes ∷ [])
+lines_answer (Err x) = refused_as x

@@ -1,25 +1,26 @@
 -- How the code works: what functions ask for and promise that serve others. No call's promise cites this file.
-use Rattle.std.specs.Prelude.{ℕ, ◌+◌, ◌-◌, ◌*◌, ◌/◌, ◌%◌, ◌≤◌, ◌<◌, ◌≡◌, ◌⊎◌, cond, List, ◌++◌, length, get_or, take, drop, set, ltb, eqb}
-use Rattle.std.proofs.Math.Option.{Option}
+use Rattle.std.specs.Prelude.{ℕ, ◌+◌, ◌-◌, ◌*◌, ◌/◌, ◌%◌, ◌≤◌, ◌<◌, ◌≡◌, ◌⊎◌, cond, List, ◌++◌, length, get_or, take, drop, set, ltb, eqb, Ok, Option, Result}
+use Rattle.std.specs.Result.{result_unwrap_or}
 unfoldable pub use Rattle.digits.specs.Outputs.{put_at}
 use Rattle.hml.specs.Formula.{Formula}
-use Rattle.labels.specs.Refusals.{in_front}
-use Rattle.labels.specs.declared.refusal.Check.{Check}
-use Rattle.labels.specs.declared.refusal.Check.TheVariants.{Sound}
+use Rattle.labels.specs.Refusals.{Check}
 use Rattle.halves.specs.declared.side.Side.TheVariants as side
 use Rattle.machines.specs.Cases.{Case, with_run}
 use Rattle.formulas.specs.Formulas.{question_limit, check_formula}
 use Rattle.verdict.specs.Verdicts.{joint_verdict}
 use Rattle.splitting.specs.Splittings.{splittings_of, splitting_limit, check_log, count_of, right_half}
-use Rattle.splitting.specs.declared.count.Counted.{Counted}
-use Rattle.splitting.specs.declared.count.Counted.TheVariants as count
-use Rattle.dividing.specs.declared.divide.Quotient.{Quotient}
 use Rattle.quotient.specs.Calls.{tree_by_number, check_by_number, by_number, by_number_output}
 use Rattle.sheet_lines.specs.declared.point.Point.{Point}
 use Rattle.sheet_lines.specs.declared.kept.Kept.{Kept}
-use Rattle.sheet_lines.specs.declared.lines.Fitted.{Fitted}
+use Rattle.sheet_lines.specs.declared.case.Case as held
+use Rattle.casebook.specs.Reading.{case_of}
 use Rattle.sheet_lines.specs.Sheets.{letter_of, ending_of, head_of, line_of, quotient_at, text_at, listed}
-use Rattle.sheet_lines.specs.Sheets.{bytes_of, fitting, first_too_long}
+use Rattle.sheet_lines.specs.Sheets.{bytes_of, fitting}
+use Rattle.labels.specs.declared.refusal.Refusal.{Refusal}
+
+-- the case that a case's bytes show
+abbrev pub shown : held.Case → Case
+shown c = case_of c.bytes.now c.parts
 
 -- lines i to j are written behind a place, where an output xs begins, and those up to `end` are due: the output is ys
 -- now, and the next line's place is `at`
@@ -46,7 +47,7 @@ log_check c = check_log c.labels c.left c.right c.run
 abbrev pub ways_of : Case → ℕ
 ways_of c = length (splittings_of c.labels c.left c.right c.run)
 
-abbrev pub count_in : Case → Counted
+abbrev pub count_in : Case → Result ℕ Refusal
 count_in c = count_of c.labels c.left c.right c.run
 
 abbrev pub half_in : Case → ℕ → List ℕ
@@ -64,14 +65,14 @@ check_at c point n = check_by_number c n point
 abbrev pub tree_at : Case → ℕ → ℕ → Option Formula
 tree_at c point n = tree_by_number c n side.Right point
 
-abbrev pub answer_at : Case → ℕ → ℕ → ℕ → Quotient
+abbrev pub answer_at : Case → ℕ → ℕ → ℕ → Result ℕ Refusal
 answer_at c point n room = by_number c n side.Right point room
 
 abbrev pub output_at : Case → ℕ → ℕ → List ℕ → List ℕ
 output_at c point n out = by_number_output c n side.Right point out
 
 -- and at the end of its run, for splitting t
-abbrev pub quotient_in : Case → ℕ → ℕ → Quotient
+abbrev pub quotient_in : Case → ℕ → ℕ → Result ℕ Refusal
 quotient_in c t room = answer_at c (length c.run / 3) t room
 
 abbrev pub output_in : Case → ℕ → List ℕ → List ℕ
@@ -79,13 +80,13 @@ output_in c t out = output_at c (length c.run / 3) t out
 
 -- a case whose log no check refuses, and whose splittings can be numbered
 pub record Splits (c : Case) : Type 0 where
-  pub log : log_check c ≡ Sound
+  pub log : log_check c ≡ Ok tt
   pub few : ways_of c ≤ splitting_limit
 
 -- a case of which no check refuses the log or the question
 pub record Asked (c : Case) : Type 0 where
-  pub log : log_check c ≡ Sound
-  pub question : check_formula c.labels question_limit c.question ≡ Sound
+  pub log : log_check c ≡ Ok tt
+  pub question : check_formula c.labels question_limit c.question ≡ Ok tt
 
 -- and the number of its splittings
 pub record Numbered (c : Case) (count : ℕ) : Type 0 where
@@ -151,9 +152,8 @@ unfoldable pub ends_after : List ℕ → ℕ → ℕ → ℕ → List ℕ
 ends_after ends t at to = cond (eqb to at) ends (cond (ltb t 8192) (set ends t to) ends)
 
 -- how many splittings are counted; 1 where the count is refused
-unfoldable pub counted_as : Counted → ℕ
-counted_as (count.Splittings n) = n
-counted_as (count.Refused x) = 1
+unfoldable pub counted_as : Result ℕ Refusal → ℕ
+counted_as counted = result_unwrap_or counted 1
 
 -- the first n entries are 0
 unfoldable pub Forgotten : List ℕ → ℕ → Type 0
@@ -204,16 +204,3 @@ pub record Shared (w : Case) (p : Point) (halves : List ℕ) : Type 0 where
   pub counted : p.ways ≡ ways_of w
   pub few : ways_of w ≤ splitting_limit
   pub halved : Halved w p.kept halves
-
--- lines that are due, as far as they fit into so many bytes, and whether the first of them is longer; the output
--- afterwards
-unfoldable pub fitted_of : List (List ℕ) → ℕ → Fitted
-fitted_of due room =
-    record {
-      lines = length (fitting room due);
-      bytes = length (bytes_of (fitting room due));
-      short = first_too_long room due;
-    }
-
-unfoldable pub fitted_output : List (List ℕ) → List ℕ → List ℕ
-fitted_output due out = in_front (bytes_of (fitting (length out) due)) out

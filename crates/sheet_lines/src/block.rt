@@ -4,7 +4,7 @@ ghost use Rattle.labels.specs.Refusals.{in_front};
 ghost use Rattle.sheet_lines.specs.Sheets.{bytes_of, block_of};
 ghost use Rattle.sheet_lines.specs.Blocks.{block_from};
 
-use crate::lines::{Block, fit_lines};
+use crate::lines::{Block, write_lines};
 
 // Writes the block of the sheet of any bytes that begins with line `first`. It has no line only if none is left, for a
 // line always fits. No sheet has over 13,172,535 lines: 201 points, and 65,535 splittings.
@@ -13,9 +13,5 @@ pub fn write_block(casebook: &[u8], first: usize, out: &mut [u8; 3145728]) -> Bl
     ensures out_after { out.new
         ≡ in_front (bytes_of (block_from casebook.now first)) out.old }
 {
-    let fitted = fit_lines(casebook, first, 13172535, out);
-    Block {
-        lines: fitted.lines,
-        bytes: fitted.bytes,
-    }
+    write_lines(casebook, first, 13172535, out).unwrap_or(Block::EMPTY)
 }

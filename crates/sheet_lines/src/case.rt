@@ -1,59 +1,83 @@
 // A case as the bytes of a casebook show it: the count of its splittings, and parts of its run.
 ghost use Rattle.std.specs.Prelude.{◌≡◌, ◌+◌, ◌*◌, ◌/◌, ◌≤◌, length};
-ghost use Rattle.casebook.specs.Reading.{case_of};
-ghost use Rattle.sheet_lines.specs.Working.{count_in, counted_as, between};
+ghost use Rattle.sheet_lines.specs.Working.{shown, count_in, counted_as, between};
 
 use casebook::read::Parts;
+use labels::label::Labels;
+use labels::refusal::Refusal;
 use records::record::Record;
-use splitting::count::{Counted, count};
+use splitting::count::count;
 
-// How many splittings its log has, or why they are not counted.
-pub(crate) fn count_of(casebook: &[u8], parts: Parts) -> Counted
-    ensures { result ≡ count_in (case_of casebook.now parts) }
-{
-    let labels = parts.labels(casebook);
-    let left = parts.left;
-    let right = parts.right;
-    let run = parts.run;
-    count(
-        labels,
-        left.body(casebook),
-        right.body(casebook),
-        run.body(casebook),
-    )
+// The bytes of a casebook, and where the parts of a case lie in them.
+#[derive(Clone, Copy)]
+pub(crate) struct Case<'a> {
+    pub bytes: &'a [u8],
+    pub parts: Parts,
 }
 
-// The same as a number; 1 where the count is refused.
-pub(crate) fn splittings_of(casebook: &[u8], parts: Parts) -> usize
-    ensures { result ≡ counted_as (count_in (case_of casebook.now parts)) }
-{
-    match count_of(casebook, parts) {
-        Counted::Splittings(n) => n,
-        Counted::Refused(_) => 1,
+impl<'a> Case<'a> {
+    pub(crate) fn labels(self) -> Labels
+        ensures { result ≡ (shown self.entry).labels }
+    {
+        self.parts.labels(self.bytes)
     }
-}
 
-// The steps of its log; it has a point more.
-pub(crate) fn steps_of(casebook: &[u8], parts: Parts) -> usize
-    ensures { result ≡ length (case_of casebook.now parts).run / 3 }
-{
-    let run = parts.run;
-    run.body(casebook).len() / 3
-}
+    pub(crate) fn left(self) -> &'a [u8]
+        ensures { result.now ≡ (shown self.entry).left }
+    {
+        self.parts.left.body(self.bytes)
+    }
 
-// The case whose run is that from one point to another: in the bytes a state pair stands in front of each step. The
-// casebook is there for the promise, which is about its bytes.
-pub(crate) fn part_of(casebook: &[u8], parts: Parts, from: usize, to: usize) -> Parts
-    requires { (from ≤ to) × (3 * to + 2 ≤ length (case_of casebook.now parts).run) }
-    ensures { case_of casebook.now result ≡ between (case_of casebook.now parts) from to }
-{
-    let whole = parts.run;
-    let run = Record {
-        kind: whole.kind,
-        start: whole.start + 3 * from,
-        len: 3 * (to - from) + 2,
-    };
-    let mut part = parts;
-    part.run = run;
-    part
+    pub(crate) fn right(self) -> &'a [u8]
+        ensures { result.now ≡ (shown self.entry).right }
+    {
+        self.parts.right.body(self.bytes)
+    }
+
+    pub(crate) fn run(self) -> &'a [u8]
+        ensures { result.now ≡ (shown self.entry).run }
+    {
+        self.parts.run.body(self.bytes)
+    }
+
+    pub(crate) fn question(self) -> &'a [u8]
+        ensures { result.now ≡ (shown self.entry).question }
+    {
+        self.parts.question.body(self.bytes)
+    }
+
+    // How many splittings its log has, or why they are not counted.
+    pub(crate) fn count(self) -> Result<usize, Refusal>
+        ensures { result ≡ count_in (shown self.entry) }
+    {
+        count(self.labels(), self.left(), self.right(), self.run())
+    }
+
+    // The same as a number; 1 where the count is refused.
+    pub(crate) fn splittings(self) -> usize
+        ensures { result ≡ counted_as (count_in (shown self.entry)) }
+    {
+        self.count().unwrap_or(1)
+    }
+
+    // The steps of its log; it has a point more.
+    pub(crate) fn steps(self) -> usize
+        ensures { result ≡ length (shown self.entry).run / 3 }
+    {
+        self.run().len() / 3
+    }
+
+    // The case whose run is that from one point to another: in the bytes a state pair stands in front of each step.
+    pub(crate) fn part(self, from: usize, to: usize) -> Case<'a>
+        requires { (from ≤ to) × (3 * to + 2 ≤ length (shown self).run) }
+        ensures { shown result ≡ between (shown self.entry) from to }
+    {
+        let run = Record {
+            start: self.parts.run.start + 3 * from,
+            len: 3 * (to - from) + 2,
+            ..self.parts.run
+        };
+        let parts = Parts { run, ..self.parts };
+        Case { parts, ..self }
+    }
 }

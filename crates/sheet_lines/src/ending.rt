@@ -1,24 +1,21 @@
 // The two last fields of a line: the quotient by the right half, and the left half's verdict.
 ghost use Rattle.std.specs.Prelude.{◌≡◌, [], ◌∷◌, ◌++◌, ◌+◌, ◌*◌, ◌≤◌, ◌<◌, length, take};
 ghost use Rattle.labels.specs.Refusals.{number_of};
-ghost use Rattle.casebook.specs.Reading.{case_of};
 ghost use Rattle.splitting.specs.Splittings.{splitting_limit};
 ghost use Rattle.digits.specs.Digits.{decimal, hexadecimal};
 ghost use Rattle.sheet_lines.specs.Sheets.{blank, dash, line_feed};
-ghost use Rattle.sheet_lines.specs.Working.{put_at, ways_of, ending_in, Asked, Halved};
+ghost use Rattle.sheet_lines.specs.Working.{shown, put_at, ways_of, ending_in, Asked, Halved};
 
+use crate::case::Case;
 use crate::kept::{Kept, quotient_text};
-use casebook::read::Parts;
 use digits::decimal::put_decimal;
 use digits::hexadecimal::put_hexadecimal;
-use dividing::divide::Quotient;
 use labels::refusal::Refusal;
 
 // Writes the ending of the lines by splitting t of a window, at its end, to the front of `ending`, and gives its
 // length.
 pub(crate) fn find_ending(
-    casebook: &[u8],
-    window: Parts,
+    window: Case,
     t: usize,
     kept: Kept,
     halves: &[u8],
@@ -26,17 +23,17 @@ pub(crate) fn find_ending(
     text: &mut [u8],
     ending: &mut [u8],
 ) -> usize
-    requires asked { Asked (case_of casebook.now window) × (t < ways_of (case_of casebook.now window))
-        × (ways_of (case_of casebook.now window) ≤ splitting_limit) }
-    requires halved { Halved (case_of casebook.now window) kept halves.now × (length text.old ≡ 8192) }
+    requires asked { Asked (shown window) × (t < ways_of (shown window))
+        × (ways_of (shown window) ≤ splitting_limit) }
+    requires halved { Halved (shown window) kept halves.now × (length text.old ≡ 8192) }
     requires ending_len { length ending.old ≡ 16387 }
-    ensures value { result ≡ length (ending_in (case_of casebook.now window) letter t) }
-    ensures ending_after { take result ending.new ≡ ending_in (case_of casebook.now window) letter t }
+    ensures value { result ≡ length (ending_in (shown window.entry) letter t) }
+    ensures ending_after { take result ending.new ≡ ending_in (shown window.entry) letter t }
     ensures upper_bound { result ≤ 16387 }
 {
-    match quotient_text(casebook, window, t, kept, halves, text) {
-        Quotient::Written(n) => put_fields(&text[..n], letter, ending),
-        Quotient::Refused(refusal) => put_refusal(refusal, ending),
+    match quotient_text(window, t, kept, halves, text) {
+        Ok(n) => put_fields(&text[..n], letter, ending),
+        Err(refusal) => put_refusal(refusal, ending),
     }
 }
 

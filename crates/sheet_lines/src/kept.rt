@@ -1,16 +1,15 @@
 // The right halves of the splittings of a window's two parts, kept in a table: from them the half of each splitting of
 // the window is put together.
 ghost use Rattle.std.specs.Prelude.{◌≡◌, ◌++◌, ◌+◌, ◌*◌, ◌/◌, ◌%◌, ◌≤◌, ◌<◌, length, take, drop};
-ghost use Rattle.casebook.specs.Reading.{case_of};
 ghost use Rattle.splitting.specs.Splittings.{splitting_limit};
-ghost use Rattle.sheet_lines.specs.Working.{put_at, ways_of, half_in, quotient_in, output_in, Splits, Asked};
+ghost use Rattle.sheet_lines.specs.Working.{shown, put_at, ways_of, half_in, quotient_in, output_in, Splits, Asked};
 ghost use Rattle.sheet_lines.specs.Working.{HalvesAt, Halved};
 
-use crate::case::{part_of, splittings_of, steps_of};
-use casebook::read::Parts;
-use dividing::divide::{Quotient, divide};
+use crate::case::Case;
+use dividing::divide::divide;
 use halves::side::Side;
 use labels::copying::copy;
+use labels::refusal::Refusal;
 use quotient::number::by_number;
 use splitting::split::split;
 
@@ -25,9 +24,9 @@ pub(crate) struct Kept {
 
 // Keeps the halves of both parts of a window, at most 256 each, if the window has so many splittings that it is worth
 // it.
-pub(crate) fn keep_halves(casebook: &[u8], window: Parts, ways: usize, halves: &mut [u8]) -> Kept
-    requires { Splits (case_of casebook.now window) × (length halves.old ≡ 205312) }
-    ensures { Halved (case_of casebook.now window) result halves.new }
+pub(crate) fn keep_halves(window: Case, ways: usize, halves: &mut [u8]) -> Kept
+    requires { Splits (shown window) × (length halves.old ≡ 205312) }
+    ensures { Halved (shown window.entry) result halves.new }
 {
     let none = Kept {
         older: 0,
@@ -37,20 +36,20 @@ pub(crate) fn keep_halves(casebook: &[u8], window: Parts, ways: usize, halves: &
     if ways < 64 {
         return none;
     }
-    let steps = steps_of(casebook, window);
-    let mid = middle(casebook, window, steps, ways);
-    let older = part_of(casebook, window, 0, mid);
-    let newer = part_of(casebook, window, mid, steps);
-    let older_ways = splittings_of(casebook, older);
-    let newer_ways = splittings_of(casebook, newer);
+    let steps = window.steps();
+    let mid = middle(window, steps, ways);
+    let older = window.part(0, mid);
+    let newer = window.part(mid, steps);
+    let older_ways = older.splittings();
+    let newer_ways = newer.splittings();
     if 256 < older_ways {
         return none;
     }
     if 256 < newer_ways {
         return none;
     }
-    list_halves(casebook, older, older_ways, 0, halves);
-    list_halves(casebook, newer, newer_ways, 256, halves);
+    list_halves(older, older_ways, 0, halves);
+    list_halves(newer, newer_ways, 256, halves);
     Kept {
         older: mid,
         newer: steps - mid,
@@ -59,15 +58,16 @@ pub(crate) fn keep_halves(casebook: &[u8], window: Parts, ways: usize, halves: &
 }
 
 // Where to cut a window: its newer part has about as many splittings as the older one. Any place would do.
-fn middle(casebook: &[u8], window: Parts, steps: usize, ways: usize) -> usize
-    requires { 3 * steps + 2 ≤ length (case_of casebook.now window).run }
+fn middle(window: Case, steps: usize, ways: usize) -> usize
+    requires { 3 * steps + 2 ≤ length (shown window).run }
     ensures within { result ≤ steps }
 {
+    // Halved by hand: std's `partition_point` is for slices, and a place's splittings are counted, not listed.
     let mut low: usize = 0;
     let mut high = steps;
     while low < high {
         let mid = low + (high - low) / 2;
-        let newer = splittings_of(casebook, part_of(casebook, window, mid, steps));
+        let newer = window.part(mid, steps).splittings();
         if newer * newer <= ways {
             high = mid;
         } else {
@@ -79,36 +79,32 @@ fn middle(casebook: &[u8], window: Parts, steps: usize, ways: usize) -> usize
 
 // Writes the right halves of the first n splittings of a case to the table, from the place `first` on. What stands in
 // front of it is kept.
-fn list_halves(casebook: &[u8], parts: Parts, n: usize, first: usize, halves: &mut [u8])
-    requires splits { Splits (case_of casebook.now parts) × (n ≤ ways_of (case_of casebook.now parts)) }
+fn list_halves(case: Case, n: usize, first: usize, halves: &mut [u8])
+    requires splits { Splits (shown case) × (n ≤ ways_of (shown case)) }
     requires n_bound { (n ≤ 256) × (first ≤ 256) × (length halves.old ≡ 205312) }
-    ensures halves_at { HalvesAt (case_of casebook.now parts) halves.new first n }
+    ensures halves_at { HalvesAt (shown case.entry) halves.new first n }
     ensures halves_unchanged { take (401 * first) halves.new ≡ take (401 * first) halves.old }
 {
-    let mut i: usize = 0;
-    while i < n {
-        list_half(casebook, parts, i, first + i, halves);
-        i += 1;
+    for i in 0..n {
+        list_half(case, i, first + i, halves);
     }
 }
 
 // Writes the right half of splitting i of a case to a place of the table.
-fn list_half(casebook: &[u8], parts: Parts, i: usize, place: usize, halves: &mut [u8])
-    requires splits { Splits (case_of casebook.now parts) × (i < ways_of (case_of casebook.now parts)) }
+fn list_half(case: Case, i: usize, place: usize, halves: &mut [u8])
+    requires splits { Splits (shown case) × (i < ways_of (shown case)) }
     requires place_bound { (place < 512) × (length halves.old ≡ 205312) }
     ensures { halves.new
-        ≡ put_at halves.old (401 * place) (half_in (case_of casebook.now parts) i) }
+        ≡ put_at halves.old (401 * place) (half_in (shown case.entry) i) }
 {
-    let labels = parts.labels(casebook);
-    let left = parts.left;
-    let right = parts.right;
-    let run = parts.run;
+    let labels = case.labels();
     let mut spare = [0u8; 401];
-    split(
+    // The halves have room, and there are more splittings than i, so nothing is refused.
+    let _ = split(
         labels,
-        left.body(casebook),
-        right.body(casebook),
-        run.body(casebook),
+        case.left(),
+        case.right(),
+        case.run(),
         i,
         &mut spare,
         &mut halves[401 * place..],
@@ -118,33 +114,28 @@ fn list_half(casebook: &[u8], parts: Parts, i: usize, place: usize, halves: &mut
 // Writes the quotient by the right half of splitting t of a window, at the window's end: with the halves that are kept,
 // or as the public call does.
 pub(crate) fn quotient_text(
-    casebook: &[u8],
-    parts: Parts,
+    case: Case,
     t: usize,
     kept: Kept,
     halves: &[u8],
     text: &mut [u8],
-) -> Quotient
-    requires asked { Asked (case_of casebook.now parts) × (t < ways_of (case_of casebook.now parts))
-        × (ways_of (case_of casebook.now parts) ≤ splitting_limit) }
-    requires halved { Halved (case_of casebook.now parts) kept halves.now × (length text.old ≡ 8192) }
-    ensures value { result ≡ quotient_in (case_of casebook.now parts) t (length text.old) }
-    ensures text_after { text.new ≡ output_in (case_of casebook.now parts) t text.old }
+) -> Result<usize, Refusal>
+    requires asked { Asked (shown case) × (t < ways_of (shown case))
+        × (ways_of (shown case) ≤ splitting_limit) }
+    requires halved { Halved (shown case) kept halves.now × (length text.old ≡ 8192) }
+    ensures value { result ≡ quotient_in (shown case.entry) t (length text.old) }
+    ensures text_after { text.new ≡ output_in (shown case.entry) t text.old }
 {
-    let labels = parts.labels(casebook);
-    let left = parts.left;
-    let right = parts.right;
-    let run = parts.run;
-    let question = parts.question;
-    let window = run.body(casebook);
+    let labels = case.labels();
+    let window = case.run();
     let points = window.len() / 3;
     if kept.ways == 0 {
         return by_number(
             labels,
-            left.body(casebook),
-            right.body(casebook),
+            case.left(),
+            case.right(),
             window,
-            question.body(casebook),
+            case.question(),
             t,
             Side::Right,
             points,
@@ -153,13 +144,7 @@ pub(crate) fn quotient_text(
     }
     let mut half = [0u8; 401];
     let len = put_half(t, kept, halves, &mut half);
-    divide(
-        labels,
-        right.body(casebook),
-        &half[..len],
-        question.body(casebook),
-        text,
-    )
+    divide(labels, case.right(), &half[..len], case.question(), text)
 }
 
 // Puts the right half of splitting t of a window together, and gives its length: the half of the older part, then the

@@ -6,7 +6,6 @@ ghost use Rattle.sheet_lines.specs.Working.{put_at, line_with, digit_line, Full,
 use crate::point::{Point, Progress};
 use digits::decimal::{digit_count, put_decimal};
 use labels::copying::copy;
-use labels::number::smaller;
 
 // Writes the lines of the splittings from `number` on, and not that of `until`, behind a place, as many as fit. They
 // end with the `len` bytes that `line` has behind its first 12, and those are room for the fields in front.
@@ -26,10 +25,11 @@ pub(crate) fn write_turn(
         (listed (line_with point (take len (drop 12 line.old))) number (until - number))) out.old
         at number out.new result.at result.number }
 {
+    // From ten to ten: the first may be cut short, and where lines no longer fit it ends.
     let mut i = number;
     let mut to = at;
     while i < until {
-        let end = smaller(until, i - i % 10 + 10);
+        let end = until.min(i - i % 10 + 10);
         let done = write_tens(point, i, end, len, to, out, line);
         i = done.number;
         to = done.at;
@@ -86,9 +86,8 @@ fn write_digits(
     let last = out.len() - line.len();
     let first = 48 + (number % 10) as u8;
     let end = first + (until - number) as u8;
-    let mut digit = first;
     let mut to = at;
-    while digit < end {
+    for digit in first..end {
         if last < to {
             return Progress {
                 number: number + (digit - first) as usize,
@@ -97,7 +96,6 @@ fn write_digits(
         }
         put_line(line, place, digit, to, out);
         to += line.len();
-        digit += 1;
     }
     Progress {
         number: until,

@@ -2,19 +2,16 @@
 ghost use Rattle.std.specs.Prelude.{◌≡◌, [], ◌∷◌, suc, ◌+◌, ◌*◌, ◌≤◌, length, take, drop};
 ghost use Rattle.hml.specs.System.{steps};
 ghost use Rattle.machines.specs.Joints.{joint_of};
-ghost use Rattle.casebook.specs.Reading.{case_of};
 ghost use Rattle.sheet_lines.specs.Sheets.{refused_line, case_lines, lines_due, listed, fitting, block_answer};
 ghost use Rattle.sheet_lines.specs.Sheets.{block_output};
-ghost use Rattle.sheet_lines.specs.Working.{put_at, Asked, Numbered, numbered_line, Full, fitted_of, fitted_output};
+ghost use Rattle.sheet_lines.specs.Working.{shown, put_at, Asked, Numbered, numbered_line, Full};
 
-use crate::case::{count_of, steps_of};
+use crate::case::Case;
 use crate::point::{Progress, write_point};
-use casebook::read::{Parts, Reading, read};
+use casebook::read::read;
 use digits::decimal::{digit_count, put_decimal};
 use formulas::backs::back_depth;
-use labels::number::smaller;
 use labels::refusal::Refusal;
-use splitting::count::Counted;
 
 // How many lines were written, and how many bytes they are.
 #[derive(Clone, Copy)]
@@ -23,143 +20,116 @@ pub struct Block {
     pub bytes: usize,
 }
 
-// What a call for lines gives.
-#[derive(Clone, Copy)]
-pub enum Lines {
-    Written(Block),
-    Refused(Refusal),
-}
-
-// The same for lines that may fit or not, and whether the output was too short for the first of them.
-#[derive(Clone, Copy)]
-pub(crate) struct Fitted {
-    pub lines: usize,
-    pub bytes: usize,
-    pub short: bool,
+impl Block {
+    // No line at all.
+    pub const EMPTY: Block = Block { lines: 0, bytes: 0 };
 }
 
 // Writes lines of the sheet of any bytes: from line `first` on, at most so many, and no more than fit. Where the first
 // line due does not fit, 18.
-pub fn write_lines(casebook: &[u8], first: usize, most: usize, out: &mut [u8]) -> Lines
+pub fn write_lines(
+    casebook: &[u8],
+    first: usize,
+    most: usize,
+    out: &mut [u8],
+) -> Result<Block, Refusal>
     ensures value { result ≡ block_answer (lines_due casebook.now first most) (length out.old) }
     ensures out_after { out.new ≡ block_output (lines_due casebook.now first most) out.old }
 {
-    let fitted = fit_lines(casebook, first, most, out);
-    if fitted.short {
-        return Lines::Refused(Refusal::OutputTooShort);
-    }
-    Lines::Written(Block {
-        lines: fitted.lines,
-        bytes: fitted.bytes,
-    })
-}
-
-// The same without a refusal: where the first line due does not fit, nothing is written.
-pub(crate) fn fit_lines(casebook: &[u8], first: usize, most: usize, out: &mut [u8]) -> Fitted
-    ensures value { result ≡ fitted_of (lines_due casebook.now first most) (length out.old) }
-    ensures out_after { out.new ≡ fitted_output (lines_due casebook.now first most) out.old }
-{
     match read(casebook) {
-        Reading::Casebook(parts) => fit_case(casebook, parts, first, most, out),
-        Reading::Refused(refusal) => fit_refused(refusal, first, most, out),
+        Ok(parts) => write_case(
+            Case {
+                bytes: casebook,
+                parts,
+            },
+            first,
+            most,
+            out,
+        ),
+        Err(refusal) => write_refused(refusal, first, most, out),
     }
 }
 
 // The lines of a case of which no check refuses the log or the question, unless the count does.
-fn fit_case(casebook: &[u8], parts: Parts, first: usize, most: usize, out: &mut [u8]) -> Fitted
-    requires { Asked (case_of casebook.now parts) }
-    ensures value { result ≡ fitted_of
-        (take most (drop first (case_lines (case_of casebook.now parts))))
+fn write_case(case: Case, first: usize, most: usize, out: &mut [u8]) -> Result<Block, Refusal>
+    requires { Asked (shown case) }
+    ensures value { result ≡ block_answer
+        (take most (drop first (case_lines (shown case.entry))))
         (length out.old) }
-    ensures out_after { out.new ≡ fitted_output
-        (take most (drop first (case_lines (case_of casebook.now parts))))
+    ensures out_after { out.new ≡ block_output
+        (take most (drop first (case_lines (shown case.entry))))
         out.old }
 {
-    match count_of(casebook, parts) {
-        Counted::Splittings(splittings) => {
-            let total = (steps_of(casebook, parts) + 1) * splittings;
+    match case.count() {
+        Ok(splittings) => {
+            let total = (case.steps() + 1) * splittings;
             if total <= first {
-                return Fitted {
-                    lines: 0,
-                    bytes: 0,
-                    short: false,
-                };
+                return Ok(Block::EMPTY);
             }
             if most == 0 {
-                return Fitted {
-                    lines: 0,
-                    bytes: 0,
-                    short: false,
-                };
+                return Ok(Block::EMPTY);
             }
-            let due = smaller(most, total - first);
-            fit_sheet(casebook, parts, splittings, first, due, out)
+            let due = most.min(total - first);
+            write_due(case, splittings, first, due, out)
         }
-        Counted::Refused(refusal) => fit_refused(refusal, first, most, out),
+        Err(refusal) => write_refused(refusal, first, most, out),
     }
 }
 
 // So many lines, from line `first` on, or as many of them as fit.
-fn fit_sheet(
-    casebook: &[u8],
-    parts: Parts,
+fn write_due(
+    case: Case,
     splittings: usize,
     first: usize,
     due: usize,
     out: &mut [u8],
-) -> Fitted
-    requires numbered { Numbered (case_of casebook.now parts) splittings }
-    requires le_due { (1 ≤ due) × (first + due ≤ suc (steps (joint_of (case_of casebook.now parts).run)) * splittings) }
-    ensures value { result ≡ fitted_of
-        (listed (numbered_line (case_of casebook.now parts) splittings) first due)
+) -> Result<Block, Refusal>
+    requires numbered { Numbered (shown case) splittings }
+    requires le_due { (1 ≤ due) × (first + due ≤ suc (steps (joint_of (shown case).run)) * splittings) }
+    ensures value { result ≡ block_answer
+        (listed (numbered_line (shown case.entry) splittings) first due)
         (length out.old) }
-    ensures out_after { out.new ≡ fitted_output
-        (listed (numbered_line (case_of casebook.now parts) splittings) first due)
+    ensures out_after { out.new ≡ block_output
+        (listed (numbered_line (shown case.entry) splittings) first due)
         out.old }
 {
-    let done = fill(casebook, parts, splittings, first, due, out);
+    let done = fill(case, splittings, first, due, out);
     let lines = done.number - first;
-    Fitted {
+    if lines == 0 {
+        return Err(Refusal::OutputTooShort);
+    }
+    Ok(Block {
         lines,
         bytes: done.at,
-        short: lines == 0,
-    }
+    })
 }
 
 // Fills an output with lines, point by point: line i is that of point i / splittings and of splitting i % splittings.
 // Gives the line that is due next, and how many bytes are written.
-fn fill(
-    casebook: &[u8],
-    parts: Parts,
-    splittings: usize,
-    first: usize,
-    due: usize,
-    out: &mut [u8],
-) -> Progress
-    requires numbered { Numbered (case_of casebook.now parts) splittings }
-    requires due_bound { first + due ≤ suc (steps (joint_of (case_of casebook.now parts).run)) * splittings }
+fn fill(case: Case, splittings: usize, first: usize, due: usize, out: &mut [u8]) -> Progress
+    requires numbered { Numbered (shown case) splittings }
+    requires due_bound { first + due ≤ suc (steps (joint_of (shown case).run)) * splittings }
     ensures { Full
         (fitting (length out.old)
-        (listed (numbered_line (case_of casebook.now parts) splittings) first due)) out.old 0 first
+        (listed (numbered_line (shown case.entry) splittings) first due)) out.old 0 first
         out.new result.at result.number }
 {
-    let question = parts.question;
-    let back = back_depth(question.body(casebook));
+    let back = back_depth(case.question());
     let mut froms = [0usize; 8192];
     let mut ends = [0usize; 8192];
     let mut halves = [0u8; 205312];
     let mut text = [0u8; 8192];
     let mut line = [0u8; 16399];
     let end = first + due;
+    // From point to point: the first and the last may be cut short.
     let mut i = first;
     let mut at: usize = 0;
     while i < end {
         let point = i / splittings;
         let number = i % splittings;
-        let until = smaller(splittings, number + (end - i));
+        let until = splittings.min(number + (end - i));
         let done = write_point(
-            casebook,
-            parts,
+            case,
             back,
             point,
             number,
@@ -182,39 +152,31 @@ fn fill(
 }
 
 // The line of a refused casebook or count, if it is among the lines asked for.
-fn fit_refused(refusal: Refusal, first: usize, most: usize, out: &mut [u8]) -> Fitted
-    ensures value { result ≡ fitted_of (take most (drop first (refused_line refusal ∷ []))) (length out.old) }
+fn write_refused(
+    refusal: Refusal,
+    first: usize,
+    most: usize,
+    out: &mut [u8],
+) -> Result<Block, Refusal>
+    ensures value { result ≡ block_answer (take most (drop first (refused_line refusal ∷ []))) (length out.old) }
     ensures out_after { out.new
-        ≡ fitted_output (take most (drop first (refused_line refusal ∷ []))) out.old }
+        ≡ block_output (take most (drop first (refused_line refusal ∷ []))) out.old }
 {
     if 0 < first {
-        return Fitted {
-            lines: 0,
-            bytes: 0,
-            short: false,
-        };
+        return Ok(Block::EMPTY);
     }
     if most == 0 {
-        return Fitted {
-            lines: 0,
-            bytes: 0,
-            short: false,
-        };
+        return Ok(Block::EMPTY);
     }
     let len = refused_length(refusal);
     if out.len() < len {
-        return Fitted {
-            lines: 0,
-            bytes: 0,
-            short: true,
-        };
+        return Err(Refusal::OutputTooShort);
     }
     put_refused(refusal, out);
-    Fitted {
+    Ok(Block {
         lines: 1,
         bytes: len,
-        short: false,
-    }
+    })
 }
 
 // How many bytes that line has.

@@ -2,22 +2,19 @@
 ghost use Rattle.std.specs.Prelude.{◌≡◌, ◌+◌, ◌-◌, ◌≤◌, ◌<◌, length, take, drop};
 ghost use Rattle.hml.specs.System.{steps};
 ghost use Rattle.machines.specs.Joints.{joint_of};
-ghost use Rattle.casebook.specs.Reading.{case_of};
 ghost use Rattle.splitting.specs.Splittings.{splitting_limit};
 ghost use Rattle.formulas.specs.Working.{backs_of};
 ghost use Rattle.sheet_lines.specs.Sheets.{letter_of, line_of, listed, fitting};
-ghost use Rattle.sheet_lines.specs.Working.{ways_of, count_in, letter_at, Asked, Full, counted_as, after_of};
+ghost use Rattle.sheet_lines.specs.Working.{shown, ways_of, count_in, letter_at, Asked, Full, counted_as, after_of};
 ghost use Rattle.sheet_lines.specs.Working.{Forgotten, Scratch, ending_in, line_by, EndingsKnown, Shared};
 ghost use Rattle.sheet_lines.specs.Working.{froms_after, ends_after};
 
-use crate::case::{part_of, splittings_of, steps_of};
+use crate::case::Case;
 use crate::ending::find_ending;
 use crate::kept::{Kept, keep_halves};
 use crate::line::write_turn;
-use casebook::read::Parts;
 use labels::copying::copy;
-use labels::number::smaller;
-use verdict::answer::Verdict;
+use labels::refusal::Refusal;
 use verdict::joint::joint;
 
 // What the lines of a point share: the point's number, the joint verdict's letter, how many splittings there are of its
@@ -42,8 +39,7 @@ pub(crate) struct Progress {
 // Writes the lines of a point from splitting `number` on, behind a place, as many as fit, and not that of splitting
 // `until`. The question looks back at most `back` steps.
 pub(crate) fn write_point(
-    casebook: &[u8],
-    parts: Parts,
+    case: Case,
     back: usize,
     point: usize,
     number: usize,
@@ -56,26 +52,26 @@ pub(crate) fn write_point(
     text: &mut [u8],
     line: &mut [u8],
 ) -> Progress
-    requires asked { Asked (case_of casebook.now parts) }
-    requires back_value { (back ≡ backs_of (case_of casebook.now parts).question)
-        × (point ≤ steps (joint_of (case_of casebook.now parts).run)) }
-    requires number_le_until { (number ≤ until) × (until ≤ ways_of (case_of casebook.now parts))
-        × (ways_of (case_of casebook.now parts) ≤ splitting_limit) }
+    requires asked { Asked (shown case) }
+    requires back_value { (back ≡ backs_of (shown case).question)
+        × (point ≤ steps (joint_of (shown case).run)) }
+    requires number_le_until { (number ≤ until) × (until ≤ ways_of (shown case))
+        × (ways_of (shown case) ≤ splitting_limit) }
     requires at_in_bounds { (at ≤ length out.old) × (length halves.old ≡ 205312)
         × Scratch froms.old ends.old text.old line.old }
     ensures full { Full
         (fitting (length out.old - at)
-        (listed (line_of (case_of casebook.now parts) point) number (until - number)))
+        (listed (line_of (shown case.entry) point) number (until - number)))
         out.old at number out.new result.at result.number }
     ensures scratch { Scratch froms.new ends.new text.new line.new }
 {
     let first = window_start(point, back);
-    let window = part_of(casebook, parts, first, point);
-    let rest = part_of(casebook, parts, point, steps_of(casebook, parts));
-    let letter = letter_at(casebook, parts, point);
-    let ways = splittings_of(casebook, window);
-    let after = splittings_after(casebook, rest, ways);
-    let kept = keep_halves(casebook, window, ways, halves);
+    let window = case.part(first, point);
+    let rest = case.part(point, case.steps());
+    let letter = letter_at(case, point);
+    let ways = window.splittings();
+    let after = splittings_after(rest, ways);
+    let kept = keep_halves(window, ways, halves);
     let shared = Point {
         number: point,
         letter,
@@ -85,15 +81,14 @@ pub(crate) fn write_point(
     };
     forget(ends, ways);
     write_numbers(
-        casebook, window, shared, number, until, at, out, froms, ends, halves, text, line,
+        window, shared, number, until, at, out, froms, ends, halves, text, line,
     )
 }
 
 // The same with what the lines of the point share: turn by turn, until a line does not fit. A turn has the splittings
 // that follow each other and have the same number t in the window, so that their lines end alike.
 fn write_numbers(
-    casebook: &[u8],
-    window: Parts,
+    window: Case,
     point: Point,
     number: usize,
     until: usize,
@@ -107,25 +102,24 @@ fn write_numbers(
 ) -> Progress
     requires number_bound { (point.number < 1000) × (number ≤ until) × (until ≤ 65536) × (at ≤ length out.old) }
     requires after_nonzero { (0 < point.after) × (0 < point.ways) × (point.after ≤ 65536) }
-    requires shared { Shared (case_of casebook.now window) point halves.now }
+    requires shared { Shared (shown window) point halves.now }
     requires scratch { Scratch froms.old ends.old text.old line.old }
-    requires endings_known { EndingsKnown (ending_in (case_of casebook.now window) point.letter) point.ways froms.old
+    requires endings_known { EndingsKnown (ending_in (shown window) point.letter) point.ways froms.old
         ends.old out.old at }
     ensures full { Full
         (fitting (length out.old - at)
-        (listed (line_by (case_of casebook.now window) point) number (until - number))) out.old at
+        (listed (line_by (shown window.entry) point) number (until - number))) out.old at
         number out.new result.at result.number }
     ensures scratch_2 { Scratch froms.new ends.new text.new line.new }
 {
     let after = point.after;
+    // From turn to turn: the first and the last may be cut short.
     let mut n = number;
     let mut to = at;
     while n < until {
         let t = n / after % point.ways;
-        let end = smaller(until, n + (after - n % after));
-        let len = take_ending(
-            casebook, window, point, t, to, out, froms, ends, halves, text, line,
-        );
+        let end = until.min(n + (after - n % after));
+        let len = take_ending(window, point, t, to, out, froms, ends, halves, text, line);
         let done = write_turn(point, n, end, len, to, out, line);
         remember(t, len, to, done.at, froms, ends);
         n = done.number;
@@ -140,8 +134,7 @@ fn write_numbers(
 // Puts the ending of the lines by splitting t of the window behind the first 12 bytes of `line`, and gives its length:
 // copied from the output in front of `at`, if it stands there, else made anew.
 fn take_ending(
-    casebook: &[u8],
-    window: Parts,
+    window: Case,
     point: Point,
     t: usize,
     at: usize,
@@ -153,14 +146,14 @@ fn take_ending(
     line: &mut [u8],
 ) -> usize
     requires t_lt_ways { (t < point.ways) × (at ≤ length out.now) }
-    requires shared { Shared (case_of casebook.now window) point halves.now }
+    requires shared { Shared (shown window) point halves.now }
     requires scratch { Scratch froms.now ends.now text.old line.old }
-    requires endings_known { EndingsKnown (ending_in (case_of casebook.now window) point.letter) point.ways froms.now
+    requires endings_known { EndingsKnown (ending_in (shown window) point.letter) point.ways froms.now
         ends.now out.now at }
     ensures value { result ≡ length
-        (ending_in (case_of casebook.now window) point.letter t) }
+        (ending_in (shown window.entry) point.letter t) }
     ensures line_after { take result (drop 12 line.new)
-        ≡ ending_in (case_of casebook.now window) point.letter t }
+        ≡ ending_in (shown window.entry) point.letter t }
     ensures upper_bound { result ≤ 16387 }
 {
     if t < 8192 {
@@ -171,7 +164,6 @@ fn take_ending(
         }
     }
     find_ending(
-        casebook,
         window,
         t,
         point.kept,
@@ -216,44 +208,40 @@ fn window_start(point: usize, back: usize) -> usize
 }
 
 // A verdict as a letter.
-fn letter_of(verdict: Verdict) -> u8
+fn letter_of(verdict: Result<bool, Refusal>) -> u8
     ensures { result ≡ letter_of verdict }
 {
     match verdict {
-        Verdict::Holds => b'T',
-        Verdict::Fails => b'F',
-        Verdict::Refused(_) => b'-',
+        Ok(true) => b'T',
+        Ok(false) => b'F',
+        Err(_) => b'-',
     }
 }
 
 // The letter of the joint verdict at a point.
-fn letter_at(casebook: &[u8], parts: Parts, point: usize) -> u8
-    ensures { result ≡ letter_at (case_of casebook.now parts) point }
+fn letter_at(case: Case, point: usize) -> u8
+    ensures { result ≡ letter_at (shown case.entry) point }
 {
-    let labels = parts.labels(casebook);
-    let left = parts.left;
-    let right = parts.right;
-    let run = parts.run;
-    let question = parts.question;
+    let labels = case.labels();
     letter_of(joint(
         labels,
-        left.body(casebook),
-        right.body(casebook),
-        run.body(casebook),
-        question.body(casebook),
+        case.left(),
+        case.right(),
+        case.run(),
+        case.question(),
         point,
     ))
 }
 
 // By how many splittings numbers are divided to find their number in the window: by those of the rest of the run. Where
 // the window has one splitting only, all numbers fall to it.
-fn splittings_after(casebook: &[u8], rest: Parts, ways: usize) -> usize
-    ensures { result ≡ after_of ways (counted_as (count_in (case_of casebook.now rest))) }
+fn splittings_after(rest: Case, ways: usize) -> usize
+    ensures { result ≡ after_of ways (counted_as (count_in (shown rest.entry))) }
 {
     if ways == 1 {
         return 65536;
     }
-    splittings_of(casebook, rest)
+    rest.splittings()
 }
 
 // No ending of an earlier point stands in the output any more.
@@ -262,10 +250,5 @@ fn forget(ends: &mut [usize; 8192], n: usize)
     ensures forgotten { Forgotten ends.new n }
     ensures ends_len { length ends.new ≡ 8192 }
 {
-    let count = smaller(n, 8192);
-    let mut i: usize = 0;
-    while i < count {
-        ends[i] = 0;
-        i += 1;
-    }
+    ends[..n.min(8192)].fill(0);
 }

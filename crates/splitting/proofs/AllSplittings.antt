@@ -4,7 +4,6 @@
 use Prim.Native.Nat.{ℕ, ◌≤◌, ◌<◌}
 use mathlib.Core.Path.{◌≡◌, refl, sym, ◌∙◌, ap}
 use mathlib.Core.List.{List}
-use mathlib.Core.Option.{some}
 use native.Mathlib.Omega.{arith}
 use lib.ListN.{length}
 use Rattle.hml.proofs.Tests.{tested-ℕ}
@@ -16,7 +15,6 @@ use Rattle.hml.specs.Split.{splits}
 use Rattle.hml.proofs.NewestSteps.{splits-some}
 use Rattle.labels.specs.Labels.{pairing}
 use Rattle.hml.specs.Lists.{same}
-use Rattle.labels.specs.declared.refusal.Check.TheVariants.{Sound}
 use Rattle.labels.specs.declared.label.Labels.{Labels}
 use Rattle.tables.specs.Tables.{table_of}
 use Rattle.halves.specs.Halves.{half_bytes, half_of}
@@ -24,19 +22,19 @@ use Rattle.machines.specs.Joints.{joint_of}
 use Rattle.splitting.specs.Splittings.{splittings_of, check_log, check_count, left_half, right_half, half_length}
 use Rattle.splitting.specs.Splittings.{count_of}
 use Rattle.joining.specs.Joinings.{join_of, join_bytes, check_halves}
-use Rattle.splitting.specs.declared.count.Counted.TheVariants as count
 use Rattle.splitting.proofs.LogRuns.{sound_log, sound_halves, left_read, right_read, runs_join, runs_accepted}
 use Rattle.splitting.proofs.LogRuns.{run_accepted, halves_join, bytes-joined, joined_read, nth, nth_joins}
 use Rattle.splitting.proofs.LogRuns.{nth_length, all_numbered, numbered_once}
 use Rattle.splitting.proofs.Outcomes.{SplitGives, JoinGives, split_checked, split-given, room_gives, join_gives}
 use Rattle.splitting.proofs.Outcomes.{join-given, count-answered}
+use Rattle.std.specs.Prelude.{Ok, Some}
 
 -- each splitting of a log joins to the log again: its halves are accepted, join to the log's run and give its bytes,
 -- and have a state and two bytes a step
-pub splitting_joins : (k : Labels) (l r s : List ℕ) (n : ℕ) → check_log k l r s ≡ Sound
+pub splitting_joins : (k : Labels) (l r s : List ℕ) (n : ℕ) → check_log k l r s ≡ Ok tt
     → n < length (splittings_of k l r s)
     → let a = left_half k l r s n in let b = right_half k l r s n in
-    (check_halves k l r a b ≡ Sound) × (join_bytes k a b ≡ s) × (join_of k a b ≡ some (joint_of s))
+    (check_halves k l r a b ≡ Ok tt) × (join_bytes k a b ≡ s) × (join_of k a b ≡ Some (joint_of s))
     × (length a ≡ half_length s) × (length b ≡ half_length s)
 unfolding left_half right_half join_bytes
 splitting_joins k l r s n e h =
@@ -54,8 +52,8 @@ splitting_joins k l r s n e h =
     )
 
 -- two halves that join give a log: what they join to is accepted
-pub joined-log : (k : Labels) (l r a b : List ℕ) → check_halves k l r a b ≡ Sound → check_log k l r (join_bytes k a b)
-    ≡ Sound
+pub joined-log : (k : Labels) (l r a b : List ℕ) → check_halves k l r a b ≡ Ok tt → check_log k l r (join_bytes k a b)
+    ≡ Ok tt
 joined-log k l r a b e =
     let h = sound_halves k l r a b e in
     let w = halves_join h in
@@ -64,7 +62,7 @@ joined-log k l r a b e =
     (omega (arith, (join-steps (pairing k) paired w.0).0, h.left.few)))
 
 -- all splittings: two halves that join to a log are one of its splittings
-pub joins_splitting : (k : Labels) (l r s a b : List ℕ) → check_halves k l r a b ≡ Sound → join_bytes k a b ≡ s
+pub joins_splitting : (k : Labels) (l r s a b : List ℕ) → check_halves k l r a b ≡ Ok tt → join_bytes k a b ≡ s
     → (n : ℕ) × (n < length (splittings_of k l r s)) × (left_half k l r s n ≡ a) × (right_half k l r s n ≡ b)
 unfolding left_half right_half
 joins_splitting k l r s a b e j =
@@ -75,7 +73,7 @@ joins_splitting k l r s a b e j =
     (n, i, ap (λ z. half_bytes z.0) f ∙ h.left.spelled, ap (λ z. half_bytes z.1) f ∙ h.right.spelled)
 
 -- each once: splittings with equal halves have one number
-pub splitting_once : (k : Labels) (l r s : List ℕ) (m n : ℕ) → check_log k l r s ≡ Sound
+pub splitting_once : (k : Labels) (l r s : List ℕ) (m n : ℕ) → check_log k l r s ≡ Ok tt
     → m < length (splittings_of k l r s)
     → n < length (splittings_of k l r s)
     → left_half k l r s m ≡ left_half k l r s n → right_half k l r s m ≡ right_half k l r s n → m ≡ n
@@ -89,16 +87,16 @@ splitting_once k l r s m n e h i f g =
     numbered_once k l r s t m n h i (λ z. (left z, right z))
 
 -- none missing, none twice: two halves that join to a log are exactly one of its splittings
-pub exactly_one : (k : Labels) (l r s a b : List ℕ) → check_halves k l r a b ≡ Sound → join_bytes k a b ≡ s
+pub exactly_one : (k : Labels) (l r s a b : List ℕ) → check_halves k l r a b ≡ Ok tt → join_bytes k a b ≡ s
     → (n : ℕ) × (n < length (splittings_of k l r s)) × (left_half k l r s n ≡ a) × (right_half k l r s n ≡ b)
     × ((m : ℕ) → m < length (splittings_of k l r s) → left_half k l r s m ≡ a → right_half k l r s m ≡ b → m ≡ n)
 exactly_one k l r s a b e j =
     let (n, h, x, y) = joins_splitting k l r s a b e j in
-    let log : check_log k l r s ≡ Sound = rw j at (joined-log k l r a b e) in
+    let log : check_log k l r s ≡ Ok tt = rw j at (joined-log k l r a b e) in
     (n, h, x, y, λ m i u v. splitting_once k l r s m n log i h (u ∙ sym x) (v ∙ sym y))
 
 -- a log has at least one splitting
-pub count-some : (k : Labels) (l r s : List ℕ) → check_log k l r s ≡ Sound → 1 ≤ length (splittings_of k l r s)
+pub count-some : (k : Labels) (l r s : List ℕ) → check_log k l r s ≡ Ok tt → 1 ≤ length (splittings_of k l r s)
 unfolding splittings_of
 count-some k l r s e = splits-some (pairing k) tested-ℕ tested-ℕ (table_of l) (table_of r) (sound_log k l r s e).run.run
 
@@ -123,7 +121,7 @@ split_then_join k l r s n x y a b out g h =
 -- and splitting what a join gave gives the halves again, by one number and no other, if the log has no more splittings
 -- than can be numbered
 pub join_then_split : (k : Labels) (l r a b out s : List ℕ) (c : ℕ) → JoinGives k l r a b out s
-    → count_of k l r s ≡ count.Splittings c
+    → count_of k l r s ≡ Ok c
     → (n : ℕ) × (n < c) × ((x y : List ℕ) → length a ≤ length x → length b ≤ length y → SplitGives k l r s n x y a b)
     × ((m : ℕ) (x y : List ℕ) → SplitGives k l r s m x y a b → m ≡ n)
 unfolding count_of

@@ -29,10 +29,10 @@ use Rattle.ways.specs.Working.{Steps, ways_here}
 use Rattle.splitting.specs.Working.{Log, options_of}
 use Rattle.machines.specs.Steps.{joint_step_at, joint_read}
 use Rattle.machines.specs.declared.step.JointStep.{JointStep}
-use Rattle.machines.specs.declared.step.JointRead.TheVariants as read
 use Rattle.machines.proofs.Steps.{step_found, none_found}
 use Rattle.ways.proofs.RowWays.{ways-few}
 use Rattle.ways.proofs.Options.{options-listed}
+use Rattle.std.specs.Prelude.{None, Some}
 
 -- the ways of a step, by the rows that leave its states
 module _ (labels : Labels) (l r : List ℕ) (t : Tables labels l r) (step : JointStep) where
@@ -124,7 +124,11 @@ module _ {k : Labels} {l r s : List ℕ} (g : Log k l r s) where
   unfolding CountedTo splits
   counted_start = rw up_to-start
 
-  pub counted_on : (i n w m : ℕ) (x : JointStep) → read.Step x ≡ joint_read s i → CountedTo k l r s i n
+  -- each step is there
+  pub counted_there : (i : ℕ) → i < length s / 3 → None ≡ joint_read s i → ⊥
+  counted_there i h a = omega (arith, h, none_found s i g.run.whole a)
+
+  pub counted_on : (i n w m : ℕ) (x : JointStep) → Some x ≡ joint_read s i → CountedTo k l r s i n
       → w ≡ length (options_of k l r x) → m ≡ min (n * w) 65536 → CountedTo k l r s (i + 1) m
   unfolding CountedTo
   counted_on i n w m x a c e f =
@@ -137,12 +141,9 @@ module _ {k : Labels} {l r s : List ℕ} (g : Log k l r s) where
   unfolding CountedTo
   counted_small i n c = omega (arith, c)
 
-  pub counted_end : (i n : ℕ) → read.NoSuchStep ≡ joint_read s i → i ≤ length s / 3 → CountedTo k l r s i n
-      → n ≡ min (length (splittings_of k l r s)) 65536
+  pub counted_end : (n : ℕ) → CountedTo k l r s (length s / 3) n → n ≡ min (length (splittings_of k l r s)) 65536
   unfolding CountedTo splittings_of
-  counted_end i n a h c =
-      let e : i ≡ length s / 3 = omega (arith, h, none_found s i g.run.whole a) in
-      rw (← up_to_end, ← e) c
+  counted_end n c = rw (← up_to_end) c
 
 -- a capped number times a few ways
 pub product_small : (n w : ℕ) → n ≤ 65536 → w ≤ 10 → n * w ≤ 655360

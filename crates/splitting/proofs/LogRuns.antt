@@ -3,7 +3,6 @@ use Prim.Native.Nat.{ℕ, ◌+◌, ◌*◌, ◌/◌, ◌≤◌, ◌<◌}
 use mathlib.Core.Path.{◌≡◌, refl, ◌∙◌, ap}
 use mathlib.Core.Bool.{true, not}
 use mathlib.Core.List.{List}
-use mathlib.Core.Option.{some}
 use native.Mathlib.Omega.{arith}
 use lib.ListN.{length, get_or}
 use Rattle.hml.proofs.Tests.{decides, decided_true, tested-ℕ}
@@ -18,7 +17,6 @@ use Rattle.hml.proofs.Distinct.{splits_distinct}
 use Rattle.hml.proofs.Indexed.{element, number_of, number_once}
 use Rattle.labels.specs.Refusals.{first_of, refused_if}
 use Rattle.labels.specs.Labels.{check_labels, pairing}
-use Rattle.labels.specs.declared.refusal.Check.TheVariants.{Sound}
 use Rattle.labels.proofs.Refusals.{judges, both_sound, passed}
 use Rattle.labels.specs.declared.label.Labels.{Labels}
 use Rattle.tables.specs.Tables.{states_of, table_of, check_table, SoundTable}
@@ -34,6 +32,7 @@ use Rattle.splitting.specs.Splittings.{splittings_of, check_log, left_half, righ
 use Rattle.machines.proofs.Buffers.{accepted_held}
 use Rattle.splitting.specs.Working.{Log}
 use Rattle.joining.specs.Joinings.{join_of, halves_match, join_bytes, check_halves}
+use Rattle.std.specs.Prelude.{Ok, Some}
 
 -- a half run has a state, and two bytes for each step
 pub half_length_lem : (x : Run ℕ) → length (half_bytes x) ≡ 2 * steps x + 1
@@ -41,21 +40,21 @@ unfolding half_bytes
 half_length_lem x = omega (arith, length-each (step_bytes state_bytes) 2 twos_chunks.sized (written x), length-written x)
 
 -- a half that no check refuses
-pub half_passed : (t a : List ℕ) → check_half t a ≡ Sound → AcceptedHalf t a
+pub half_passed : (t a : List ℕ) → check_half t a ≡ Ok tt → AcceptedHalf t a
 unfolding check_half
 half_passed t a e = accepted_half t a (passed (is_half_run t a) _ e)
 
 -- a run of a sound table is one
 pub half_passes : (k : Labels) (t : List ℕ) → SoundTable k t → (x : Run ℕ) → RunOf (table_of t) x → first x < states_of t
-    → steps x ≤ 200 → check_half t (half_bytes x) ≡ Sound
+    → steps x ≤ 200 → check_half t (half_bytes x) ≡ Ok tt
 unfolding HalfRun
 half_passes k t sound x run begins few = (judges (judged_half k t (half_bytes x) sound)).1 (x, refl, run, begins, few)
 
 -- k and two tables that no check refuses
 pub record SoundMachines (k : Labels) (l r : List ℕ) : Type 0 where
-  pub labels : check_labels k ≡ Sound
-  pub left : check_table k l ≡ Sound
-  pub right : check_table k r ≡ Sound
+  pub labels : check_labels k ≡ Ok tt
+  pub left : check_table k l ≡ Ok tt
+  pub right : check_table k r ≡ Ok tt
 
 -- a log that no check refuses
 pub record SoundLog (k : Labels) (l r s : List ℕ) : Type 0 where
@@ -69,7 +68,7 @@ pub record SoundHalves (k : Labels) (l r a b : List ℕ) : Type 0 where
   pub left : AcceptedHalf l a
   pub right : AcceptedHalf r b
   pub run : Run (ℕ × ℕ)
-  pub joined : join_of k a b ≡ some run
+  pub joined : join_of k a b ≡ Some run
 
 module _ {k : Labels} {l r : List ℕ} (t : SoundMachines k l r) where
   pub left_table : SoundTable k l
@@ -90,7 +89,7 @@ module _ {k : Labels} {l r : List ℕ} (t : SoundMachines k l r) where
 
   -- a run of the two tables beside each other is an accepted log
   pub log_passes : (j : Run (ℕ × ℕ)) → RunOf (tables_of k l r) j → (first j).0 < states_of l → (first j).1 < states_of r
-      → steps j ≤ 200 → check_log k l r (joint_bytes j) ≡ Sound
+      → steps j ≤ 200 → check_log k l r (joint_bytes j) ≡ Ok tt
   unfolding check_log first_of JointRun
   log_passes j run left right few =
       rw (
@@ -101,14 +100,14 @@ module _ {k : Labels} {l r : List ℕ} (t : SoundMachines k l r) where
       )
 
   -- accepted halves that join are accepted together
-  pub halves_pass : (a b : List ℕ) → check_half l a ≡ Sound → check_half r b ≡ Sound → (j : Run (ℕ × ℕ))
-      → join_of k a b ≡ some j → check_halves k l r a b ≡ Sound
+  pub halves_pass : (a b : List ℕ) → check_half l a ≡ Ok tt → check_half r b ≡ Ok tt → (j : Run (ℕ × ℕ))
+      → join_of k a b ≡ Some j → check_halves k l r a b ≡ Ok tt
   unfolding check_halves first_of halves_match
   halves_pass a b left right j e = rw (t.labels, t.left, t.right, left, right, e)
 
 -- what the checks let through
 module _ (k : Labels) (l r : List ℕ) where
-  pub sound_log : (s : List ℕ) → check_log k l r s ≡ Sound → SoundLog k l r s
+  pub sound_log : (s : List ℕ) → check_log k l r s ≡ Ok tt → SoundLog k l r s
   unfolding check_log first_of check_joint
   sound_log s e =
       let (labels, a) = both_sound (check_labels k) _ e in
@@ -127,7 +126,7 @@ module _ (k : Labels) (l r : List ℕ) where
       }
 
   -- the same, as the functions inside the crate ask for it
-  pub sound_ready : (s : List ℕ) → check_log k l r s ≡ Sound → Log k l r s
+  pub sound_ready : (s : List ℕ) → check_log k l r s ≡ Ok tt → Log k l r s
   sound_ready s e =
       let a = sound_log s e in
       record {
@@ -136,7 +135,7 @@ module _ (k : Labels) (l r : List ℕ) where
         held = a.held;
       }
 
-  pub sound_halves : (a b : List ℕ) → check_halves k l r a b ≡ Sound → SoundHalves k l r a b
+  pub sound_halves : (a b : List ℕ) → check_halves k l r a b ≡ Ok tt → SoundHalves k l r a b
   unfolding check_halves first_of halves_match
   sound_halves a b e =
       let (labels, u) = both_sound (check_labels k) _ e in
@@ -163,19 +162,19 @@ half_room g = rw g.run.counted
 -- what joins as runs joins as bytes
 module _ {k : Labels} {l r : List ℕ} (t : SoundMachines k l r) {x y : Run ℕ} {j : Run (ℕ × ℕ)}
     (join : JoinOf (pairing k) (table_of l) (table_of r) x y j) where
-  pub runs_join : join_of k (half_bytes x) (half_bytes y) ≡ some j
+  pub runs_join : join_of k (half_bytes x) (half_bytes y) ≡ Some j
   unfolding join_of
   runs_join = rw (left_read t join.1, right_read t join.2) (join-found (pairing k) paired join.0)
 
   -- from states of the tables and of at most 200 steps, the halves and the log are accepted
   module _ (left : first x < states_of l) (right : first y < states_of r) (few : steps j ≤ 200) where
-    pub runs_accepted : check_halves k l r (half_bytes x) (half_bytes y) ≡ Sound
+    pub runs_accepted : check_halves k l r (half_bytes x) (half_bytes y) ≡ Ok tt
     runs_accepted =
         let (m, n) = join-steps (pairing k) paired join.0 in
         halves_pass t _ _ (half_passes k l (left_table t) x join.1 left (omega (arith, m, few)))
         (half_passes k r (right_table t) y join.2 right (omega (arith, n, few))) j runs_join
 
-    pub run_accepted : check_log k l r (joint_bytes j) ≡ Sound
+    pub run_accepted : check_log k l r (joint_bytes j) ≡ Ok tt
     run_accepted =
         let e = join_first (pairing k) paired join.0 in
         log_passes t j (join-run (pairing k) (table_of l) (table_of r) join.0 join.1 join.2) (rw e left)

@@ -22,13 +22,9 @@ use Rattle.tables.specs.Tables.{table_of}
 use Rattle.halves.specs.Runs.{written}
 use Rattle.halves.specs.Halves.{half_bytes}
 use Rattle.halves.specs.Steps.{step_struct}
-use Rattle.halves.specs.declared.step.Step.{Step}
-use Rattle.halves.specs.declared.step.Step.TheVariants as step
-use Rattle.halves.specs.declared.step.Move.{Move}
 use Rattle.splitting.specs.Splittings.{splittings_of, left_half, right_half, half_length}
 use Rattle.machines.specs.Steps.{joint_step_at, joint_read}
 use Rattle.machines.specs.declared.step.JointStep.{JointStep}
-use Rattle.machines.specs.declared.step.JointRead.TheVariants as read
 use Rattle.machines.proofs.Steps.{Found, step_found, none_found}
 use Rattle.ways.specs.declared.step.Way.{Way}
 use Rattle.ways.specs.Working.{Steps, way_struct, chosen}
@@ -44,17 +40,7 @@ use Rattle.splitting.proofs.Counts.{
   step_splits,
 }
 use Rattle.splitting.proofs.LogRuns.{nth_length, half_room}
-
--- one step of a half, as it is written
-module _ (out : List ℕ) (i state : ℕ) (s : Step) where
-  pub move-put : (m : Move) → s ≡ step.Move m
-      → set (set out (2 * i + 1) m.label.0) (2 * i + 1 + 1) m.target ≡ put_step out i state (step_meant s)
-  unfolding put_step step_meant
-  move-put m e = rw e
-
-  pub idle-put : s ≡ step.Idle → set (set out (2 * i + 1) 255) (2 * i + 1 + 1) state ≡ put_step out i state (step_meant s)
-  unfolding put_step step_meant
-  idle-put e = rw e
+use Rattle.std.specs.Prelude.{None, Some}
 
 -- a step of the theory, as the program holds it, is meant again
 pub step_meant_lem : (s : theory.Step ℕ) → step_meant (step_struct s) ≡ s
@@ -212,10 +198,10 @@ module _ {k : Labels} {l r s : List ℕ} (g : Log k l r s) where
       )
 
       -- it is there
-      pub put-there : read.NoSuchStep ≡ joint_read s i → ⊥
+      pub put-there : None ≡ joint_read s i → ⊥
       put-there a = omega (arith, last_step, none_found s i g.run.whole a)
 
-      module _ (st : JointStep) (a : read.Step st ≡ joint_read s i) where
+      module _ (st : JointStep) (a : Some st ≡ joint_read s i) where
         found : Found s i st
         found = step_found s i st a
 

@@ -1,23 +1,18 @@
 -- Splittings: document 01, "A splitting chooses one way for each step", and the numbers 13, 14 and 18.
 -- Which splittings a joint run has, and in what order, is the theory's to say: `splits` in hml's Split lists them, "the
 -- first step varies slowest, and ways go left alone, right alone, then handshakes by rising left label".
-use Rattle.std.specs.Prelude.{ℕ, ◌+◌, ◌*◌, ◌||◌, List, [], ◌∷◌, length, get_or, leb, ltb}
+use Rattle.std.specs.Prelude.{ℕ, ◌+◌, ◌*◌, ◌||◌, List, [], ◌∷◌, length, get_or, leb, ltb, Err, Ok, Result}
 use Rattle.hml.specs.System.{Run, start, steps}
 use Rattle.hml.specs.Split.{splits}
 use Rattle.hml.specs.Lists.{same}
-use Rattle.labels.specs.Refusals.{refused_if, first_of, output_of, Answer, refused_as, giving}
+use Rattle.labels.specs.Refusals.{refused_if, first_of, output_of, Answer, Check, value_answer}
 use Rattle.labels.specs.Labels.{check_labels, pairing}
-use Rattle.labels.specs.declared.refusal.Check.{Check}
-use Rattle.labels.specs.declared.refusal.Check.TheVariants as check
 use Rattle.labels.specs.declared.refusal.Refusal.TheVariants.{TooManySplittings, NoSuchSplitting, OutputTooShort}
 use Rattle.labels.specs.declared.label.Labels.{Labels}
 use Rattle.tables.specs.Tables.{table_of, check_table}
 use Rattle.halves.specs.Halves.{half_bytes}
 use Rattle.machines.specs.Joints.{joint_of, check_joint}
-use Rattle.splitting.specs.declared.count.Counted.{Counted}
-use Rattle.splitting.specs.declared.count.Counted.TheVariants as count
-use Rattle.splitting.specs.declared.split.Splitting.{Splitting}
-use Rattle.splitting.specs.declared.split.Splitting.TheVariants as splitting
+use Rattle.labels.specs.declared.refusal.Refusal.{Refusal}
 
 -- the splittings of a joint run of two tables, in order: pairs of half runs
 unfoldable pub splittings_of : Labels → List ℕ → List ℕ → List ℕ → List (Run ℕ × Run ℕ)
@@ -57,30 +52,28 @@ check_split k l r s n a b =
     first_of (check_number k l r s n ∷ refused_if (ltb a (half_length s) || ltb b (half_length s)) OutputTooShort ∷ [])
 
 -- the answer of a count
-abbrev pub counted : Check → ℕ → Counted
-counted check.Sound n = count.Splittings n
-counted (check.Refused x) n = count.Refused x
+abbrev pub counted : Check → ℕ → Result ℕ Refusal
+counted (Ok _) n = Ok n
+counted (Err x) n = Err x
 
-unfoldable pub count_of : Labels → List ℕ → List ℕ → List ℕ → Counted
+unfoldable pub count_of : Labels → List ℕ → List ℕ → List ℕ → Result ℕ Refusal
 count_of k l r s = counted (check_count k l r s) (length (splittings_of k l r s))
 
 -- the number of a count, and its value: how many splittings there are
-unfoldable pub count_answer : Counted → Answer
-count_answer (count.Splittings n) = giving (n ∷ [])
-count_answer (count.Refused x) = refused_as x
+abbrev pub count_answer : Result ℕ Refusal → Answer
+count_answer = value_answer
 
 -- the answer of a split: the length of each half
-abbrev pub halved : Check → ℕ → Splitting
-halved check.Sound n = splitting.Halves n
-halved (check.Refused x) n = splitting.Refused x
+abbrev pub halved : Check → ℕ → Result ℕ Refusal
+halved (Ok _) n = Ok n
+halved (Err x) n = Err x
 
-unfoldable pub split_of : Labels → List ℕ → List ℕ → List ℕ → ℕ → ℕ → ℕ → Splitting
+unfoldable pub split_of : Labels → List ℕ → List ℕ → List ℕ → ℕ → ℕ → ℕ → Result ℕ Refusal
 split_of k l r s n a b = halved (check_split k l r s n a b) (half_length s)
 
 -- the number of a split, and its value: the length of each half
-unfoldable pub split_answer : Splitting → Answer
-split_answer (splitting.Halves n) = giving (n ∷ [])
-split_answer (splitting.Refused x) = refused_as x
+abbrev pub split_answer : Result ℕ Refusal → Answer
+split_answer = value_answer
 
 -- the lent outputs afterwards: if either is too short, neither is touched
 unfoldable pub left_output : Labels → List ℕ → List ℕ → List ℕ → ℕ → List ℕ → ℕ → List ℕ

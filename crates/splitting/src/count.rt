@@ -5,43 +5,31 @@ ghost use Rattle.splitting.specs.Splittings.{splittings_of, check_log, count_of}
 ghost use Rattle.splitting.specs.Working.{Log, options_of};
 
 use labels::label::Labels;
-use labels::refusal::{Check, Refusal};
+use labels::refusal::Refusal;
 use machines::joint::check_joint;
-use machines::step::{JointRead, JointStep, joint_step};
+use machines::step::{JointStep, joint_step};
 use tables::leaving::rows_leaving;
 use ways::count::count_ways;
 
-// How many splittings there are, at most 65,535.
-#[derive(Clone, Copy)]
-pub enum Counted {
-    Splittings(usize),
-    Refused(Refusal),
-}
-
 // How many splittings a joint run has: the parts' numbers, then 13.
-pub fn count(labels: Labels, left: &[u8], right: &[u8], run: &[u8]) -> Counted
+pub fn count(labels: Labels, left: &[u8], right: &[u8], run: &[u8]) -> Result<usize, Refusal>
     ensures { result ≡ count_of labels left.now right.now run.now }
 {
-    match check_log(labels, left, right, run) {
-        Check::Sound => {}
-        Check::Refused(refusal) => return Counted::Refused(refusal),
-    }
+    check_log(labels, left, right, run)?;
     let splittings = count_splittings(labels, left, right, run);
     let too_many = 65535 < splittings;
     if too_many {
-        return Counted::Refused(Refusal::TooManySplittings);
+        return Err(Refusal::TooManySplittings);
     }
-    Counted::Splittings(splittings)
+    Ok(splittings)
 }
 
 // The check of a log: the parts' numbers, in record order.
-pub fn check_log(labels: Labels, left: &[u8], right: &[u8], run: &[u8]) -> Check
+pub fn check_log(labels: Labels, left: &[u8], right: &[u8], run: &[u8]) -> Result<(), Refusal>
     ensures { result ≡ check_log labels left.now right.now run.now }
 {
-    match labels.check() {
-        Check::Sound => check_joint(labels, left, right, run),
-        Check::Refused(refusal) => Check::Refused(refusal),
-    }
+    labels.check()?;
+    check_joint(labels, left, right, run)
 }
 
 // The product of the steps' ways, which stays at 65,536 once it is there.
@@ -50,27 +38,14 @@ fn count_splittings(labels: Labels, left: &[u8], right: &[u8], run: &[u8]) -> us
     ensures { result ≡ min (length (splittings_of labels left.now right.now
         run.now)) 65536 }
 {
-    let mut splittings: usize = 1;
-    let mut i: usize = 0;
-    loop {
-        match joint_step(run, i) {
-            JointRead::Step(step) => {
-                splittings = capped(splittings * ways_of(labels, left, right, step));
-            }
-            JointRead::NoSuchStep => return splittings,
+    let steps = run.len() / 3;
+    let mut splittings = 1;
+    for i in 0..steps {
+        if let Some(step) = joint_step(run, i) {
+            splittings = (splittings * ways_of(labels, left, right, step)).min(65536);
         }
-        i += 1;
     }
-}
-
-// 65,536 stands for every number from there on.
-fn capped(n: usize) -> usize
-    ensures { result ≡ min n 65536 }
-{
-    if 65536 < n {
-        return 65536;
-    }
-    n
+    splittings
 }
 
 // How many ways a step has.

@@ -14,21 +14,14 @@ ghost use Rattle.splitting.specs.Splittings.{
 };
 ghost use Rattle.splitting.specs.Working.{Log, options_of, way_of, step_meant, put_step};
 
-use crate::count::{Counted, count};
+use crate::count::count;
 use halves::step::Step;
 use labels::label::{Label, Labels};
-use labels::refusal::{Check, Refusal};
-use machines::step::{JointRead, JointStep, joint_step};
+use labels::refusal::Refusal;
+use machines::step::{JointStep, joint_step};
 use tables::leaving::rows_leaving;
 use ways::choose::nth_way;
 use ways::count::count_ways;
-
-// The length of each half, in bytes.
-#[derive(Clone, Copy)]
-pub enum Splitting {
-    Halves(usize),
-    Refused(Refusal),
-}
 
 // Writes the halves of the splitting of a number: as in the count, then 14, then 18.
 pub fn split(
@@ -39,7 +32,7 @@ pub fn split(
     number: usize,
     left_out: &mut [u8],
     right_out: &mut [u8],
-) -> Splitting
+) -> Result<usize, Refusal>
     ensures value { result ≡ split_of labels left.now right.now run.now number
         (length left_out.old) (length right_out.old) }
     ensures left_out_after { left_out.new ≡ left_output labels left.now right.now
@@ -51,13 +44,10 @@ pub fn split(
 {
     let left_room = left_out.len();
     let right_room = right_out.len();
-    match check_split(labels, left, right, run, number, left_room, right_room) {
-        Check::Sound => {}
-        Check::Refused(refusal) => return Splitting::Refused(refusal),
-    }
+    check_split(labels, left, right, run, number, left_room, right_room)?;
     write_halves(labels, left, right, run, number, left_out, right_out);
     let steps = run.len() / 3;
-    Splitting::Halves(2 * steps + 1)
+    Ok(2 * steps + 1)
 }
 
 // What a call judges that names a splitting by its number, and lends so much room for each half.
@@ -69,27 +59,20 @@ fn check_split(
     number: usize,
     left_room: usize,
     right_room: usize,
-) -> Check
+) -> Result<(), Refusal>
     ensures { result ≡ check_split labels left.now right.now run.now number
         left_room right_room }
 {
-    match count(labels, left, right, run) {
-        Counted::Splittings(splittings) => {
-            if splittings <= number {
-                return Check::Refused(Refusal::NoSuchSplitting);
-            }
-        }
-        Counted::Refused(refusal) => return Check::Refused(refusal),
+    let splittings = count(labels, left, right, run)?;
+    if splittings <= number {
+        return Err(Refusal::NoSuchSplitting);
     }
     let steps = run.len() / 3;
     let len = 2 * steps + 1;
-    if left_room < len {
-        return Check::Refused(Refusal::OutputTooShort);
+    if left_room < len || right_room < len {
+        return Err(Refusal::OutputTooShort);
     }
-    if right_room < len {
-        return Check::Refused(Refusal::OutputTooShort);
-    }
-    Check::Sound
+    Ok(())
 }
 
 // Writes the halves from the last step to the first: with w ways at the last step, splitting n of the run is splitting
@@ -112,15 +95,11 @@ fn write_halves(
     ensures right_out_after { right_out.new ≡ in_front (right_half labels left.now
         right.now run.now number) right_out.old }
 {
+    let steps = run.len() / 3;
     let mut n = number;
-    let mut i = run.len() / 3;
-    while 0 < i {
-        i -= 1;
-        match joint_step(run, i) {
-            JointRead::Step(step) => {
-                n = put_way(labels, left, right, step, i, n, left_out, right_out);
-            }
-            JointRead::NoSuchStep => return,
+    for i in (0..steps).rev() {
+        if let Some(step) = joint_step(run, i) {
+            n = put_way(labels, left, right, step, i, n, left_out, right_out);
         }
     }
     left_out[0] = run[0];
@@ -153,28 +132,22 @@ fn put_way(
     let right_rows = rows_leaving(right, before.right);
     let ways = count_ways(labels, left_rows, right_rows, step);
     let way = nth_way(labels, left_rows, right_rows, step, n % ways);
-    let left_step = way.left;
-    let right_step = way.right;
-    put_step(left_out, i, before.left, left_step);
-    put_step(right_out, i, before.right, right_step);
+    put_step(left_out, i, before.left, way.left);
+    put_step(right_out, i, before.right, way.right);
     n / ways
 }
 
 // Writes step i of a half: a move's label and target, or an idle's mark and the state that it keeps.
+#[tactic(auto, unfolding(crate::specs::Working::put_step, crate::specs::Working::step_meant))]
 fn put_step(out: &mut [u8], i: usize, state: u8, step: Step)
     requires { 2 * i + 2 < length out.old }
     ensures { out.new ≡ put_step out.old i state (step_meant step) }
 {
+    let (label, target) = match step {
+        Step::Move(moved) => (moved.label, moved.target),
+        Step::Idle => (Label::IDLE, state),
+    };
     let at = 2 * i + 1;
-    match step {
-        Step::Move(moved) => {
-            let label = moved.label;
-            out[at] = label.0;
-            out[at + 1] = moved.target;
-        }
-        Step::Idle => {
-            out[at] = Label::IDLE.0;
-            out[at + 1] = state;
-        }
-    }
+    out[at] = label.0;
+    out[at + 1] = target;
 }

@@ -5,13 +5,14 @@ use mathlib.Core.List.{List, [], ◌∷◌, ◌++◌, map, append-nil, append_as
 use native.Mathlib.Nat.{mul-zero, mul-suc, add_comm, mul-add-mod_self_right, mod-eq_of_lt, mul-add-div_right}
 use native.Mathlib.Nat.{div-eq_of_lt}
 use native.Mathlib.Omega.{arith}
-use lib.ListN.{length, take, drop, length-append, length-take, length-drop}
-use lib.Seq.{take-nil, drop-nil, take-append-add, drop-append-add}
+use lib.ListN.{length, take, length-append, length-take}
+use lib.Seq.{take-nil, take-append-add}
 use Rattle.hml.specs.Lists.{each}
 use Rattle.hml.proofs.Lists.{length-each}
-use Rattle.hml.specs.Machine.{Row}
 use Rattle.labels.proofs.Slices.{no_bytes}
 use Rattle.tables.specs.Tables.{threes}
+use Rattle.tables.specs.Working.{row_bytes}
+use Rattle.std.specs.Simd.{first_chunks}
 
 -- bytes that are chunks of k, with g for the bytes of each, and fewer than k at the end
 pub data Chunked {B : Type 0} (k : ℕ) (g : B → List ℕ) : List ℕ → Type 0 where
@@ -49,21 +50,7 @@ module _ {B : Type 0} {k : ℕ} {g : B → List ℕ} {f : List ℕ → List B} (
       let s : k * suc n ≡ length (g e) + k * n = mul-suc k n ∙ rw (c.sized e) (add_comm (k * n) k) in
       rw (s, append_assoc, take-append-add, c.one, take-each es n rest h)
 
-  -- what is left behind the first chunks of bytes that are chunks
-  drop-each : (es : List B) (n : ℕ) (rest : List ℕ) → length rest < k → f (drop (k * n) (each g es ++ rest)) ≡ drop n es
-  drop-each [] n rest h = c.none (drop (k * n) rest) (simp length-drop (omega arith)) ∙ sym (drop-nil n)
-  drop-each (e ∷ es) zero rest h = rw (mul-zero, chunks_each (e ∷ es) rest, c.none rest h) (append-nil (e ∷ es))
-  drop-each (e ∷ es) (suc n) rest h =
-      let s : k * suc n ≡ length (g e) + k * n = mul-suc k n ∙ rw (c.sized e) (add_comm (k * n) k) in
-      rw (s, append_assoc, drop-append-add, drop-each es n rest h)
-
   module _ (bs : List ℕ) where
-    -- what is read behind n chunks is what is left behind the first n of what is read
-    pub chunks_drop : (n : ℕ) → f (drop (k * n) bs) ≡ drop n (f bs)
-    chunks_drop n =
-        let (rest, h, e) = chunks_split (c.every bs) in
-        ap (λ (l : List ℕ). f (drop (k * n) l)) (sym e) ∙ drop-each (f bs) n rest h
-
     -- what is read of the first n chunks is the first n of what is read
     pub chunks_take : (n : ℕ) → f (take (k * n) bs) ≡ take n (f bs)
     chunks_take n =
@@ -110,10 +97,6 @@ chunks_map {C = C} {k} {g} to from back forth c = record {
     named (less bs h) = less bs h
     named (chunk b {bs = bs} x) = rw (ap (λ z. g z ++ bs) (back b)) at (chunk (to b) (named x))
 
--- the bytes of a row
-abbrev pub row_bytes : Row → List ℕ
-row_bytes r = r.0 ∷ r.1 ∷ r.2 ∷ []
-
 -- three bytes a row
 pub threes_chunks : Chunks 3 row_bytes threes
 unfolding threes
@@ -130,3 +113,13 @@ threes_chunks = record { some = omega arith; sized = λ r. refl; none = none; on
     every (a ∷ []) = less (a ∷ []) (omega arith)
     every (a ∷ b ∷ []) = less (a ∷ b ∷ []) (omega arith)
     every (a ∷ b ∷ c ∷ bs) = chunk (a, b, c) (every bs)
+
+-- and so the library cuts them
+pub threes_cut : (bs : List ℕ) → first_chunks 3 (length bs / 3) bs ≡ map row_bytes (threes bs)
+unfolding threes
+threes_cut [] = refl
+threes_cut (a ∷ []) = refl
+threes_cut (a ∷ b ∷ []) = refl
+threes_cut (a ∷ b ∷ c ∷ bs) =
+    let n : length (a ∷ b ∷ c ∷ bs) / 3 ≡ suc (length bs / 3) = omega arith in
+    rw n (ap ((a ∷ b ∷ c ∷ []) ∷◌) (threes_cut bs))

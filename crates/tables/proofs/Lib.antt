@@ -1,7 +1,7 @@
 pub mod Chunks
 pub mod Rows
-pub mod Halving
 pub mod Spans
 pub mod Searching
+pub mod Order
 pub mod Judging
 pub mod SoundTables

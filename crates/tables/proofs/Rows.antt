@@ -1,24 +1,25 @@
 -- Laws of rows: in rows that rise, those that leave a state stand together; and rows as bytes, three a row.
-use Prim.Native.Nat.{ℕ, zero, suc, ◌+◌, ◌-◌, ◌*◌, ◌/◌, ◌%◌, ◌≤◌, ◌<◌}
+use Prim.Native.Nat.{ℕ, zero, suc, ◌+◌, ◌-◌, ◌*◌, ◌/◌, ◌≤◌, ◌<◌}
 use native.Mathlib.Omega.{arith}
-use native.Mathlib.Nat.{zero-add}
 use native.Mathlib.Numerals.{add-one, one-add}
 use mathlib.Core.Path.{◌≡◌, refl, sym, ◌∙◌, ap}
 use mathlib.Core.Bool.{Bool, true, false, cond, ◌||◌, ◌&&◌}
 use mathlib.Core.List.Memᴰ.{cast as ∈-cast}
 use mathlib.Core.List.{List, [], ◌∷◌, ◌++◌, map}
-use lib.ListN.{length, get_or, take, drop, length-take, length-drop}
+use lib.ListN.{length, get_or, drop}
 use lib.Dec.{eqb, ltb}
 use borrow.Author.Tests.{lt-ltb, le-ltb, eq-eqb, ne_eqb, ltb-true, ltb-false, eqb-true}
 use Rattle.hml.proofs.Tests.{apart, Decides, decided_iff, decided_and, decided_same}
-use Rattle.hml.specs.Lists.{same, ◌∈◌, only, each}
+use Rattle.hml.specs.Lists.{same, ◌∈◌, only}
 use Rattle.hml.proofs.Lists.{decided_any}
 use Rattle.hml.specs.System.{System}
 use Rattle.hml.specs.Machine.{Row, machine}
-use Rattle.tables.specs.Tables.{threes, rows_of, among, has_move, rows_from, bytes_of, row_below, leaving, Rising}
+use Rattle.tables.specs.Tables.{threes, rows_of, among, has_move, rows_from, row_below, leaving, Rising}
+use Rattle.std.specs.List.{prefix_len, take_while}
+use Rattle.std.proofs.lemmas.List.{get_or-map}
 use Rattle.tables.specs.Tables.{none, one, more}
-use Rattle.tables.specs.Working.{row_of, below}
-use Rattle.tables.proofs.Chunks.{row_bytes, threes_chunks, chunks_length, chunks_whole, chunks_take, chunks_drop}
+use Rattle.tables.specs.Working.{row_of, row_bytes, below}
+use Rattle.tables.proofs.Chunks.{threes_chunks, chunks_length}
 
 -- how a state f stands to p: the tests f < p, f < p + 1 and f ≡ p have one of three outcomes
 pub data Placed (f p : ℕ) : Bool → Bool → Bool → Type 0 where
@@ -72,16 +73,6 @@ froms_rise {rows = r ∷ rows} s zero j h k = head_least s j k
 froms_rise {rows = r ∷ rows} s (suc i) zero h k = absurd (omega arith)
 froms_rise {rows = r ∷ rows} s (suc i) (suc j) h k = froms_rise (rising_tail s) i j (omega arith) (omega arith)
 
--- a count of rows is not above their number
-pub below_le : (p : ℕ) (rows : List Row) → below p rows ≤ length rows
-unfolding below
-below_le p [] = omega arith
-below_le p (r ∷ rows) = go (ltb r.0 p) (below_le p rows)
-  where
-    go : (a : Bool) → below p rows ≤ length rows → cond a 1 0 + below p rows ≤ suc (length rows)
-    go true h = omega arith
-    go false h = omega arith
-
 -- where the rows below p end, there stands their count
 pub below_point : (p m : ℕ) (rows : List Row) → m ≤ length rows → ((i : ℕ) → i < m → (get_or rows i (0, 0, 0)).0 < p)
     → ((i : ℕ) → m ≤ i → i < length rows → p ≤ (get_or rows i (0, 0, 0)).0) → m ≡ below p rows
@@ -118,48 +109,29 @@ none_below p {r} {rows} s h =
     sym (below_point p 0 rows (omega arith) (λ i k. absurd (omega arith))
     (λ i k l. omega (arith, head_least s (suc i) (omega arith))))
 
--- the rows before the count leave a state below p
-pub before_count : {rows : List Row} → Rising rows → (p i : ℕ) → i < below p rows → (get_or rows i (0, 0, 0)).0 < p
-unfolding below
-before_count {rows = []} s p i h = absurd (omega arith)
-before_count {rows = r ∷ rows} s p i h = go (ltb r.0 p) refl i h (before_count (rising_tail s) p)
-  where
-    go : (a : Bool) → ltb r.0 p ≡ a → (i : ℕ) → i < cond a 1 0 + below p rows
-        → ((j : ℕ) → j < below p rows → (get_or rows j (0, 0, 0)).0 < p) → (get_or (r ∷ rows) i (0, 0, 0)).0 < p
-    go false e i h later = absurd (omega (arith, none_below p s (ltb-false r.0 p e)))
-    go true e zero h later = ltb-true r.0 p e
-    go true e (suc i) h later = later i (omega arith)
-
--- and those from the count on do not
-pub after-count : {rows : List Row} → Rising rows → (p i : ℕ) → below p rows ≤ i → i < length rows
-    → p ≤ (get_or rows i (0, 0, 0)).0
-unfolding below
-after-count {rows = []} s p i h k = absurd (omega arith)
-after-count {rows = r ∷ rows} s p i h k = go (ltb r.0 p) refl i h k (after-count (rising_tail s) p)
-  where
-    go : (a : Bool) → ltb r.0 p ≡ a → (i : ℕ) → cond a 1 0 + below p rows ≤ i → i < suc (length rows)
-        → ((j : ℕ) → below p rows ≤ j → j < length rows → p ≤ (get_or rows j (0, 0, 0)).0)
-        → p ≤ (get_or (r ∷ rows) i (0, 0, 0)).0
-    go false e i h k later = omega (arith, ltb-false r.0 p e, head_least s i k)
-    go true e zero h k later = absurd (omega arith)
-    go true e (suc i) h k later = later i (omega arith) (omega arith)
+-- in rows that rise above p none leaves p
+none_from : (p : ℕ) {r : Row} {rows : List Row} → Rising (r ∷ rows) → p < r.0
+    → prefix_len (λ (s : Row). same s.0 p) rows ≡ 0
+none_from p one h = refl
+none_from p (more {r = r} {s = s} e t) h = rw (ne_eqb s.0 p (λ q. omega (arith, below-from r s e, q)))
 
 -- in rows that rise, those that leave p stand together, behind those that leave a lower state
 pub span_rows : {rows : List Row} → Rising rows → (p : ℕ)
-    → rows_from p rows ≡ take (leaving p rows) (drop (below p rows) rows)
-unfolding rows_from below leaving only
+    → rows_from p rows ≡ take_while (λ (r : Row). same r.0 p) (drop (below p rows) rows)
+unfolding rows_from below only
 span_rows {rows = []} s p = refl
 span_rows {rows = r ∷ rows} s p = go (placed r.0 p) (span_rows (rising_tail s) p)
   where
-    go : {a b c : Bool} → Placed r.0 p a b c → rows_from p rows ≡ take (leaving p rows) (drop (below p rows) rows)
-        → only c r ++ rows_from p rows ≡ take (cond c 1 0 + leaving p rows) (drop (cond a 1 0 + below p rows) (r ∷ rows))
-    go (under h) e = rw (zero-add, one-add) e
-    go (level h) e = let z = none_below p s (omega arith) in rw (one-add, z) (ap (r ∷◌) (rw z at e))
+    F : Row → Bool
+    F x = same x.0 p
+
+    go : {a b c : Bool} → Placed r.0 p a b c → rows_from p rows ≡ take_while F (drop (below p rows) rows)
+        → only c r ++ rows_from p rows ≡ take_while F (drop (cond a 1 0 + below p rows) (r ∷ rows))
+    go (under h) e = rw one-add e
+    go (level h) e = let z = none_below p s (omega arith) in rw (z, eq-eqb r.0 p h, one-add) (ap (r ∷◌) (rw z at e))
     go (over h) e =
-        let y : leaving p rows ≡ 0 = omega
-        (arith, span_size p rows, none_below p s (omega arith), none_below (p + 1) s (omega arith)) in
-        let w : 0 + leaving p rows ≡ 0 = omega (arith, y) in
-        rw w (rw y at e)
+        let z = none_below p s (omega arith) in
+        rw (z, ne_eqb r.0 p (λ q. omega (arith, q))) (rw (z, none_from p s h) at e)
 
 -- the moves that leave p are those of its rows, in order
 pub moves_from : (p : ℕ) (rows : List Row) → machine rows p ≡ map (λ r. (r.1, r.2)) (rows_from p rows)
@@ -203,21 +175,10 @@ rows_at (n ∷ l) i h =
     rw (y, z, threes_at l i h)
     (ap (λ m. (get_or (n ∷ l) m 0, get_or l (3 * i + 1) 0, get_or l (3 * i + 2) 0)) (sym (add-one (3 * i))))
 
--- the state that a row leaves, as the code reads it
-pub from_seen : (t : List ℕ) (i : ℕ) → i < length (rows_of t) → (get_or (rows_of t) i (0, 0, 0)).0 ≡ (row_of t i).0
-from_seen t i h = ap (λ r. r.0) (rows_at t i h)
-
--- bytes of whole rows are those of the rows that are read from them
-pub bytes-part : (t : List ℕ) (s m : ℕ) → s + m ≤ length (rows_of t)
-    → take (3 * m) (drop (3 * s + 1) t) ≡ bytes_of (take m (drop s (rows_of t)))
-unfolding rows_of bytes_of
-bytes-part [] s m h = let z : m ≡ 0 = omega arith in rw z
-bytes-part (n ∷ l) s m h =
-    let part = take (3 * m) (drop (3 * s) l) in
-    let room : 3 * m ≤ length (drop (3 * s) l) = omega (arith, chunks_length threes_chunks l, length-drop (3 * s) l) in
-    let whole : length part % 3 ≡ 0 = omega (arith, length-take (3 * m) (drop (3 * s) l)) in
-    rw add-one (sym (chunks_whole threes_chunks part whole)
-    ∙ ap (each row_bytes) (chunks_take threes_chunks (drop (3 * s) l) m ∙ ap (take m) (chunks_drop threes_chunks l s)))
+-- and so the code sees it
+pub row_seen : (t : List ℕ) (i : ℕ) → i < length (rows_of t)
+    → get_or (map row_bytes (rows_of t)) i [] ≡ row_bytes (row_of t i)
+row_seen t i h = get_or-map row_bytes (rows_of t) i (0, 0, 0) [] h ∙ ap row_bytes (rows_at t i h)
 
 -- the test passes exactly for the moves that are there
 pub among_decides : (moves : List (ℕ × ℕ)) (a q : ℕ) → Decides ((a, q) ∈ moves) (among moves a q)

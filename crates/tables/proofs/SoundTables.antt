@@ -25,11 +25,11 @@ use Rattle.labels.proofs.Labels.{count_most}
 use Rattle.hml.proofs.Distinct.{Distinct, distinct_only, distinct_each}
 use Rattle.labels.specs.Refusals.{first_of}
 use Rattle.labels.specs.declared.refusal.Refusal.TheVariants.{WrongLength, OutOfRange, RowNotAbove, NinthRow}
-use Rattle.labels.specs.declared.refusal.Check.TheVariants.{Sound}
 use Rattle.labels.specs.declared.label.Labels.{Labels}
 use Rattle.tables.specs.Tables.{states_of, rows_of, table_of, fit_table, fit_states, in_range, row_below, above_last}
 use Rattle.tables.specs.Tables.{leaving, check_row, check_rows, check_table, Rising, none, one, more, SoundTable}
 use Rattle.tables.specs.Working.{Ready}
+use Rattle.std.specs.Prelude.{Ok}
 
 -- a row in range
 abbrev pub Ranged : Labels → ℕ → Row → Type 0
@@ -196,7 +196,7 @@ judged_table k t = judged_iff
     (judged_then (judged-rows k (states_of t) [] (rows_of t)) (accepts (tt {0})))))
 
 -- an accepted table is as document 01 says
-pub sound_table : (k : Labels) (t : List ℕ) → check_table k t ≡ Sound → SoundTable k t
+pub sound_table : (k : Labels) (t : List ℕ) → check_table k t ≡ Ok tt → SoundTable k t
 sound_table k t = (judges (judged_table k t)).0
 
 -- what a row must be for a move from p to come from it
@@ -249,5 +249,5 @@ module _ {k : Labels} {t : List ℕ} (s : SoundTable k t) where
   moves-few p = omega (arith, moves-length p (rows_of t), s.eight p)
 
 -- a sound table is all that functions that search it ask for
-pub ready : (k : Labels) (t : List ℕ) → check_table k t ≡ Sound → Ready t
+pub ready : (k : Labels) (t : List ℕ) → check_table k t ≡ Ok tt → Ready t
 ready k t e = let s = sound_table k t e in record { some = omega (arith, s.fits.0); rising = s.rising }

@@ -1,90 +1,30 @@
 -- The rows that leave a state, from the first of them on up to the first row that leaves another, as a part of the
 -- table.
-use Prim.Native.Nat.{ℕ, ◌+◌, ◌-◌, ◌*◌, ◌≤◌, ◌<◌}
+use Prim.Native.Nat.{ℕ, ◌+◌, ◌-◌, ◌≤◌, ◌<◌}
 use mathlib.Core.Path.{◌≡◌, refl, sym, ◌∙◌, ap}
-use mathlib.Core.Bool.{Bool, true, false}
+use mathlib.Core.Bool.{Bool, true, false, cond}
 use mathlib.Core.List.Memᴰ.{cast as ∈-cast}
-use mathlib.Core.List.Memᴰ.{not-nil as nowhere}
 use mathlib.Core.List.Memᴰ.{of_map as map-∈}
-use mathlib.Core.List.{List, [], map}
+use mathlib.Core.List.{List, [], ◌∷◌, ◌++◌, map}
 use native.Mathlib.Omega.{arith}
-use lib.ListN.{length, get_or, take, drop, length-take}
+use lib.ListN.{length, get_or, take, drop, length-take, length-drop, length-map}
 use lib.Seq.{get_or-take, get_or-drop}
-use lib.Dec.{ltb}
-use borrow.Author.Tests.{ltb-true, ltb-false, eq-eqb}
+use lib.Dec.{eqb, ltb}
+use borrow.Author.Tests.{ltb-true, ltb-false, eq-eqb, eqb-true}
+use Rattle.std.specs.List.{flat_map, prefix_len}
+use Rattle.std.specs.List.Sorted.{IsPartitionedBy, IsPartitionPoint}
+use Rattle.std.proofs.lemmas.List.{get_or-map, take_rest, drop-map, take-map}
+use Rattle.std.proofs.lemmas.List.Sums.{prefix_len-le-length, prefix_len_passes}
+use Rattle.std.proofs.lemmas.List.Sorted.{IsPartitionedBy-ltb, IsNonDecreasingBy-from_default}
 use Rattle.hml.specs.Lists.{same, ◌∈◌, only, each}
 use Rattle.hml.proofs.Tests.{decides}
 use Rattle.hml.proofs.Lists.{∈-each, ∈-only}
 use Rattle.hml.proofs.Indexed.{element, number_of}
 use Rattle.hml.specs.Machine.{Row, machine}
-use Rattle.tables.specs.Tables.{rows_of, bytes_of, rows_from, leaving, among, has_move, table_of, Rising, Together}
-use Rattle.tables.specs.Working.{row_of, moves_in, below, Leave}
-use Rattle.tables.proofs.Chunks.{row_bytes, threes_chunks, chunks_read}
-use Rattle.tables.proofs.Rows.{
-  placed,
-  Placed,
-  under,
-  level,
-  over,
-  froms_rise,
-  below_le,
-  below_point,
-  before_count,
-  after-count,
-  span_size,
-  span_rows,
-  from_seen,
-  bytes-part,
-  among_decides,
-  has_move_decides,
-}
-
--- from the first row that leaves p on, one row after the other, up to one that does not
-module _ (t : List ℕ) (p start : ℕ) where
-  pub leave-start : start ≤ length (rows_of t) → Leave (rows_of t) p start start
-  leave-start h = record { ordered = omega arith; within = h; each_leaves = λ i a b. absurd (omega arith) }
-
-  module _ (end : ℕ) (g : Leave (rows_of t) p start end) where
-    pub leave_on : end < length (rows_of t) → (row_of t end).0 ≡ p → Leave (rows_of t) p start (end + 1)
-    leave_on h e = record {
-      ordered = omega (arith, g.ordered);
-      within = omega arith;
-      each_leaves = λ i a b. go i a b (ltb i end) refl;
-    }
-      where
-        go : (i : ℕ) → start ≤ i → i < end + 1 → (c : Bool) → ltb i end ≡ c → (get_or (rows_of t) i (0, 0, 0)).0 ≡ p
-        go i a b true c = g.each_leaves i a (ltb-true i end c)
-        go i a b false c =
-            let last : i ≡ end = omega (arith, ltb-false i end c) in
-            rw last (from_seen t end h ∙ e)
-
-    module _ (low : Rising (rows_of t) → start ≡ below p (rows_of t)) where
-      -- where no row behind leaves p, the rows end that are below p + 1
-      ended : (s : Rising (rows_of t))
-          → ((i : ℕ) → end ≤ i → i < length (rows_of t) → p + 1 ≤ (get_or (rows_of t) i (0, 0, 0)).0)
-          → end ≡ below (p + 1) (rows_of t)
-      ended s behind = below_point (p + 1) end (rows_of t) g.within (λ i h. go i h (ltb i start) refl) behind
-        where
-          go : (i : ℕ) → i < end → (c : Bool) → ltb i start ≡ c → (get_or (rows_of t) i (0, 0, 0)).0 < p + 1
-          go i h true c = omega (arith, before_count s p i (omega (arith, ltb-true i start c, low s)))
-          go i h false c = omega (arith, g.each_leaves i (ltb-false i start c) h)
-
-      pub leave-all : length (rows_of t) ≤ end → Rising (rows_of t) → end ≡ below (p + 1) (rows_of t)
-      leave-all h s = ended s (λ i a b. absurd (omega arith))
-
-      pub leave_other : end < length (rows_of t) → ((row_of t end).0 ≡ p → ⊥) → Rising (rows_of t)
-          → end ≡ below (p + 1) (rows_of t)
-      leave_other h ne s =
-          ended s (λ i a b. go i (froms_rise s end i a b) (placed (get_or (rows_of t) end (0, 0, 0)).0 p))
-        where
-          not_under : p ≤ (get_or (rows_of t) end (0, 0, 0)).0
-          not_under = after-count s p end (omega (arith, low s, g.ordered)) h
-
-          go : (i : ℕ) {x y z : Bool} → (get_or (rows_of t) end (0, 0, 0)).0 ≤ (get_or (rows_of t) i (0, 0, 0)).0
-              → Placed (get_or (rows_of t) end (0, 0, 0)).0 p x y z → p + 1 ≤ (get_or (rows_of t) i (0, 0, 0)).0
-          go i a (under b) = absurd (omega (arith, not_under))
-          go i a (level e) = absurd (ne (sym (from_seen t end h) ∙ e))
-          go i a (over b) = omega arith
+use Rattle.tables.specs.Tables.{rows_of, bytes_of, rows_from, among, has_move, table_of, Rising, Together}
+use Rattle.tables.specs.Working.{row_bytes, moves_in, below}
+use Rattle.tables.proofs.Chunks.{threes_chunks, chunks_read}
+use Rattle.tables.proofs.Rows.{froms_rise, below_point, span_rows, among_decides, has_move_decides}
 
 -- a row of a part, by its number among all
 row_number : (rows : List Row) (first many : ℕ) → first + many ≤ length rows → {r : Row}
@@ -99,46 +39,91 @@ row_number rows first many h m =
       sym (get_or-take many (drop first rows) i (0, 0, 0) b ∙ get_or-drop first rows i (0, 0, 0)) ∙ e,
     )
 
--- the part of a table that is the rows from one that leaves p up to another that does not
-module _ (t : List ℕ) (p start end : ℕ) (g : Leave (rows_of t) p start end) where
-  pub part_together : Together (rows_of t) p (take (3 * end + 1 - (3 * start + 1)) (drop (3 * start + 1) t))
-  part_together = record {
+-- the rows from number k on, as the code holds them
+abbrev pub rows_behind : ℕ → List (List ℕ) → List (List ℕ)
+rows_behind k rows = take (length rows - k) (drop k rows)
+
+-- rows as the code holds them are their three bytes each
+flat : (rows : List Row) → flat_map (λ x. x) (map row_bytes rows) ≡ each row_bytes rows
+flat [] = refl
+flat (r ∷ rows) = ap (row_bytes r ++◌) (flat rows)
+
+prefix-bytes : (p : ℕ) (rows : List Row)
+    → prefix_len (λ x. eqb (get_or x 0 0) p) (map row_bytes rows) ≡ prefix_len (λ (r : Row). same r.0 p) rows
+prefix-bytes p [] = refl
+prefix-bytes p (r ∷ rows) = ap (λ n. cond (same r.0 p) (1 + n) 0) (prefix-bytes p rows)
+
+-- the state that a row leaves, as the code sees it
+state_at : (rows : List Row) (i : ℕ) → i < length rows
+    → get_or (get_or (map row_bytes rows) i (0 ∷ 0 ∷ 0 ∷ [])) 0 0 ≡ (get_or rows i (0, 0, 0)).0
+state_at rows i h = ap (λ x. get_or x 0 0) (get_or-map row_bytes rows i (0, 0, 0) (0 ∷ 0 ∷ 0 ∷ []) h)
+
+module _ (t : List ℕ) (p : ℕ) (rows : List (List ℕ)) (e : rows ≡ map row_bytes (rows_of t)) where
+  -- where rows rise, the code's test of a lower state holds up to a place and not from there on
+  pub states_part : Rising (rows_of t) → IsPartitionedBy (λ x. ltb (get_or x 0 0) p) rows
+  states_part s = IsPartitionedBy-ltb (λ x. get_or x 0 0) rows p
+      (rw e (IsNonDecreasingBy-from_default (λ x. get_or x 0 0) (map row_bytes (rows_of t)) (0 ∷ 0 ∷ 0 ∷ []) (λ i j h k.
+      let l : j < length (rows_of t) = omega (arith, length-map (rows_of t) row_bytes) in
+      rw (state_at (rows_of t) i (omega arith), state_at (rows_of t) j l) (froms_rise s i j h l))))
+
+  -- and this place is the number of rows that leave a lower state
+  pub states_place : (i : ℕ) → i ≤ length rows
+      → IsPartitionPoint (λ x. ltb (get_or x 0 0) p ≡ true) (λ x. ltb (get_or x 0 0) p ≡ false) rows i
+      → i ≡ below p (rows_of t)
+  states_place i h g =
+      let n : length rows ≡ length (rows_of t) = ap length e ∙ length-map (rows_of t) row_bytes in
+      below_point p i (rows_of t) (omega arith)
+      (λ k l. let q = ltb-true _ p (g.0 k (0 ∷ 0 ∷ 0 ∷ []) (omega arith) l) in omega (arith, q, seen k (omega arith)))
+      (λ k l m. let q = ltb-false _ p (g.1 k (0 ∷ 0 ∷ 0 ∷ []) l (omega arith)) in omega (arith, q, seen k m))
+    where
+      seen : (k : ℕ) → k < length (rows_of t)
+          → get_or (get_or rows k (0 ∷ 0 ∷ 0 ∷ [])) 0 0 ≡ (get_or (rows_of t) k (0, 0, 0)).0
+      seen k h = rw e (state_at (rows_of t) k h)
+
+-- the rows from number `start` on that leave p, up to the first that does not, as their bytes
+module _ (t : List ℕ) (p start many : ℕ) (rows : List (List ℕ)) (bytes : List ℕ) (e : rows ≡ map row_bytes (rows_of t))
+    (h : start ≤ length rows) (m : many ≡ prefix_len (λ x. eqb (get_or x 0 0) p) (rows_behind start rows))
+    (b : bytes ≡ flat_map (λ x. x) (take many (rows_behind start rows))) where
+  behind : rows_behind start rows ≡ map row_bytes (drop start (rows_of t))
+  behind = take_rest rows start ∙ ap (drop start) e ∙ drop-map row_bytes start (rows_of t)
+
+  many_rows : many ≡ prefix_len (λ (r : Row). same r.0 p) (drop start (rows_of t))
+  many_rows = m ∙ ap (prefix_len (λ x. eqb (get_or x 0 0) p)) behind ∙ prefix-bytes p (drop start (rows_of t))
+
+  their_bytes : bytes ≡ bytes_of (take many (drop start (rows_of t)))
+  unfolding bytes_of
+  their_bytes =
+      b ∙ rw (behind, take-map row_bytes many (drop start (rows_of t))) (flat (take many (drop start (rows_of t))))
+
+  pub span_together : Together (rows_of t) p bytes
+  span_together = record {
     first = start;
-    many = end - start;
+    many = many;
     inside = inside;
-    given = rw size (bytes-part t start (end - start) inside);
-    leave = λ r m. let (i, a, b, e) = row_number (rows_of t) start (end - start) inside m in
-        sym (ap (λ z. z.0) e) ∙ g.each_leaves i a (omega (arith, g.ordered));
+    given = their_bytes;
+    leave = λ r k.
+        let (i, a, q) = number_of (0, 0, 0) k in
+        let l : i < many = omega (arith, length-take many (drop start (rows_of t))) in
+        ap (λ z. z.0) (sym q ∙ get_or-take many (drop start (rows_of t)) i (0, 0, 0) l)
+        ∙ eqb-true _ _ (prefix_len_passes (λ (z : Row). same z.0 p) (drop start (rows_of t)) i (0, 0, 0)
+        (omega (arith, many_rows)));
   }
     where
-      inside : start + (end - start) ≤ length (rows_of t)
-      inside = omega (arith, g.ordered, g.within)
+      inside : start + many ≤ length (rows_of t)
+      inside = omega (
+        arith,
+        many_rows,
+        prefix_len-le-length (λ (z : Row). same z.0 p) (drop start (rows_of t)),
+        length-drop start (rows_of t),
+        ap length e,
+        length-map (rows_of t) row_bytes,
+      )
 
-      size : 3 * end + 1 - (3 * start + 1) ≡ 3 * (end - start)
-      size = omega arith
-
-  module _ (low : Rising (rows_of t) → start ≡ below p (rows_of t))
-      (high : Rising (rows_of t) → end ≡ below (p + 1) (rows_of t)) where
-    pub empty_span : end ≤ start → Rising (rows_of t) → [] ≡ bytes_of (rows_from p (rows_of t))
-    unfolding bytes_of
-    empty_span h s =
-        let z : leaving p (rows_of t) ≡ 0 = omega (arith, low s, high s, span_size p (rows_of t)) in
-        ap (each row_bytes) (sym (rw z at (span_rows s p)))
-
-    pub whole_span : Rising (rows_of t)
-        → take (3 * end + 1 - (3 * start + 1)) (drop (3 * start + 1) t) ≡ bytes_of (rows_from p (rows_of t))
-    whole_span s =
-        let many = leaving p (rows_of t) in
-        let size = span_size p (rows_of t) in
-        let z : 3 * end + 1 - (3 * start + 1) ≡ 3 * many = omega (arith, low s, high s, size) in
-        rw (z, low s, span_rows s p)
-        (bytes-part t (below p (rows_of t)) many (omega (arith, size, below_le (p + 1) (rows_of t))))
-
--- no rows stand together
-pub none_together : (rows : List Row) (p : ℕ) → Together rows p []
-unfolding bytes_of
-none_together rows p =
-    record { first = 0; many = 0; inside = omega arith; given = refl; leave = λ r m. absurd (nowhere m) }
+  pub span_exact : (Rising (rows_of t) → start ≡ below p (rows_of t)) → Rising (rows_of t)
+      → bytes ≡ bytes_of (rows_from p (rows_of t))
+  span_exact low s =
+      their_bytes
+      ∙ ap bytes_of (ap (λ n. take n (drop start (rows_of t))) many_rows ∙ rw (low s) (sym (span_rows s p)))
 
 -- a row that leaves p is one of p's moves
 row_move : (rows : List Row) (p i : ℕ) → i < length rows → (r : Row) → get_or rows i (0, 0, 0) ≡ r → r.0 ≡ p

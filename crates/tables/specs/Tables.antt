@@ -1,18 +1,14 @@
 -- Tables: document 01, "Machines and labels", and the numbers 3, 5, 6 and 7 of "Who can cause a refusal".
 -- A table as bytes is n, then its rows, three bytes each: from, label, to.
-use Rattle.std.specs.Prelude.{ℕ, ◌+◌, ◌%◌, ◌≤◌, ◌<◌, ◌≡◌, Bool, true, cond, ◌&&◌, ◌||◌, not, List, [], ◌∷◌, length, get_or, take, drop, eqb, leb, ltb}
+use Rattle.std.specs.Prelude.{ℕ, ◌+◌, ◌%◌, ◌≤◌, ◌<◌, ◌≡◌, Bool, true, cond, ◌&&◌, ◌||◌, not, List, [], ◌∷◌, length, get_or, take, drop, eqb, leb, ltb, None, Ok, Option, Some}
 use Rattle.hml.specs.Lists.{same, ◌∈◌, any, each, only}
 use Rattle.hml.specs.System.{System}
 use Rattle.hml.specs.Machine.{Row, machine}
 use Rattle.labels.specs.Labels.{count}
-use Rattle.labels.specs.Refusals.{refused_if, then_of, first_of}
-use Rattle.labels.specs.declared.refusal.Check.{Check}
-use Rattle.labels.specs.declared.refusal.Check.TheVariants.{Sound}
+use Rattle.labels.specs.Refusals.{refused_if, then_of, first_of, Check}
 use Rattle.labels.specs.declared.refusal.Refusal.TheVariants.{WrongLength, OutOfRange, RowNotAbove, NinthRow}
 use Rattle.labels.specs.declared.label.Labels.{Labels}
 use Rattle.tables.specs.declared.row.Row as declared-row
-use Rattle.tables.specs.declared.row.RowRead.{RowRead}
-use Rattle.tables.specs.declared.row.RowRead.TheVariants as read
 
 -- the number of states
 abbrev pub states_of : List ℕ → ℕ
@@ -51,8 +47,8 @@ abbrev pub row_struct : Row → declared-row.Row
 row_struct r = record { from = r.0; label = record { 0 = r.1 }; to = r.2 }
 
 -- a row by its number, from 0
-unfoldable pub row_read : List ℕ → ℕ → RowRead
-row_read t i = cond (ltb i (length (rows_of t))) (read.Row (row_struct (get_or (rows_of t) i (0, 0, 0)))) read.NoRow
+unfoldable pub row_read : List ℕ → ℕ → (Option declared-row.Row)
+row_read t i = cond (ltb i (length (rows_of t))) (Some (row_struct (get_or (rows_of t) i (0, 0, 0)))) None
 
 -- 3: "3 to 1,539, a multiple of 3" counts a record's kind of two bytes, so a table has 1 to 1,537 bytes, one more than
 -- a multiple of 3
@@ -92,7 +88,7 @@ check_row k n before r = first_of
 
 -- row by row: the first bad row decides
 unfoldable pub check_rows : Labels → ℕ → List Row → List Row → Check
-check_rows k n before [] = Sound
+check_rows k n before [] = Ok tt
 check_rows k n before (r ∷ rows) = then_of (check_row k n before r) (check_rows k n (r ∷ before) rows)
 
 -- the check of a table, for the labels of a call

@@ -1,61 +1,63 @@
-// Rows of a table, read by their number.
-ghost use Rattle.std.specs.Prelude.{◌≡◌, ◌<◌, length};
-ghost use Rattle.tables.specs.Tables.{rows_of, row_read, row_struct};
-ghost use Rattle.tables.specs.Working.{row_of};
+// Rows of a table: three bytes each, behind the number of states.
+ghost use Rattle.std.specs.Prelude.{◌≡◌, ◌<◌, length, map};
+ghost use Rattle.tables.specs.Tables.{threes, rows_of, row_read, row_struct};
+ghost use Rattle.tables.specs.Working.{row_of, row_bytes, triple_of};
 
 use labels::label::Label;
 
-#[derive(Clone, Copy)]
+// Rows are compared by from, then label, then to.
+#[derive(Clone, Copy, PartialEq, Eq, PartialOrd, Ord)]
 pub struct Row {
     pub from: u8,
     pub label: Label,
     pub to: u8,
 }
 
-// What reading a row by its number finds.
-#[derive(Clone, Copy)]
-pub enum RowRead {
-    Row(Row),
-    NoRow,
+impl From<[u8; 3]> for Row {
+    ghost from_gives = { λ bytes r. bytes ≡ row_bytes (triple_of r) };
+
+    fn from([from, label, to]: [u8; 3]) -> Row {
+        Row {
+            from,
+            label: Label(label),
+            to,
+        }
+    }
 }
 
-// How many rows the table has.
-pub(crate) fn row_count(table: &[u8]) -> usize
-    ensures { result ≡ length (rows_of table.now) }
+// Bytes as rows of three; bytes that fill no row are none.
+pub fn rows_in(bytes: &[u8]) -> &[[u8; 3]]
+    ensures { result.now ≡ map row_bytes (threes bytes.now) }
 {
-    let n = table.len();
-    if n == 0 {
-        return 0;
+    let (rows, _) = bytes.as_chunks::<3>();
+    rows
+}
+
+// The rows of a table.
+#[tactic(auto, unfolding(crate::specs::Tables::rows_of))]
+pub(crate) fn rows(table: &[u8]) -> &[[u8; 3]]
+    ensures bytes { result.now ≡ map row_bytes (rows_of table.now) }
+    ensures count { length result.now ≡ length (rows_of table.now) }
+{
+    match table.split_first() {
+        Some((_, bytes)) => rows_in(bytes),
+        None => &[],
     }
-    (n - 1) / 3
 }
 
 // A row by its number, from 0: any bytes have as many rows as three bytes each make behind the first.
-pub fn row_at(table: &[u8], i: usize) -> RowRead
+#[tactic(auto, using(crate::proofs::Rows::row_seen), unfolding(crate::specs::Tables::row_read))]
+pub fn row_at(table: &[u8], i: usize) -> Option<Row>
     ensures { result ≡ row_read table.now i }
 {
-    if i < row_count(table) {
-        return RowRead::Row(row_of(table, i));
-    }
-    RowRead::NoRow
+    rows(table).get(i).map(|bytes| Row::from(*bytes))
 }
 
 // The row of a number that the table has.
+#[tactic(auto, using(crate::proofs::Rows::row_seen))]
 pub(crate) fn row_of(table: &[u8], i: usize) -> Row
     requires { i < length (rows_of table.now) }
     ensures { result ≡ row_struct (row_of table.now i) }
 {
-    let at = 3 * i + 1;
-    let from = table[at];
-    let label = Label(table[at + 1]);
-    let to = table[at + 2];
-    Row { from, label, to }
-}
-
-// The state that a row leaves.
-pub(crate) fn from_at(table: &[u8], i: usize) -> usize
-    requires { i < length (rows_of table.now) }
-    ensures { result ≡ (row_of table.now i).0 }
-{
-    table[3 * i + 1] as usize
+    Row::from(rows(table)[i])
 }

@@ -3,7 +3,6 @@ use Prim.Native.Nat.{ℕ, ◌+◌, ◌-◌}
 use mathlib.Core.Path.{◌≡◌, refl, sym, ◌∙◌, ap, ap₂}
 use mathlib.Core.Bool.{Bool, true, false, ◌&&◌, ◌||◌, and-false}
 use mathlib.Core.List.{List}
-use mathlib.Core.Option.{Option, none, some}
 use lib.ListN.{get_or, drop}
 use borrow.Author.Tests.{eq-eqb, ne_eqb, eqb-true}
 use Rattle.hml.specs.Lists.{same, any, present}
@@ -15,12 +14,12 @@ use Rattle.hml.specs.Compose.{shakes, beside}
 use Rattle.hml.proofs.Composition.{decided_shakes, beside_composed, Composed}
 use Rattle.labels.specs.Labels.{partner_found, pairing}
 use Rattle.labels.specs.declared.label.Labels.{Labels}
-use Rattle.labels.specs.declared.label.Partner.TheVariants as partner
 use Rattle.labels.proofs.Labels.{found_some, found_none}
 use Rattle.halves.specs.Runs.{step_of}
 use Rattle.hml.specs.Labels.{positive}
 use Rattle.verdict.proofs.TwoGrids.{first_pair}
 use Rattle.verdict.specs.Working.{Shown, pairs_in, grid_of, judged, tried, shaken}
+use Rattle.std.specs.Prelude.{None, Option, Some}
 
 -- the handshakes, by the rows of the left
 module _ (P : Pairing) (F : ℕ → ℕ → Bool) (rights : List (ℕ × ℕ)) (g : List ℕ) (at rows : ℕ) where
@@ -47,10 +46,10 @@ module _ (P : Pairing) (F : ℕ → ℕ → Bool) (rights : List (ℕ × ℕ)) (
 
 -- by what the lookup of a partner found
 pub partner-tried : (F : ℕ → Bool) (o : Option ℕ) (b : ℕ) (v : Bool)
-    → partner.Label (record { 0 = b }) ≡ partner_found o → v ≡ F b → v ≡ present F o
+    → Some (record { 0 = b }) ≡ partner_found o → v ≡ F b → v ≡ present F o
 partner-tried F o b v e p = rw (found_some o (record { 0 = b }) e) p
 
-pub nobody_tried : (F : ℕ → Bool) (o : Option ℕ) → partner.Nobody ≡ partner_found o → false ≡ present F o
+pub nobody_tried : (F : ℕ → Bool) (o : Option ℕ) → None ≡ partner_found o → false ≡ present F o
 nobody_tried F o e = rw (found_none o e)
 
 -- a move whose label is the other's partner shakes hands
@@ -62,16 +61,16 @@ shakes-tried P F a moves = go (P.partner a) refl
     go : (o : Option ℕ) → P.partner a ≡ o
         → any (λ n. shakes P a n.0 && F n.1) moves
         ≡ present (λ b. any (λ n. same n.0 b && F n.1) moves) o
-    go none e =
+    go None e =
         any_cong (λ v. ap (◌&& F v.1) (denied (decided_shakes P a v.0) (λ w. let z = sym e ∙ w in apart cc)))
         moves
         ∙ any_false moves
-    go (some b) e = any_cong (λ v. ap (◌&& F v.1) (alike v.0)) moves
+    go (Some b) e = any_cong (λ v. ap (◌&& F v.1) (alike v.0)) moves
       where
         alike : (c : ℕ) → shakes P a c ≡ same c b
         alike c = decided_alike
             (λ w. let z = sym w ∙ e in cc)
-            (λ w. e ∙ ap some (sym w))
+            (λ w. e ∙ ap Some (sym w))
             (decided_shakes P a c)
             (decided_same c b)
 

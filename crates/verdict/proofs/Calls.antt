@@ -1,11 +1,11 @@
 -- What the checks of a call let through, and that its answer is then the verdict.
 use Prim.Native.Nat.{ℕ, ◌+◌, ◌*◌, ◌/◌, ◌%◌, ◌≤◌, ◌<◌}
 use mathlib.Core.Path.{◌≡◌, refl, sym, ◌∙◌, ap, fun_ext}
-use mathlib.Core.Bool.{Bool, true, false, not}
+use mathlib.Core.Bool.{Bool, true, false, not, false≢true}
 use mathlib.Core.List.{List, [], ◌∷◌, ◌++◌}
 use native.Mathlib.Omega.{arith}
 use lib.ListN.{length, get_or, take}
-use lib.Seq.{take-take, take_at, get_or-take, length-take-le, take-length}
+use lib.Seq.{take-take, take_at, get_or-take, length-take-le}
 use lib.Dec.{ltb}
 use borrow.Author.Tests.{lt-ltb, le-ltb, ltb-false, ne_eqb}
 use Rattle.hml.specs.Lists.{present}
@@ -13,14 +13,11 @@ use Rattle.hml.specs.System.{Run, last, steps, stop}
 use Rattle.hml.specs.Formula.{Formula, nesting, holds}
 use Rattle.hml.specs.Machine.{machine}
 use Rattle.hml.proofs.Alone.{holds_alone}
-use Rattle.hml.proofs.Tests.{apart}
-use Rattle.labels.specs.Refusals.{then_of, first_of, refused_if}
+use Rattle.labels.specs.Refusals.{then_of, first_of, refused_if, Check}
 use Rattle.labels.specs.Labels.{check_labels, pairing}
 use Rattle.labels.specs.declared.label.Labels.{Labels}
 use Rattle.labels.specs.declared.refusal.Refusal.{Refusal}
 use Rattle.labels.specs.declared.refusal.Refusal.TheVariants.{PointBeyond}
-use Rattle.labels.specs.declared.refusal.Check.{Check}
-use Rattle.labels.specs.declared.refusal.Check.TheVariants.{Sound, Refused}
 use Rattle.labels.proofs.Slices.{copied}
 use Rattle.labels.proofs.Refusals.{then_sound, both_sound, passed, unrefused, judges}
 use Rattle.tables.specs.Tables.{table_of, check_table, fit_table, fit_states, rows_of, threes, check_rows, SoundTable}
@@ -40,11 +37,9 @@ use Rattle.formulas.proofs.Operands.{legal_nesting, legal_labels}
 use Rattle.verdict.specs.Verdicts.{joint_holds, half_holds, check_joint_call, check_half_call, verdict_of, answered}
 use Rattle.verdict.specs.Verdicts.{joint_verdict, half_verdict}
 use Rattle.verdict.specs.Working.{Ready, Coded, Whole, Tells, judged_by, tree_at, tables_hold, beside_still}
-use Rattle.verdict.specs.declared.chain.Told.{Told}
-use Rattle.verdict.specs.declared.chain.Told.TheVariants as told
-use Rattle.verdict.specs.declared.answer.Verdict.{Verdict}
-use Rattle.verdict.specs.declared.answer.Verdict.TheVariants as verdict
 use Rattle.verdict.proofs.Still.{still_read, still-length, still-take, still-ends}
+use Rattle.std.specs.Prelude.{Err, Ok, Option, Result, Some}
+use Rattle.std.specs.Result.{is_err}
 
 -- a buffer that begins with a run up to its point p, which ends at each point in the two states written last
 front-held : (s xs : List ℕ) (p : ℕ) → take (3 * p + 2) xs ≡ take (3 * p + 2) s → 3 * p + 2 ≤ length xs
@@ -95,23 +90,14 @@ module _ (k : Labels) (f : List ℕ) (legal : Legal k quotient_limit f) where
     tree-judged : b ≡ present (λ φ. tables_hold labels l r φ j) (formula_of f)
     tree-judged = rw (legal_tree k quotient_limit f legal) p
 
-    tree-holds : b ≡ true → verdict.Holds ≡ verdict_of (present (λ φ. tables_hold labels l r φ j) (formula_of f))
-    unfolding verdict_of
-    tree-holds e = rw (← tree-judged, e)
-
-    tree_fails : b ≡ false → verdict.Fails ≡ verdict_of (present (λ φ. tables_hold labels l r φ j) (formula_of f))
-    unfolding verdict_of
-    tree_fails e = rw (← tree-judged, e)
+    tree_given : Ok b ≡ verdict_of (present (λ φ. tables_hold labels l r φ j) (formula_of f))
+    tree_given = ap Ok tree-judged
 
   -- as a chain tells it
-  module _ (labels : Labels) (l r : List ℕ) (j : Run (ℕ × ℕ)) (w : Told) (h : Tells w f j) where
-    pub told_holds : w ≡ told.Holds → verdict.Holds ≡ verdict_of (present (λ φ. tables_hold labels l r φ j) (formula_of f))
+  module _ (labels : Labels) (l r : List ℕ) (j : Run (ℕ × ℕ)) (w : Option Bool) (h : Tells w f j) where
+    pub told_given : (b : Bool) → w ≡ Some b → Ok b ≡ verdict_of (present (λ φ. tables_hold labels l r φ j) (formula_of f))
     unfolding Tells tables_hold
-    told_holds e = let t = rw e at h in tree-holds labels l r j true (t _) refl
-
-    pub told_fails : w ≡ told.Fails → verdict.Fails ≡ verdict_of (present (λ φ. tables_hold labels l r φ j) (formula_of f))
-    unfolding Tells tables_hold
-    told_fails e = let t = rw e at h in tree_fails labels l r j false (t _) refl
+    told_given b e = let t = rw e at h in tree_given labels l r j b (t _)
 
   -- the verdict by grids is the tables' verdict, if it is for every formula that nests so many forward modalities
   module _ (labels : Labels) (l r g ws : List ℕ) (c : Coded ws f)
@@ -121,11 +107,8 @@ module _ (k : Labels) (f : List ℕ) (legal : Legal k quotient_limit f) where
     grids_judged : b ≡ tables_hold labels l r (tree_of f) j
     grids_judged = let q = rw c.spelled at p in q ∙ same (tree_of f) (nesting_forwards f one-tree) j
 
-    pub legal_holds : b ≡ true → verdict.Holds ≡ verdict_of (present (λ φ. tables_hold labels l r φ j) (formula_of f))
-    legal_holds e = tree-holds labels l r j b grids_judged e
-
-    pub legal_fails : b ≡ false → verdict.Fails ≡ verdict_of (present (λ φ. tables_hold labels l r φ j) (formula_of f))
-    legal_fails e = tree_fails labels l r j b grids_judged e
+    pub legal_given : Ok b ≡ verdict_of (present (λ φ. tables_hold labels l r φ j) (formula_of f))
+    legal_given = tree_given labels l r j b grids_judged
 
 -- the joint call
 module _ (k : Labels) (l r s f : List ℕ) where
@@ -141,14 +124,14 @@ module _ (k : Labels) (l r s f : List ℕ) where
       (refused_if (ltb (steps (joint_of s)) p) PointBeyond)
     where
       go : (c l r j f b : Check)
-          → then_of c (then_of l (then_of r (then_of j (then_of f (then_of b Sound)))))
-          ≡ then_of (then_of c (then_of (then_of l (then_of r (then_of j Sound))) f)) b
-      go (Refused x) l r j f b = refl
-      go Sound (Refused x) r j f b = refl
-      go Sound Sound (Refused x) j f b = refl
-      go Sound Sound Sound (Refused x) f b = refl
-      go Sound Sound Sound Sound (Refused x) b = refl
-      go Sound Sound Sound Sound Sound b = then_sound b
+          → then_of c (then_of l (then_of r (then_of j (then_of f (then_of b (Ok tt))))))
+          ≡ then_of (then_of c (then_of (then_of l (then_of r (then_of j (Ok tt)))) f)) b
+      go (Err x) l r j f b = refl
+      go (Ok _) (Err x) r j f b = refl
+      go (Ok _) (Ok _) (Err x) j f b = refl
+      go (Ok _) (Ok _) (Ok _) (Err x) f b = refl
+      go (Ok _) (Ok _) (Ok _) (Ok _) (Err x) b = refl
+      go (Ok _) (Ok _) (Ok _) (Ok _) (Ok _) b = then_sound b
 
   -- what they let through
   pub record JointCall : Type 0 where
@@ -157,7 +140,7 @@ module _ (k : Labels) (l r s f : List ℕ) where
     pub real : is_joint_run k l r s ≡ true
     pub legal : Legal k quotient_limit f
 
-  joint_parts_lem : joint_parts ≡ Sound → JointCall
+  joint_parts_lem : joint_parts ≡ Ok tt → JointCall
   unfolding check_tables_and_joint check_joint first_of
   joint_parts_lem e =
       let (labels, a) = both_sound (check_labels k)
@@ -185,42 +168,53 @@ module _ (k : Labels) (l r s f : List ℕ) where
     joint-steps : steps (joint_of s) ≡ length s / 3
     joint-steps = joint_accepted.counted
 
-    -- a point of the run
-    module _ (p : ℕ) (within : p ≤ length s / 3) where
-      pub joint-room : (3 * p + 2 ≤ length s) × (p ≤ 200)
-      joint-room = let a = joint_accepted in omega (arith, a.whole, a.counted, a.few)
-
-      -- a buffer that begins with the run up to the point
-      module _ (xs : List ℕ) (e : take (3 * p + 2) xs ≡ take (3 * p + 2) s) where
-        pub joint-held : 3 * p + 2 ≤ length xs → Held xs (3 * p + 2)
-        joint-held h =
-            let held = accepted_held k l r (no_idle-label call.tables.left) (no_idle-label call.tables.right) s
-            call.fit call.real in
-            front-held s xs p e h (λ m i. held.kept m (omega (arith, i, joint-room)))
-
-        pub joint_answer : check_joint_call k l r s f p ≡ Sound → (v : Verdict)
-            → v ≡ verdict_of (present (λ φ. tables_hold k l r φ (joint_of (take (3 * p + 2) xs)))
-            (formula_of f))
-            → v ≡ joint_verdict k l r s f p
-        unfolding joint_verdict joint_holds answered tables_hold
-        joint_answer c v w = rw (c, ← joint-stop s p, ← e) w
-
   -- the cases of the check
-  pub joint_refused : (p : ℕ) (x : Refusal) → joint_parts ≡ Refused x → Refused x ≡ check_joint_call k l r s f p
+  pub joint_refused : (p : ℕ) (x : Refusal) → joint_parts ≡ Err x → Err x ≡ check_joint_call k l r s f p
   joint_refused p x e = rw (joint_regroup p, e)
 
-  pub joint-beyond : (p : ℕ) → joint_parts ≡ Sound → length s / 3 < p → Refused PointBeyond ≡ check_joint_call k l r s f p
+  pub joint-beyond : (p : ℕ) → joint_parts ≡ Ok tt → length s / 3 < p → Err PointBeyond ≡ check_joint_call k l r s f p
   joint-beyond p e h = rw (joint_regroup p, e, joint-steps (joint_parts_lem e), lt-ltb (length s / 3) p h)
 
-  pub joint_sound : (p : ℕ) → joint_parts ≡ Sound → p ≤ length s / 3 → Sound ≡ check_joint_call k l r s f p
+  pub joint_sound : (p : ℕ) → joint_parts ≡ Ok tt → p ≤ length s / 3 → Ok tt ≡ check_joint_call k l r s f p
   joint_sound p e h = rw (joint_regroup p, e, joint-steps (joint_parts_lem e), le-ltb (length s / 3) p h)
 
-  pub joint_call : (p : ℕ) → check_joint_call k l r s f p ≡ Sound → JointCall × (p ≤ length s / 3)
+  pub joint_call : (p : ℕ) → check_joint_call k l r s f p ≡ Ok tt → JointCall × (p ≤ length s / 3)
   joint_call p e =
       let (a, b) = both_sound joint_parts (refused_if (ltb (steps (joint_of s)) p) PointBeyond)
       (sym (joint_regroup p) ∙ e) in
       let c = joint_parts_lem a in
       (c, omega (arith, joint-steps c, ltb-false (steps (joint_of s)) p (unrefused _ _ b)))
+
+  -- a call that is let through, at its point
+  module _ (p : ℕ) (check : check_joint_call k l r s f p ≡ Ok tt) where
+    joint_through : JointCall
+    joint_through = (joint_call p check).0
+
+    pub joint_tables : Tables k l r
+    joint_tables = joint_through.tables
+
+    pub joint_legal : Legal k quotient_limit f
+    joint_legal = joint_through.legal
+
+    pub joint-room : (3 * p + 2 ≤ length s) × (p ≤ 200)
+    joint-room =
+        let a = joint_accepted joint_through in
+        omega (arith, a.whole, a.counted, a.few, (joint_call p check).1)
+
+    -- a buffer that begins with the run up to the point
+    module _ (xs : List ℕ) (e : take (3 * p + 2) xs ≡ take (3 * p + 2) s) where
+      pub joint-held : 3 * p + 2 ≤ length xs → Held xs (3 * p + 2)
+      joint-held h =
+          let held = accepted_held k l r (no_idle-label joint_tables.left) (no_idle-label joint_tables.right) s
+          joint_through.fit joint_through.real in
+          front-held s xs p e h (λ m i. held.kept m (omega (arith, i, joint-room)))
+
+      pub joint_answer : (v : Result Bool Refusal)
+          → v ≡ verdict_of (present (λ φ. tables_hold k l r φ (joint_of (take (3 * p + 2) xs)))
+          (formula_of f))
+          → v ≡ joint_verdict k l r s f p
+      unfolding joint_verdict joint_holds answered tables_hold
+      joint_answer v w = rw (check, ← joint-stop s p, ← e) w
 
 -- the copy of the first n bytes
 pub front_copied : (s xs ys : List ℕ) (n : ℕ) → n ≤ length s → xs ≡ take (length (take n s)) (take n s) ++ ys
@@ -228,14 +222,14 @@ pub front_copied : (s xs ys : List ℕ) (n : ℕ) → n ≤ length s → xs ≡ 
 front_copied s xs ys n h e = let c = copied (take n s) xs ys e in rw (length-take-le n s h) at c
 
 -- the labels judged first, then the other parts
-pub labels_refused : (c d : Check) (x : Refusal) → c ≡ Refused x → then_of c d ≡ Refused x
+pub labels_refused : (c d : Check) (x : Refusal) → c ≡ Err x → then_of c d ≡ Err x
 labels_refused c d x e = rw e
 
-pub labels_sound : (c d e : Check) → c ≡ Sound → d ≡ e → then_of c d ≡ e
+pub labels_sound : (c d e : Check) → c ≡ Ok tt → d ≡ e → then_of c d ≡ e
 labels_sound c d e p q = rw p q
 
 -- a check that refuses is not sound, and its refusal is the answer
-pub answer_refused : (c : Check) (x : Refusal) (b : Bool) → c ≡ Refused x → verdict.Refused x ≡ answered c b
+pub answer_refused : (c : Check) (x : Refusal) (b : Bool) → c ≡ Err x → Err x ≡ answered c b
 unfolding answered
 answer_refused c x b e = rw e
 
@@ -251,6 +245,13 @@ nothing_leaves : table_of still 0 ≡ []
 unfolding table_of machine rows_of threes
 nothing_leaves = refl
 
+-- a half that no check refuses has a table that none refuses
+pub run_tabled : (k : Labels) (t s : List ℕ) (c : Check) → c ≡ check_table_and_half k t s → is_err c ≡ false
+    → check_table k t ≡ Ok tt
+unfolding check_table_and_half first_of
+run_tabled k t s (Ok _) h e = (both_sound (check_table k t) _ (sym h)).0
+run_tabled k t s (Err x) h e = absurd (false≢true (sym e))
+
 -- the half call
 module _ (k : Labels) (t s f : List ℕ) where
   -- the checks of the parts
@@ -265,12 +266,12 @@ module _ (k : Labels) (t s f : List ℕ) where
       (check_half t s)
     where
       go : (c t f b h : Check)
-          → then_of c (then_of t (then_of f (then_of b (then_of h Sound)))) ≡ then_of (then_of c (then_of t f)) (then_of b h)
-      go (Refused x) t f b h = refl
-      go Sound (Refused x) f b h = refl
-      go Sound Sound (Refused x) b h = refl
-      go Sound Sound Sound (Refused x) h = refl
-      go Sound Sound Sound Sound h = then_sound h
+          → then_of c (then_of t (then_of f (then_of b (then_of h (Ok tt))))) ≡ then_of (then_of c (then_of t f)) (then_of b h)
+      go (Err x) t f b h = refl
+      go (Ok _) (Err x) f b h = refl
+      go (Ok _) (Ok _) (Err x) b h = refl
+      go (Ok _) (Ok _) (Ok _) (Err x) h = refl
+      go (Ok _) (Ok _) (Ok _) (Ok _) h = then_sound h
 
   -- what they let through
   pub record HalfCall : Type 0 where
@@ -278,93 +279,28 @@ module _ (k : Labels) (t s f : List ℕ) where
     pub run : is_half_run t s ≡ true
     pub legal : Legal k quotient_limit f
 
-  half_parts_lem : half_parts ≡ Sound → (check_table k t ≡ Sound) × (check_formula k quotient_limit f ≡ Sound)
+  half_parts_lem : half_parts ≡ Ok tt → (check_table k t ≡ Ok tt) × (check_formula k quotient_limit f ≡ Ok tt)
   half_parts_lem e =
       let (labels, a) = both_sound (check_labels k) (then_of (check_table k t) (check_formula k quotient_limit f)) e in
       both_sound (check_table k t) (check_formula k quotient_limit f) a
 
-  module _ (call : HalfCall) (p : ℕ) (within : beyond s p ≡ false) where
-    half_accepted : AcceptedHalf t s
-    half_accepted = accepted_half t s call.run
-
-    pub half_room : (2 * p + 1 ≤ length s) × (p ≤ 200)
-    unfolding beyond
-    half_room =
-        let a = half_accepted in
-        let w : ltb (length s / 2) p ≡ false = rw (ne_eqb (length s % 2) 0 (λ z. omega (arith, a.odd, z))) at within in
-        omega (arith, a.odd, a.counted, a.few, ltb-false (length s / 2) p w)
-
-    half_odd : length (take (2 * p + 1) s) % 2 ≡ 1
-    half_odd = rw (length-take-le (2 * p + 1) s half_room.0) (omega arith)
-
-    pub half_tables : Tables k t still
-    half_tables = record { left = call.table; right = still_sound k }
-
-    -- a buffer that begins with the run up to the point, beside the machine that stays in its state
-    module _ (xs ys : List ℕ) (e : xs ≡ beside_still (take (2 * p + 1) s) ++ ys) where
-      half_front : take (3 * p + 2) xs ≡ beside_still (take (2 * p + 1) s)
-      half_front =
-          let z = length-take-le (2 * p + 1) s half_room.0 in
-          rw e (take_at (beside_still (take (2 * p + 1) s)) ys (3 * p + 2)
-          (still-length (take (2 * p + 1) s) half_odd ∙ omega (arith, z)))
-
-      pub half_held : 3 * p + 2 ≤ length xs → Held xs (3 * p + 2)
-      half_held h =
-          front-held (beside_still s) xs p (half_front ∙ sym (still-take s p half_room.0)) h
-          (λ m i. still-ends t s call.run m (omega (arith, i, half_room)))
-
-      pub half_answer : check_half_call k t s f p ≡ Sound → (v : Verdict)
-          → v ≡ verdict_of (present (λ φ. tables_hold k t still φ (joint_of (take (3 * p + 2) xs)))
-          (formula_of f))
-          → v ≡ half_verdict k t s f p
-      unfolding half_verdict half_holds answered tables_hold
-      half_answer c v w =
-          let same : (φ : Formula)
-          → tables_hold k t still φ (joint_of (take (3 * p + 2) xs))
-          ≡ holds (table_of t) φ (stop p (half_of s)) = λ φ.
-          rw (half_front, still_read (take (2 * p + 1) s) half_odd, ← half_stop s p)
-          (holds_alone (pairing k) (table_of t) (table_of still) 0 nothing_leaves φ (half_of (take (2 * p + 1) s))) in
-          w ∙ ap verdict_of (ap (λ F. present F (formula_of f)) (fun_ext same)) ∙ rw c
-
   -- the cases of the check: labels that are refused
-  pub half_unlabelled : (p : ℕ) (x : Refusal) → check_labels k ≡ Refused x → Refused x ≡ check_half_call k t s f p
+  pub half_unlabelled : (p : ℕ) (x : Refusal) → check_labels k ≡ Err x → Err x ≡ check_half_call k t s f p
   half_unlabelled p x e = rw (half_regroup p, e)
 
-  -- the table and the half judged first: nothing of them is refused, or it comes last
-  module _ (labels : check_labels k ≡ Sound) (p : ℕ) where
-    abbrev behind : Check
-    behind = then_of (check_formula k quotient_limit f) (refused_if (beyond s p) PointBeyond)
+  -- the table refused, or not: then what is left, in order
+  module _ (labels : check_labels k ≡ Ok tt) (p : ℕ) where
+    pub half_untabled : (x : Refusal) → check_table k t ≡ Err x → Err x ≡ check_half_call k t s f p
+    unfolding check_half_call first_of
+    half_untabled x e = rw (labels, e)
 
-    pub half_sound : check_table_and_half k t s ≡ Sound → behind ≡ check_half_call k t s f p
+    pub half_tabled : check_table k t ≡ Ok tt
+        → {c d : Check} → check_formula k quotient_limit f ≡ c → refused_if (beyond s p) PointBeyond ≡ d
+        → then_of c (then_of d (check_table_and_half k t s)) ≡ check_half_call k t s f p
     unfolding check_half_call check_table_and_half first_of
-    half_sound e =
-        rw labels
-        (go (check_table k t) (check_formula k quotient_limit f) (refused_if (beyond s p) PointBeyond) (check_half t s) e)
-      where
-        go : (t f b h : Check) → then_of t (then_of h Sound) ≡ Sound
-            → then_of f b ≡ then_of t (then_of f (then_of b (then_of h Sound)))
-        go (Refused x) f b h e = absurd (apart cc)
-        go Sound f b (Refused x) e = absurd (apart cc)
-        go Sound (Refused x) b Sound e = refl
-        go Sound Sound (Refused x) Sound e = refl
-        go Sound Sound Sound Sound e = refl
+    half_tabled e formula point = rw (labels, e, formula, point)
 
-    pub half_refused : (x : Refusal) → check_table_and_half k t s ≡ Refused x
-        → then_of (then_of (check_table k t) behind) (Refused x) ≡ check_half_call k t s f p
-    unfolding check_half_call check_table_and_half first_of
-    half_refused x e =
-        rw labels
-        (go (check_table k t) (check_formula k quotient_limit f) (refused_if (beyond s p) PointBeyond) (check_half t s) e)
-      where
-        go : (t f b h : Check) → then_of t (then_of h Sound) ≡ Refused x
-            → then_of (then_of t (then_of f b)) (Refused x) ≡ then_of t (then_of f (then_of b (then_of h Sound)))
-        go (Refused y) f b h e = refl
-        go Sound f b Sound e = absurd (apart cc)
-        go Sound (Refused y) b (Refused z) e = refl
-        go Sound Sound (Refused y) (Refused z) e = refl
-        go Sound Sound Sound (Refused z) e = sym e
-
-  pub half_call : (p : ℕ) → check_half_call k t s f p ≡ Sound → HalfCall × (beyond s p ≡ false)
+  pub half_call : (p : ℕ) → check_half_call k t s f p ≡ Ok tt → HalfCall × (beyond s p ≡ false)
   unfolding check_half
   half_call p e =
       let (a, b) = both_sound half_parts (then_of (refused_if (beyond s p) PointBeyond) (check_half t s))
@@ -379,13 +315,55 @@ module _ (k : Labels) (t s f : List ℕ) where
         unrefused _ _ x,
       )
 
--- A part that goes from the front to the end is as long as the whole.
-pub whole_length : (l : List ℕ) → length l ≡ length (take (length l) l)
-whole_length l = ap length (sym (take-length l))
+  -- a call that is let through, at its point
+  module _ (p : ℕ) (check : check_half_call k t s f p ≡ Ok tt) where
+    half_through : HalfCall
+    half_through = (half_call p check).0
 
--- The joint verdict on such parts is that on the wholes.
-pub whole-joint :
-    (k : Labels) (l r s f : List ℕ) (p : ℕ)
-    → joint_verdict k (take (length l) l) (take (length r) r) (take (length s) s) (take (length f) f) p
-    ≡ joint_verdict k l r s f p
-whole-joint k l r s f p = λ i. joint_verdict k (take-length l i) (take-length r i) (take-length s i) (take-length f i) p
+    within : beyond s p ≡ false
+    within = (half_call p check).1
+
+    pub half_legal : Legal k quotient_limit f
+    half_legal = half_through.legal
+
+    half_accepted : AcceptedHalf t s
+    half_accepted = accepted_half t s half_through.run
+
+    pub half_room : (2 * p + 1 ≤ length s) × (p ≤ 200)
+    unfolding beyond
+    half_room =
+        let a = half_accepted in
+        let w : ltb (length s / 2) p ≡ false = rw (ne_eqb (length s % 2) 0 (λ z. omega (arith, a.odd, z))) at within in
+        omega (arith, a.odd, a.counted, a.few, ltb-false (length s / 2) p w)
+
+    half_odd : length (take (2 * p + 1) s) % 2 ≡ 1
+    half_odd = rw (length-take-le (2 * p + 1) s half_room.0) (omega arith)
+
+    pub half_tables : Tables k t still
+    half_tables = record { left = half_through.table; right = still_sound k }
+
+    -- a buffer that begins with the run up to the point, beside the machine that stays in its state
+    module _ (xs ys : List ℕ) (e : xs ≡ beside_still (take (2 * p + 1) s) ++ ys) where
+      half_front : take (3 * p + 2) xs ≡ beside_still (take (2 * p + 1) s)
+      half_front =
+          let z = length-take-le (2 * p + 1) s half_room.0 in
+          rw e (take_at (beside_still (take (2 * p + 1) s)) ys (3 * p + 2)
+          (still-length (take (2 * p + 1) s) half_odd ∙ omega (arith, z)))
+
+      pub half_held : 3 * p + 2 ≤ length xs → Held xs (3 * p + 2)
+      half_held h =
+          front-held (beside_still s) xs p (half_front ∙ sym (still-take s p half_room.0)) h
+          (λ m i. still-ends t s half_through.run m (omega (arith, i, half_room)))
+
+      pub half_answer : (v : Result Bool Refusal)
+          → v ≡ verdict_of (present (λ φ. tables_hold k t still φ (joint_of (take (3 * p + 2) xs)))
+          (formula_of f))
+          → v ≡ half_verdict k t s f p
+      unfolding half_verdict half_holds answered tables_hold
+      half_answer v w =
+          let same : (φ : Formula)
+          → tables_hold k t still φ (joint_of (take (3 * p + 2) xs))
+          ≡ holds (table_of t) φ (stop p (half_of s)) = λ φ.
+          rw (half_front, still_read (take (2 * p + 1) s) half_odd, ← half_stop s p)
+          (holds_alone (pairing k) (table_of t) (table_of still) 0 nothing_leaves φ (half_of (take (2 * p + 1) s))) in
+          w ∙ ap verdict_of (ap (λ F. present F (formula_of f)) (fun_ext same)) ∙ rw check

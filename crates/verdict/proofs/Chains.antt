@@ -20,10 +20,10 @@ use Rattle.formulas.specs.Operators.{is_back}
 use Rattle.formulas.specs.Working.{Tree, tree_of}
 use Rattle.formulas.proofs.Operators.{Unary, at, node_room}
 use Rattle.formulas.proofs.Operands.{back_operand, legal_labels}
-use Rattle.verdict.specs.Working.{steps_back, told_of, Tells}
-use Rattle.verdict.specs.declared.chain.Told.{Told}
+use Rattle.verdict.specs.Working.{steps_back, Tells}
 use Rattle.verdict.proofs.Backs.{back_other, back_long, back-same}
 use Rattle.verdict.proofs.Going.{upright, turned, failing}
+use Rattle.std.specs.Prelude.{Option, Some}
 
 -- what is left begins at `place`, and is judged on the run in the first n bytes
 pub record Chain (k : Labels) (f xs : List ℕ) (n₀ place n : ℕ) (even : Bool) : Type 0 where
@@ -46,9 +46,9 @@ chain_start k f xs n legal h = record {
 }
 
 -- a verdict that is told is so
-tells : (f : List ℕ) (j : Run (ℕ × ℕ)) (b : Bool) (r : Told) → r ≡ told_of b
+tells : (f : List ℕ) (j : Run (ℕ × ℕ)) (b : Bool) (r : Option Bool) → r ≡ Some b
     → ((M : System (ℕ × ℕ)) → b ≡ holds M (tree_of f) j) → Tells r f j
-unfolding told_of Tells
+unfolding Tells
 tells f j true r e h = rw e h
 tells f j false r e h = rw e h
 
@@ -73,13 +73,13 @@ module _ (k : Labels) (f xs : List ℕ) (n₀ place n : ℕ) (even : Bool) (g : 
   upright_end true = refl
   upright_end false = refl
 
-  pub chain_true : get_or f place 0 ≡ 0 → (r : Told) → r ≡ told_of even → Tells r f (joint_of (take n₀ xs))
+  pub chain_true : get_or f place 0 ≡ 0 → (r : Option Bool) → r ≡ Some even → Tells r f (joint_of (take n₀ xs))
   unfolding holds
   chain_true e r p =
       tells f _ even r p (λ M. upright_end even
       ∙ chain_end M true (rw (at (drop place f) g.tree 0 (operator-here ∙ e))))
 
-  pub chain_false : get_or f place 0 ≡ 1 → (r : Told) → r ≡ told_of (negate even) → Tells r f (joint_of (take n₀ xs))
+  pub chain_false : get_or f place 0 ≡ 1 → (r : Option Bool) → r ≡ Some (negate even) → Tells r f (joint_of (take n₀ xs))
   unfolding holds
   chain_false e r p =
       tells f _ (negate even) r p (λ M. failing even
@@ -110,7 +110,7 @@ module _ (k : Labels) (f xs : List ℕ) (n₀ place n : ℕ) (even : Bool) (g : 
     asked : b ≡ steps_back (get_or (drop place f) 0 0) (get_or (drop place f) 1 0) xs n
     asked = rw (operator-here, label-here) q
 
-    pub chain_nowhere : b ≡ false → (r : Told) → r ≡ told_of (negate even) → Tells r f (joint_of (take n₀ xs))
+    pub chain_nowhere : b ≡ false → (r : Option Bool) → r ≡ Some (negate even) → Tells r f (joint_of (take n₀ xs))
     chain_nowhere e r p =
         tells f _ (negate even) r p (λ M. failing even
         ∙ chain_end M false

@@ -62,16 +62,16 @@ sizes_more ws f n v h e s i k l = go (eqb i (n + 1)) refl
         let other = eqb-false i (n + 1) q in
         sizes_kept ws f n (n + 1) v (omega arith) s i k (omega (arith, other))
 
--- the sizes of the trees of the last n nodes, which begin at `at`, are found; `first` is that of the first of them
-pub record Sizing (f ws : List ℕ) (at n first forwards : ℕ) : Type 0 where
-  pub nodes : length f ≡ at + 2 * n
+-- the sizes of the trees of the last n nodes are found; `first` is that of the first of them
+pub record Sizing (f ws : List ℕ) (n first forwards : ℕ) : Type 0 where
+  pub nodes : n ≤ length f / 2
   pub size : first ≡ tree_size (last_nodes f n)
   pub sizes : SizesIn ws f n
   pub count : forwards ≡ forwards_in (last_nodes f n)
   pub slots : length ws ≡ 4097
 
 module _ (f : List ℕ) (whole : Whole f) (ws : List ℕ) where
-  pub sizing_start : length ws ≡ 4097 → Sizing f ws (length f) 0 0 0
+  pub sizing_start : length ws ≡ 4097 → Sizing f ws 0 0 0
   unfolding SizesIn forwards_in
   sizing_start s = record {
     nodes = omega arith;
@@ -81,79 +81,74 @@ module _ (f : List ℕ) (whole : Whole f) (ws : List ℕ) where
     slots = s;
   }
 
-  module _ (at n first forwards : ℕ) (s : Sizing f ws at n first forwards) where
+  module _ (n first forwards : ℕ) (s : Sizing f ws n first forwards) where
     -- no node is left
-    pub sizing_end : at < 2 → (SizesIn ws f (length f / 2) × (length ws ≡ 4097)) × (forwards ≡ forwards_in f)
+    pub sizing_end : length f / 2 ≤ n → (SizesIn ws f (length f / 2) × (length ws ≡ 4097)) × (forwards ≡ forwards_in f)
     sizing_end h =
         let z : n ≡ length f / 2 = omega (arith, s.nodes, whole_nodes f whole) in
         let all : last_nodes f n ≡ f = last-from f 0 n (omega (arith, s.nodes, whole_nodes f whole)) in
         ((rw z at s.sizes, s.slots), s.count ∙ ap forwards_in all)
 
     -- the node before
-    module _ (h : 2 ≤ at) where
-      next : length f ≡ at - 2 + 2 * (n + 1)
-      next = omega (arith, s.nodes)
+    module _ (h : n < length f / 2) where
+      abbrev at : ℕ
+      at = length f - 2 * n - 2
+
+      next : length f ≡ at + 2 * (n + 1)
+      next = omega arith
 
       pub sizing_room : n < 4096
-      sizing_room = omega (arith, here-few f whole (at - 2) (n + 1) n next refl)
+      sizing_room = omega (arith, here-few f whole at (n + 1) n next refl)
 
       first_fits : first ≤ n
       first_fits = omega (arith, s.size, last_fits f whole n (omega (arith, next)))
 
       -- the size of the second operand of "and" and "or" stands in the list
-      second_size : has_two (get_or f (at - 2) 0) ≡ true → get_or ws (n - first) 0 ≡ tree_size (last_nodes f (n - first))
+      second_size : has_two (get_or f at 0) ≡ true → get_or ws (n - first) 0 ≡ tree_size (last_nodes f (n - first))
       unfolding SizesIn
       second_size e =
-          s.sizes (n - first) (omega (arith, s.size, here-room f whole (at - 2) (n + 1) n next refl e)) (omega arith)
+          s.sizes (n - first) (omega (arith, s.size, here-room f whole at (n + 1) n next refl e)) (omega arith)
 
       -- so the new size is that of this tree, and fits
       pub sizing_fits : ((first ≤ n) × (n ≤ 4096))
-          × (has_two (get_or f (at - 2) 0) ≡ true → get_or ws (n - first) 0 ≤ 4096)
+          × (has_two (get_or f at 0) ≡ true → get_or ws (n - first) 0 ≤ 4096)
       sizing_fits = (
         (first_fits, omega (arith, sizing_room)),
         λ e. omega (arith, second_size e, last_fits f whole (n - first) (omega (arith, next)), sizing_room),
       )
 
       -- no more nodes look forward than there are
-      pub sizing_count : (k : ℕ) → k ≡ cond (is_forward (get_or f (at - 2) 0)) 1 0 → forwards + k ≤ 4096
-      sizing_count k q =
-          omega (
-            arith,
-            s.count,
-            forwards_few (last_nodes f n),
-            last-length f n (omega (arith, next)),
-            one_at_most (is_forward (get_or f (at - 2) 0)),
-            sizing_room,
-          )
+      pub sizing_count : forwards ≤ n
+      sizing_count =
+          omega (arith, s.count, forwards_few (last_nodes f n), last-length f n (omega (arith, next)))
 
-      module _ (m : ℕ) (e : m ≡ size_by (get_or f (at - 2) 0) first (get_or ws (n - first) 0)) where
+      module _ (m : ℕ) (e : m ≡ size_by (get_or f at 0) first (get_or ws (n - first) 0)) where
         size-here : m ≡ tree_size (last_nodes f (n + 1))
         size-here =
-            let sum = (here_node f whole (at - 2) (n + 1) n next refl).sum in
-            let operator = here-operator f whole (at - 2) (n + 1) n next refl in
-            let behind = here-behind f whole (at - 2) (n + 1) n next refl in
+            let sum = (here_node f whole at (n + 1) n next refl).sum in
+            let operator = here-operator f whole at (n + 1) n next refl in
+            let behind = here-behind f whole at (n + 1) n next refl in
             let second = last-drop f first n first_fits (omega (arith, next)) in
             let known : tree_size (last_nodes f (n + 1))
-            ≡ size_by (get_or f (at - 2) 0) first (tree_size (last_nodes f (n - first)))
+            ≡ size_by (get_or f at 0) first (tree_size (last_nodes f (n - first)))
             = rw (operator, behind, ← s.size, second) at sum in
-            e ∙ second_counts (get_or f (at - 2) 0) first _ _ second_size ∙ sym known
+            e ∙ second_counts (get_or f at 0) first _ _ second_size ∙ sym known
 
-        count-here : (k : ℕ) → k ≡ cond (is_forward (get_or f (at - 2) 0)) 1 0
-            → forwards + k ≡ forwards_in (last_nodes f (n + 1))
-        count-here k q =
+        count-here : forwards + cond (is_forward (get_or f at 0)) 1 0 ≡ forwards_in (last_nodes f (n + 1))
+        count-here =
             let l = last-length f (n + 1) (omega (arith, next)) in
             let c = first-forward (last_nodes f (n + 1)) (omega (arith, l)) in
-            let operator = here-operator f whole (at - 2) (n + 1) n next refl in
-            let behind = here-behind f whole (at - 2) (n + 1) n next refl in
-            omega (arith, rw (operator, behind) at c, q, s.count)
+            let operator = here-operator f whole at (n + 1) n next refl in
+            let behind = here-behind f whole at (n + 1) n next refl in
+            omega (arith, rw (operator, behind) at c, s.count)
 
-        pub sizing_on : (k : ℕ) → k ≡ cond (is_forward (get_or f (at - 2) 0)) 1 0
-            → Sizing f (set ws (n + 1) m) (at - 2) (n + 1) m (forwards + k)
-        sizing_on k q = record {
-          nodes = next;
+        pub sizing_on : (total : ℕ) → total ≡ forwards + cond (is_forward (get_or f at 0)) 1 0
+            → Sizing f (set ws (n + 1) m) (n + 1) m total
+        sizing_on total q = record {
+          nodes = omega arith;
           size = size-here;
           sizes = sizes_more ws f n m (omega (arith, sizing_room, s.slots)) size-here s.sizes;
-          count = count-here k q;
+          count = q ∙ count-here;
           slots = length-set ws (n + 1) m ∙ s.slots;
         }
 

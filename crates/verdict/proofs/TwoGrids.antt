@@ -19,8 +19,8 @@ use Rattle.labels.proofs.Slices.{rest, rest_of}
 use Rattle.tables.specs.Tables.{table_of}
 use Rattle.verdict.specs.Working.{Grid, TwoGrids, Inside, pairs_in, grid_of, grid_by, start_of, left_in, right_in}
 use Rattle.verdict.specs.Working.{tried, judged, tables_hold}
-use Rattle.verdict.specs.declared.trial.Mover.{Mover}
-use Rattle.verdict.specs.declared.trial.Mover.TheVariants as mover
+use Rattle.halves.specs.declared.side.Known.{Known as Mover}
+use Rattle.halves.specs.declared.side.Known.TheVariants as mover
 use Rattle.verdict.proofs.FilledGrids.{pairs-same, zeros_at}
 
 -- the verdict of grids is that of tables: where the formula looks at no rows, and where the grids have them

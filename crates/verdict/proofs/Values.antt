@@ -4,8 +4,8 @@ use mathlib.Core.Bool.{Bool, true, false}
 use native.Mathlib.Omega.{arith}
 use Rattle.labels.proofs.Answers.{Within, none, next}
 use Rattle.verdict.specs.Verdicts.{bit_of, verdict_answer}
-use Rattle.verdict.specs.declared.answer.Verdict.{Verdict}
-use Rattle.verdict.specs.declared.answer.Verdict.TheVariants as verdict
+use Rattle.labels.specs.declared.refusal.Refusal.{Refusal}
+use Rattle.std.specs.Prelude.{Err, Ok, Result}
 
 pub bit_small : (b : Bool) → bit_of b ≤ 1
 unfolding bit_of
@@ -13,8 +13,7 @@ bit_small true = omega arith
 bit_small false = omega arith
 
 -- of a verdict: at most 1
-pub verdict-within : (v : Verdict) → Within 1 (verdict_answer v).values
+pub verdict-within : (v : Result Bool Refusal) → Within 1 (verdict_answer v).values
 unfolding verdict_answer
-verdict-within verdict.Holds = next (bit_small true) none
-verdict-within verdict.Fails = next (bit_small false) none
-verdict-within (verdict.Refused x) = none
+verdict-within (Ok b) = next (bit_small b) none
+verdict-within (Err x) = none

@@ -15,8 +15,8 @@ use Rattle.halves.specs.Runs.{step_of}
 use Rattle.machines.specs.Joints.{joint_of}
 use Rattle.machines.proofs.Buffers.{length-put, longer-run, held-longer}
 use Rattle.machines.specs.Working.{Held, put}
-use Rattle.verdict.specs.declared.trial.Mover.{Mover}
-use Rattle.verdict.specs.declared.trial.Mover.TheVariants as mover
+use Rattle.halves.specs.declared.side.Known.{Known as Mover}
+use Rattle.halves.specs.declared.side.Known.TheVariants as mover
 use Rattle.verdict.specs.Working.{Ready, Shown, judged, tried, place_of, targets_of}
 
 -- a byte that was written over can be put back

@@ -1,15 +1,13 @@
 -- Verdicts: document 01, "Questions and verdicts", and the order of "Who can cause a refusal" in a call that takes
 -- parts. When a formula holds on a run is the theory's to say: `Sat` in hml's Formula has definitions 3 and 4 of source
 -- document 000 clause by clause, and `holds` is the test that decides it (`decided`, hml/proofs/Agreement).
-use Rattle.std.specs.Prelude.{ℕ, Bool, true, false, List, [], ◌∷◌, ltb}
+use Rattle.std.specs.Prelude.{ℕ, Bool, true, false, List, [], ◌∷◌, ltb, Err, Ok, Result}
 use Rattle.hml.specs.Lists.{present}
 use Rattle.hml.specs.System.{steps, stop}
 use Rattle.hml.specs.Formula.{holds}
 use Rattle.hml.specs.Compose.{beside}
-use Rattle.labels.specs.Refusals.{refused_if, first_of, Answer, refused_as, giving}
+use Rattle.labels.specs.Refusals.{refused_if, first_of, Answer, refused_as, giving, Check}
 use Rattle.labels.specs.Labels.{check_labels, pairing}
-use Rattle.labels.specs.declared.refusal.Check.{Check}
-use Rattle.labels.specs.declared.refusal.Check.TheVariants as check
 use Rattle.labels.specs.declared.refusal.Refusal.TheVariants.{PointBeyond}
 use Rattle.labels.specs.declared.label.Labels.{Labels}
 use Rattle.tables.specs.Tables.{table_of, check_table}
@@ -17,8 +15,7 @@ use Rattle.halves.specs.Halves.{half_of, check_half}
 use Rattle.halves.specs.Cuts.{beyond}
 use Rattle.machines.specs.Joints.{joint_of, check_joint}
 use Rattle.formulas.specs.Formulas.{formula_of, quotient_limit, check_formula}
-use Rattle.verdict.specs.declared.answer.Verdict.{Verdict}
-use Rattle.verdict.specs.declared.answer.Verdict.TheVariants as verdict
+use Rattle.labels.specs.declared.refusal.Refusal.{Refusal}
 
 -- the verdict on two tables and a joint run of them, stopped at a point: the tables beside each other, the formula that
 -- the bytes spell, the run that the bytes spell
@@ -52,18 +49,17 @@ check_half_call k t s f point = first_of
     ∷ [])
 
 -- the answer: the refusal, or the verdict
-unfoldable pub verdict_of : Bool → Verdict
-verdict_of true = verdict.Holds
-verdict_of false = verdict.Fails
+abbrev pub verdict_of : Bool → Result Bool Refusal
+verdict_of b = Ok b
 
-unfoldable pub answered : Check → Bool → Verdict
-answered check.Sound b = verdict_of b
-answered (check.Refused x) b = verdict.Refused x
+unfoldable pub answered : Check → Bool → Result Bool Refusal
+answered (Ok _) b = verdict_of b
+answered (Err x) b = Err x
 
-unfoldable pub joint_verdict : Labels → List ℕ → List ℕ → List ℕ → List ℕ → ℕ → Verdict
+unfoldable pub joint_verdict : Labels → List ℕ → List ℕ → List ℕ → List ℕ → ℕ → Result Bool Refusal
 joint_verdict k l r s f point = answered (check_joint_call k l r s f point) (joint_holds k l r s f point)
 
-unfoldable pub half_verdict : Labels → List ℕ → List ℕ → List ℕ → ℕ → Verdict
+unfoldable pub half_verdict : Labels → List ℕ → List ℕ → List ℕ → ℕ → Result Bool Refusal
 half_verdict k t s f point = answered (check_half_call k t s f point) (half_holds t s f point)
 
 -- the number of a verdict, and its value: 1 where it holds, 0 where it fails
@@ -71,7 +67,6 @@ unfoldable pub bit_of : Bool → ℕ
 bit_of true = 1
 bit_of false = 0
 
-unfoldable pub verdict_answer : Verdict → Answer
-verdict_answer verdict.Holds = giving (bit_of true ∷ [])
-verdict_answer verdict.Fails = giving (bit_of false ∷ [])
-verdict_answer (verdict.Refused x) = refused_as x
+unfoldable pub verdict_answer : Result Bool Refusal → Answer
+verdict_answer (Ok b) = giving (bit_of b ∷ [])
+verdict_answer (Err x) = refused_as x

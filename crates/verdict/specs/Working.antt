@@ -1,5 +1,5 @@
 -- How the code works: what functions ask for and promise that serve others. No call's promise cites this file.
-use Rattle.std.specs.Prelude.{ℕ, zero, suc, ◌+◌, ◌-◌, ◌*◌, ◌/◌, ◌%◌, ◌≤◌, ◌<◌, ◌≡◌, Bool, true, false, cond, ◌&&◌, ◌||◌, List, [], ◌∷◌, length, get_or, take, drop, eqb, ltb, leb}
+use Rattle.std.specs.Prelude.{ℕ, zero, suc, ◌+◌, ◌-◌, ◌*◌, ◌/◌, ◌%◌, ◌≤◌, ◌<◌, ◌≡◌, Bool, true, false, cond, ◌&&◌, ◌||◌, List, [], ◌∷◌, length, get_or, take, drop, eqb, ltb, leb, None, Option, Some}
 use Rattle.hml.specs.Lists.{same, any, present}
 use Rattle.hml.specs.System.{System, Run, Pairing}
 use Rattle.hml.specs.Formula.{Formula, holds, size, nesting, labelled}
@@ -11,10 +11,8 @@ use Rattle.tables.specs.Tables.{table_of}
 use Rattle.machines.specs.Working.{Held}
 use Rattle.formulas.specs.Operators.{is_back, is_connective}
 use Rattle.formulas.specs.Working.{Tree, tree_of, tree_size}
-use Rattle.verdict.specs.declared.chain.Told.{Told}
-use Rattle.verdict.specs.declared.chain.Told.TheVariants as told
-use Rattle.verdict.specs.declared.trial.Mover.{Mover}
-use Rattle.verdict.specs.declared.trial.Mover.TheVariants as mover
+use Rattle.halves.specs.declared.side.Known.{Known as Mover}
+use Rattle.halves.specs.declared.side.Known.TheVariants as mover
 
 -- the states after a move of one side
 unfoldable pub targets_of : Mover → ℕ → ℕ → ℕ × ℕ
@@ -25,6 +23,15 @@ targets_of mover.Right to other = (other, to)
 unfoldable pub grid_by : Mover → List ℕ → List ℕ → List ℕ
 grid_by mover.Left l r = l
 grid_by mover.Right l r = r
+
+-- of a left and a right state, that of the side that moves, and that of the other side
+unfoldable pub state_by : Mover → ℕ → ℕ → ℕ
+state_by mover.Left p q = p
+state_by mover.Right p q = q
+
+unfoldable pub other_by : Mover → ℕ → ℕ → ℕ
+other_by mover.Left p q = q
+other_by mover.Right p q = p
 
 -- where the mover's state stands in a step that is written from n on
 unfoldable pub place_of : Mover → ℕ → ℕ
@@ -188,13 +195,7 @@ pub record Ready (k : Labels) (ws xs : List ℕ) (n more i : ℕ) : Type 0 where
   pub size : length xs ≡ 614
   pub few : i ≤ 4096
 
--- a verdict as a chain tells it
-unfoldable pub told_of : Bool → Told
-told_of true = told.Holds
-told_of false = told.Fails
-
 -- what a chain tells of a formula's verdict on a run is so, whatever moves there are
-unfoldable pub Tells : Told → List ℕ → Run (ℕ × ℕ) → Type 0
-Tells told.Holds f j = (M : System (ℕ × ℕ)) → true ≡ holds M (tree_of f) j
-Tells told.Fails f j = (M : System (ℕ × ℕ)) → false ≡ holds M (tree_of f) j
-Tells told.Open f j = Unit {0}
+unfoldable pub Tells : Option Bool → List ℕ → Run (ℕ × ℕ) → Type 0
+Tells (Some b) f j = (M : System (ℕ × ℕ)) → b ≡ holds M (tree_of f) j
+Tells None f j = Unit {0}

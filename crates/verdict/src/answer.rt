@@ -7,19 +7,12 @@ ghost use Rattle.formulas.specs.Formulas.{formula_of, quotient_limit, Legal};
 ghost use Rattle.verdict.specs.Verdicts.{verdict_of};
 ghost use Rattle.verdict.specs.Working.{tables_hold};
 
-use crate::chain::{Told, judge_chain};
+use crate::chain::judge_chain;
 use crate::code::write_code;
 use crate::grids::look_up;
 use crate::search::holds;
 use labels::label::Labels;
 use labels::refusal::Refusal;
-
-#[derive(Clone, Copy)]
-pub enum Verdict {
-    Holds,
-    Fails,
-    Refused(Refusal),
-}
 
 // The verdict on the run in the first len bytes of a buffer that has room for four steps more. A chain is judged first:
 // where it tells the verdict, no memory is cleared for words and rows.
@@ -30,7 +23,7 @@ pub(crate) fn verdict_on(
     run: &mut [u8; 614],
     len: usize,
     formula: &[u8],
-) -> Verdict
+) -> Result<bool, Refusal>
     requires tables { Tables labels left.now right.now }
     requires held { Held run.old len × (len ≤ 602) × (length run.old ≡ 614) }
     requires legal { Legal labels quotient_limit formula.now }
@@ -39,11 +32,9 @@ pub(crate) fn verdict_on(
         (formula_of formula.now)) }
 {
     match judge_chain(run, len, formula) {
-        Told::Holds => return Verdict::Holds,
-        Told::Fails => return Verdict::Fails,
-        Told::Open => {}
+        Some(holds) => Ok(holds),
+        None => verdict_by_words(labels, left, right, run, len, formula),
     }
-    verdict_by_words(labels, left, right, run, len, formula)
 }
 
 // The same for any formula. Its words, and the rows of each state if it looks ahead, are found once, so that no state's
@@ -55,7 +46,7 @@ fn verdict_by_words(
     run: &mut [u8; 614],
     len: usize,
     formula: &[u8],
-) -> Verdict
+) -> Result<bool, Refusal>
     requires tables { Tables labels left.now right.now }
     requires held { Held run.old len × (len ≤ 602) × (length run.old ≡ 614) }
     requires legal { Legal labels quotient_limit formula.now }
@@ -67,8 +58,6 @@ fn verdict_by_words(
     let forwards = write_code(formula, &mut code);
     let mut grids = [0u8; 2176];
     look_up(labels, left, right, forwards, &mut grids);
-    if holds(labels, &grids, &code, run, len, formula.len() / 2) {
-        return Verdict::Holds;
-    }
-    Verdict::Fails
+    let held = holds(labels, &grids, &code, run, len, formula.len() / 2);
+    Ok(held)
 }

@@ -10,10 +10,7 @@ use labels::label::Label;
 pub(crate) fn goes_on(operator: u8) -> bool
     ensures { result ≡ goes_on operator }
 {
-    if is_connective(operator) {
-        return true;
-    }
-    is_back(operator)
+    is_connective(operator) || is_back(operator)
 }
 
 // Does the run in the first len bytes end in a step that a back modality, by its operator and label, fits?
@@ -24,9 +21,9 @@ pub(crate) fn steps_back(run: &[u8; 614], len: usize, operator: u8, label: u8) -
     if len < 5 {
         return false;
     }
-    let shown = run[len - 3];
+    let last = Label(run[len - 3]);
     if operator == 8 {
-        return shown == Label::IDLE.0;
+        return last.is_idle();
     }
-    shown == label
+    last == Label(label)
 }

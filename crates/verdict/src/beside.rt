@@ -10,11 +10,9 @@ pub(crate) fn beside_still(half: &[u8], steps: usize, run: &mut [u8])
 {
     run[0] = half[0];
     run[1] = 0;
-    let mut i: usize = 0;
-    while i < steps {
+    for i in 0..steps {
         run[3 * i + 2] = half[2 * i + 1];
         run[3 * i + 3] = half[2 * i + 2];
         run[3 * i + 4] = 0;
-        i += 1;
     }
 }

@@ -30,37 +30,35 @@ pub(crate) fn first_size_in(word: u16) -> usize
 
 // The words of a formula: word n is that of the first of its last n nodes, so there is none in place 0. Returns how
 // many nodes look forward.
-pub(crate) fn write_code(f: &[u8], code: &mut [u16; 4097]) -> usize
-    requires whole { Whole f.now }
+pub(crate) fn write_code(formula: &[u8], code: &mut [u16; 4097]) -> usize
+    requires whole { Whole formula.now }
     requires code_len { length code.old ≡ 4097 }
-    ensures words { Coded code.new f.now }
-    ensures forwards { result ≡ forwards_in f.now }
+    ensures words { Coded code.new formula.now }
+    ensures forwards { result ≡ forwards_in formula.now }
 {
-    let forwards = write_sizes(f, code);
-    write_words(f, code);
+    let forwards = write_sizes(formula, code);
+    write_words(formula, code);
     forwards
 }
 
 // In place of each word the size of its tree, from the last node on. Returns how many nodes look forward.
-fn write_sizes(f: &[u8], code: &mut [u16; 4097]) -> usize
-    requires whole { Whole f.now }
+fn write_sizes(formula: &[u8], code: &mut [u16; 4097]) -> usize
+    requires whole { Whole formula.now }
     requires code_len { length code.old ≡ 4097 }
-    ensures sizes { SizesIn code.new f.now (length f.now / 2)
+    ensures sizes { SizesIn code.new formula.now (length formula.now / 2)
         × (length code.new ≡ 4097) }
-    ensures forwards { result ≡ forwards_in f.now }
+    ensures forwards { result ≡ forwards_in formula.now }
 {
-    let mut at = f.len();
-    let mut n: usize = 0;
     // The size of the tree behind the node at hand: kept here, not read back from the list.
     let mut first: u16 = 0;
     let mut forwards: usize = 0;
-    while 2 <= at {
-        at -= 2;
-        let operator = f[at];
+    for n in 0..formula.len() / 2 {
+        let operator = formula[formula.len() - 2 * n - 2];
         first = size(code, n, operator, first);
-        n += 1;
-        code[n] = first;
-        forwards += forward_of(operator);
+        code[n + 1] = first;
+        if is_forward(operator) {
+            forwards += 1;
+        }
     }
     forwards
 }
@@ -81,30 +79,17 @@ fn size(code: &[u16; 4097], n: usize, operator: u8, first: u16) -> u16
     1 + first
 }
 
-// One for an operator that looks forward.
-fn forward_of(operator: u8) -> usize
-    ensures { result ≡ cond (is_forward operator) 1 0 }
-{
-    if is_forward(operator) {
-        return 1;
-    }
-    0
-}
-
 // From the first node on each size gives way to its node's word: the size in the place below, its first operand's, is
 // still there. Of the last node, which has none, place 0 is read and not used.
-fn write_words(f: &[u8], code: &mut [u16; 4097])
-    requires whole { Whole f.now }
-    requires sizes_in { SizesIn code.old f.now (length f.now / 2) × (length code.old ≡ 4097) }
-    ensures { Coded code.new f.now }
+fn write_words(formula: &[u8], code: &mut [u16; 4097])
+    requires whole { Whole formula.now }
+    requires sizes_in { SizesIn code.old formula.now (length formula.now / 2) × (length code.old ≡ 4097) }
+    ensures { Coded code.new formula.now }
 {
-    let mut n = f.len() / 2;
-    let mut at: usize = 0;
-    while 0 < n {
-        let below = code[n - 1];
-        code[n] = word(f[at], f[at + 1], below);
-        n -= 1;
-        at += 2;
+    let nodes = formula.len() / 2;
+    for i in 0..nodes {
+        let n = nodes - i;
+        code[n] = word(formula[2 * i], formula[2 * i + 1], code[n - 1]);
     }
 }
 
@@ -124,8 +109,5 @@ fn word(operator: u8, label: u8, below: u16) -> u16
 fn has_two(operator: u8) -> bool
     ensures { result ≡ has_two operator }
 {
-    if operator == 3 {
-        return true;
-    }
-    operator == 4
+    operator == 3 || operator == 4
 }

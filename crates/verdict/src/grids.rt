@@ -52,17 +52,14 @@ fn rows_by_state(labels: Labels, table: &[u8], grid: &mut [u8])
     ensures grid { Grid grid.new }
     ensures by_index { (p : ℕ) → grid_of grid.new p ≡ table_of table.now p }
 {
-    let rows = table.len() / 3;
-    let mut i: usize = 0;
-    while i < rows {
+    for i in 0..table.len() / 3 {
         let at = 3 * i + 1;
         let state = 17 * (table[at] as usize);
-        let n = grid[state];
-        let end = state + 2 * (n as usize);
+        let count = grid[state];
+        let end = state + 2 * (count as usize);
         grid[end + 1] = table[at + 1];
         grid[end + 2] = table[at + 2];
-        grid[state] = n + 1;
-        i += 1;
+        grid[state] = count + 1;
     }
 }
 
@@ -112,8 +109,9 @@ pub(crate) fn wanted_rows(grids: &[u8; 2176], rows: Rows, wanted: Label) -> Rows
 {
     let mut at = rows.at;
     let mut count = rows.count;
+    // By the rows left: a `for` over those passed takes two instructions more for each row tried, an Option three.
     while 0 < count {
-        if grids[at] == wanted.0 {
+        if Label(grids[at]) == wanted {
             return Rows { at, count };
         }
         at += 2;

@@ -1,14 +1,13 @@
 // Verdicts on joint runs.
-ghost use Rattle.std.specs.Prelude.{◌≡◌};
+ghost use Rattle.std.specs.Prelude.{◌≡◌, Ok};
 ghost use Rattle.labels.specs.Labels.{check_labels};
-ghost use Rattle.labels.specs.declared.refusal.Check.TheVariants.{Sound};
 ghost use Rattle.verdict.specs.Verdicts.{joint_verdict, check_joint_call};
 
-use crate::answer::{Verdict, verdict_on};
+use crate::answer::verdict_on;
 use formulas::check::check_formula;
 use labels::copying::copy;
 use labels::label::Labels;
-use labels::refusal::{Check, Refusal};
+use labels::refusal::Refusal;
 use machines::joint::check_joint;
 
 // The verdict on a joint run stopped at a point. The labels are judged first, before all else. What follows is called in
@@ -21,14 +20,11 @@ pub fn joint(
     run: &[u8],
     formula: &[u8],
     point: usize,
-) -> Verdict
+) -> Result<bool, Refusal>
     ensures { result ≡ joint_verdict labels
         left.now right.now run.now formula.now point }
 {
-    match labels.check() {
-        Check::Sound => {}
-        Check::Refused(refusal) => return Verdict::Refused(refusal),
-    }
+    labels.check()?;
     if point == 0 {
         return judged_joint(
             labels,
@@ -57,15 +53,12 @@ fn judged_joint(
     run: &[u8],
     formula: &[u8],
     point: usize,
-) -> Verdict
-    requires { check_labels labels ≡ Sound }
+) -> Result<bool, Refusal>
+    requires { check_labels labels ≡ Ok tt }
     ensures { result ≡ joint_verdict labels
         left.now right.now run.now formula.now point }
 {
-    match check_joint_call(labels, left, right, run, formula, point) {
-        Check::Sound => {}
-        Check::Refused(refusal) => return Verdict::Refused(refusal),
-    }
+    check_joint_call(labels, left, right, run, formula, point)?;
     let len = 3 * point + 2;
     let mut buffer = [0u8; 614];
     copy(&run[..len], &mut buffer);
@@ -80,18 +73,15 @@ fn check_joint_call(
     run: &[u8],
     formula: &[u8],
     point: usize,
-) -> Check
-    requires { check_labels labels ≡ Sound }
+) -> Result<(), Refusal>
+    requires { check_labels labels ≡ Ok tt }
     ensures { result ≡ check_joint_call labels
         left.now right.now run.now formula.now point }
 {
-    let parts = check_joint(labels, left, right, run).then(check_formula(labels, 4096, formula));
-    match parts {
-        Check::Sound => {}
-        Check::Refused(refusal) => return Check::Refused(refusal),
-    }
+    check_joint(labels, left, right, run)?;
+    check_formula(labels, 4096, formula)?;
     if run.len() / 3 < point {
-        return Check::Refused(Refusal::PointBeyond);
+        return Err(Refusal::PointBeyond);
     }
-    Check::Sound
+    Ok(())
 }

@@ -10,18 +10,16 @@ pub(crate) fn fails_everywhere(code: &[u16; 4097], nodes: usize) -> bool
     requires { Tree (text_of code.now nodes) × (nodes ≤ 4096) }
     ensures { result ≡ true → Never code.now nodes }
 {
+    // Words stand from the last node to the first, so this goes down to the first that is no "not".
     let mut nodes = nodes;
     let mut even = true;
     while operator_in(code[nodes]) == 2 {
         even = !even;
         nodes -= 1;
     }
-    let operator = operator_in(code[nodes]);
-    if operator == 0 {
-        return !even;
+    match operator_in(code[nodes]) {
+        0 => !even,
+        1 => even,
+        _ => false,
     }
-    if operator == 1 {
-        return even;
-    }
-    false
 }

@@ -1,7 +1,8 @@
 // The verdict of a formula on a joint run that stands in a buffer. A look ahead writes one step behind the run, judges
 // the longer run, and puts back what stood there: after a back modality these are steps of the log. A tree is named by
-// the number of the formula's nodes from its first one on. What `try_rows` hands on are numbers, references to arrays
-// and structs of one or two fields, so that trying one row after the other is a loop in the compiled code.
+// the number of the formula's nodes from its first one on. What the functions hand on are numbers, references to arrays
+// and structs of one or two fields, and no struct of them all, so that the recursion of `try_rows` over the rows left
+// is a loop in the compiled code (measured: docs/DECISIONS.md, "No slice in the search").
 ghost use Rattle.std.specs.Prelude.{◌≡◌, ℕ, ◌+◌, ◌-◌, ◌≤◌, true, false, get_or, take, drop, set};
 ghost use Rattle.hml.specs.Lists.{present};
 ghost use Rattle.hml.specs.System.{◌▸◌};
@@ -27,16 +28,19 @@ ghost use Rattle.verdict.specs.Working.{
   tried,
   shaken,
   targets_of,
+  grid_by,
+  state_by,
+  other_by,
 };
 
 use crate::back::{goes_on, steps_back};
 use crate::code::{first_size_in, label_in, operator_in};
 use crate::grids::{Rows, rows_from, wanted_rows};
 use crate::never::fails_everywhere;
-use crate::trial::{Mover, Trial, place_by};
+use crate::trial::{Mover, Trial, last_states, place_by};
 use formulas::node::{is_back, is_forward};
 use halves::step::Move;
-use labels::label::{Label, Labels, Partner};
+use labels::label::{Label, Labels};
 
 // Does the tree that the formula's last `nodes` nodes begin with hold on the run in the first len bytes? "And" and "or"
 // stop as soon as they can, and go on with their second operand here, as "not" does with its only one, and a back
@@ -63,6 +67,7 @@ pub(crate) fn holds(
     while goes_on(operator_in(code[nodes])) {
         let word = code[nodes];
         let operator = operator_in(word);
+        // With `continue`: as `if`, `else if` and `else` this takes 22 instructions for 17 at each operand of an "or".
         if operator == 2 {
             even = !even;
             nodes -= 1;
@@ -83,11 +88,11 @@ pub(crate) fn holds(
         // The second operand begins where the first one ends.
         nodes = nodes - 1 - first_size_in(word);
     }
-    let last = judge(labels, grids, code, run, len, nodes);
-    last == even
+    judge(labels, grids, code, run, len, nodes) == even
 }
 
-// The same for an operand: true, false and the forward modalities need no loop.
+// The same for an operand: true, false and the forward modalities need no loop. (As a test by `goes_on` in front of
+// `holds` and `judge`, an "or" over 2,047 times false took 15 million instructions for 9.)
 #[cycle(judging)]
 fn operand(
     labels: Labels,
@@ -103,17 +108,12 @@ fn operand(
         (joint_of (take len run.old)) }
     ensures run_unchanged { run.new ≡ run.old }
 {
-    let operator = operator_in(code[nodes]);
-    if operator == 0 {
-        return true;
+    match operator_in(code[nodes]) {
+        0 => true,
+        1 => false,
+        operator if is_forward(operator) => ahead(labels, grids, code, run, len, nodes),
+        _ => holds(labels, grids, code, run, len, nodes),
     }
-    if operator == 1 {
-        return false;
-    }
-    if is_forward(operator) {
-        return ahead(labels, grids, code, run, len, nodes);
-    }
-    holds(labels, grids, code, run, len, nodes)
 }
 
 // The same for true, false and the forward modalities alone.
@@ -133,14 +133,11 @@ fn judge(
         (joint_of (take len run.old)) }
     ensures run_unchanged { run.new ≡ run.old }
 {
-    let operator = operator_in(code[nodes]);
-    if operator == 0 {
-        return true;
+    match operator_in(code[nodes]) {
+        0 => true,
+        1 => false,
+        _ => ahead(labels, grids, code, run, len, nodes),
     }
-    if operator == 1 {
-        return false;
-    }
-    ahead(labels, grids, code, run, len, nodes)
 }
 
 // The same for a forward modality.
@@ -197,10 +194,10 @@ fn forward(
     if fails_everywhere(code, nodes) {
         return false;
     }
-    if try_left(labels, grids, code, run, len, label, nodes) {
+    if try_alone(labels, grids, code, run, len, Mover::Left, label, nodes) {
         return true;
     }
-    if try_right(labels, grids, code, run, len, label, nodes) {
+    if try_alone(labels, grids, code, run, len, Mover::Right, label, nodes) {
         return true;
     }
     if !label.is_silent() {
@@ -209,62 +206,35 @@ fn forward(
     try_both(labels, grids, code, run, len, nodes)
 }
 
-// Does it hold after one of the left's steps alone of this label?
+// Does it hold after one of the steps of this label that this side makes alone?
 #[cycle(judging)]
-fn try_left(
+fn try_alone(
     labels: Labels,
     grids: &[u8; 2176],
     code: &[u16; 4097],
     run: &mut [u8; 614],
     len: usize,
+    mover: Mover,
     label: Label,
     nodes: usize,
 ) -> bool
     requires two_grids { TwoGrids grids.now }
     requires ready { Ready labels code.now run.old len 1 nodes }
     requires shown { Shown label.0 }
-    ensures value { result ≡ tried (λ (p : ℕ). judged_by labels grids.now (tree_at code.now nodes)
-        (joint_of (take len run.old) ▸ step_of label.0 (p, get_or run.old (len - 1) 0)))
-        label.0 (grid_of (left_in grids.now) (get_or run.old (len - 2) 0)) }
+    ensures value { result ≡ tried (λ (to : ℕ). judged_by labels grids.now (tree_at code.now nodes)
+        (joint_of (take len run.old) ▸ step_of label.0 (targets_of mover to
+        (other_by mover (get_or run.old (len - 2) 0) (get_or run.old (len - 1) 0)))))
+        label.0 (grid_of (grid_by mover (left_in grids.now) (right_in grids.now))
+        (state_by mover (get_or run.old (len - 2) 0) (get_or run.old (len - 1) 0))) }
     ensures run_unchanged { run.new ≡ run.old }
 {
-    let rows = rows_from(grids, Mover::Left, run[len - 2]);
+    let states = last_states(run, len, mover);
     let trial = Trial {
-        rows,
+        rows: rows_from(grids, mover, states.mover),
         wanted: label,
-        mover: Mover::Left,
+        mover,
         shown: label,
-        other: run[len - 1],
-    };
-    try_moves(labels, grids, code, run, len, trial, nodes)
-}
-
-// Does it hold after one of the right's steps alone of this label?
-#[cycle(judging)]
-fn try_right(
-    labels: Labels,
-    grids: &[u8; 2176],
-    code: &[u16; 4097],
-    run: &mut [u8; 614],
-    len: usize,
-    label: Label,
-    nodes: usize,
-) -> bool
-    requires two_grids { TwoGrids grids.now }
-    requires ready { Ready labels code.now run.old len 1 nodes }
-    requires shown { Shown label.0 }
-    ensures value { result ≡ tried (λ (q : ℕ). judged_by labels grids.now (tree_at code.now nodes)
-        (joint_of (take len run.old) ▸ step_of label.0 (get_or run.old (len - 2) 0, q)))
-        label.0 (grid_of (right_in grids.now) (get_or run.old (len - 1) 0)) }
-    ensures run_unchanged { run.new ≡ run.old }
-{
-    let rows = rows_from(grids, Mover::Right, run[len - 1]);
-    let trial = Trial {
-        rows,
-        wanted: label,
-        mover: Mover::Right,
-        shown: label,
-        other: run[len - 2],
+        other: states.other,
     };
     try_moves(labels, grids, code, run, len, trial, nodes)
 }
@@ -352,7 +322,7 @@ fn try_partner(
     ensures run_unchanged { run.new ≡ run.old }
 {
     match labels.partner(first.label) {
-        Partner::Label(partner) => {
+        Some(partner) => {
             let rows = rows_from(grids, Mover::Right, run[len - 1]);
             let trial = Trial {
                 rows,
@@ -363,7 +333,7 @@ fn try_partner(
             };
             try_moves(labels, grids, code, run, len, trial, nodes)
         }
-        Partner::Nobody => false,
+        None => false,
     }
 }
 
@@ -392,15 +362,13 @@ fn try_moves(
     if rows.count == 0 {
         return false;
     }
-    let a = run[len];
-    let b = run[len + 1];
-    let c = run[len + 2];
-    let shown = trial.shown;
-    run[len] = shown.0;
+    let kept_label = run[len];
+    let kept_left = run[len + 1];
+    let kept_right = run[len + 2];
+    run[len] = trial.shown.0;
     run[len + 1] = trial.other;
     run[len + 2] = trial.other;
-    let mover = trial.mover;
-    let place = place_by(mover, len);
+    let place = place_by(trial.mover, len);
     let held = try_rows(
         labels,
         grids,
@@ -412,9 +380,9 @@ fn try_moves(
         place,
         nodes,
     );
-    run[len] = a;
-    run[len + 1] = b;
-    run[len + 2] = c;
+    run[len] = kept_label;
+    run[len + 1] = kept_left;
+    run[len + 2] = kept_right;
     held
 }
 
@@ -478,17 +446,17 @@ fn stay(
         ▸ step_of 255 (get_or run.old (len - 2) 0, get_or run.old (len - 1) 0)) }
     ensures run_unchanged { run.new ≡ run.old }
 {
-    let p = run[len - 2];
-    let q = run[len - 1];
-    let x = run[len];
-    let y = run[len + 1];
-    let z = run[len + 2];
+    let last_left = run[len - 2];
+    let last_right = run[len - 1];
+    let label = run[len];
+    let left = run[len + 1];
+    let right = run[len + 2];
     run[len] = Label::IDLE.0;
-    run[len + 1] = p;
-    run[len + 2] = q;
+    run[len + 1] = last_left;
+    run[len + 2] = last_right;
     let held = holds(labels, grids, code, run, len + 3, nodes);
-    run[len] = x;
-    run[len + 1] = y;
-    run[len + 2] = z;
+    run[len] = label;
+    run[len + 1] = left;
+    run[len + 2] = right;
     held
 }

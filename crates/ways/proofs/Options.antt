@@ -4,7 +4,6 @@ use Prim.Native.Nat.{ℕ}
 use mathlib.Core.Path.{◌≡◌, refl, sym, ◌∙◌, ap₂}
 use mathlib.Core.Bool.{Bool, true, false, cond, ◌&&◌}
 use mathlib.Core.List.{List, [], ◌∷◌, ◌++◌, map}
-use mathlib.Core.Option.{Option, none, some}
 use lib.Dec.{eqb}
 use borrow.Author.Tests.{eqb-true}
 use Rattle.hml.proofs.Tests.{apart, denied, decided_same, decided_alike, both_true}
@@ -22,6 +21,7 @@ use Rattle.machines.specs.Working.{answer_to, kept}
 use Rattle.ways.specs.Working.{Steps, answered_by, shaken_by, handshakes, right_ways, ways_here}
 use Rattle.machines.specs.declared.step.JointStep.{JointStep}
 use Rattle.machines.specs.declared.step.States.{States}
+use Rattle.std.specs.Prelude.{None, Option, Some}
 
 -- a move is the one of this label and target exactly if both are the same
 the_move : (a q : ℕ) (m : ℕ × ℕ) → (same m.0 a && same m.1 q) ≡ true → m ≡ (a, q)
@@ -55,13 +55,13 @@ and_never false b = refl
 
 module _ (P : Pairing) where
   -- the labels that shake hands with a label are its partner
-  shaking : (a b n : ℕ) → P.partner a ≡ some b → shakes P a n ≡ same n b
+  shaking : (a b n : ℕ) → P.partner a ≡ Some b → shakes P a n ≡ same n b
   shaking a b n e =
-      decided_alike (λ f. let z : some n ≡ some b = sym f ∙ e in cc) (λ f. rw f e) (decided_shakes P a n)
+      decided_alike (λ f. let z : Some n ≡ Some b = sym f ∙ e in cc) (λ f. rw f e) (decided_shakes P a n)
       (decided_same n b)
 
-  unshaking : (a n : ℕ) → P.partner a ≡ none → shakes P a n ≡ false
-  unshaking a n e = denied (decided_shakes P a n) (λ f. let z : none ≡ some n = sym e ∙ f in apart cc)
+  unshaking : (a n : ℕ) → P.partner a ≡ None → shakes P a n ≡ false
+  unshaking a n e = denied (decided_shakes P a n) (λ f. let z : None ≡ Some n = sym e ∙ f in apart cc)
 
 module _ (P : Pairing) (L R : System ℕ) (p q c p' q' : ℕ) where
   -- a way is kept if it makes the step
@@ -118,10 +118,10 @@ module _ (P : Pairing) (L R : System ℕ) (p q c : ℕ) (v : States) (d : Distin
       go : (t : Bool) → same m.1 v.left ≡ t → (o : Option ℕ) → P.partner m.0 ≡ o
           → with_move P L R p q c v.left v.right m
           ≡ answered_by P (R q) v m (cond (same m.1 v.left)
-          (kept (λ b. among (R q) b v.right) (P.partner m.0)) none)
+          (kept (λ b. among (R q) b v.right) (P.partner m.0)) None)
       go false e o f = rw e (each_none _ (λ n. rw (silent, and_never (shakes P m.0 n.0) true)) (R q))
-      go true e none f = rw (e, f) (each_none _ (λ n. rw (unshaking P m.0 n.0 f)) (R q))
-      go true e (some b) f =
+      go true e None f = rw (e, f) (each_none _ (λ n. rw (unshaking P m.0 n.0 f)) (R q))
+      go true e (Some b) f =
           rw (e, f) (each-found (λ n. same n.0 b && same n.1 v.right) (b, v.right) (the_move b v.right)
           (λ n. (move m.0 m.1, move n.0 n.1)) true
           {t = λ n. shakes P m.0 n.0 && (same 0 c && (true && same n.1 v.right))}

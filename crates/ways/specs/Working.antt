@@ -1,8 +1,7 @@
 -- How the code works: the ways of one step of a joint run from the moves that leave its two states, in the order in
 -- which splittings are numbered: left alone, right alone, then handshakes by rising left label; a joint idle is the one
 -- way of its step. These are the theory's options: `options-listed`, proofs/Options. No call's promise cites this file.
-use Rattle.std.specs.Prelude.{ℕ, cond, ◌&&◌, List, [], ◌∷◌, ◌++◌, get_or, eqb}
-use Rattle.std.proofs.Math.Option.{Option, none, some}
+use Rattle.std.specs.Prelude.{ℕ, cond, ◌&&◌, List, [], ◌∷◌, ◌++◌, get_or, eqb, None, Option, Some}
 use Rattle.hml.specs.Lists.{only, each, given}
 use Rattle.hml.specs.System.{Pairing, move, idle}
 use Rattle.hml.specs.System as theory
@@ -28,8 +27,8 @@ chosen ways n = get_or ways n (idle, idle)
 -- the left's move m and the right's answer to it, by one of the moves rs, in a handshake to the states v
 module _ (P : Pairing) (rs : List (ℕ × ℕ)) (v : States) where
   abbrev pub answered_by : ℕ × ℕ → Option ℕ → List Steps
-  answered_by m none = []
-  answered_by m (some b) = (move m.0 m.1, move b v.right) ∷ []
+  answered_by m None = []
+  answered_by m (Some b) = (move m.0 m.1, move b v.right) ∷ []
 
   abbrev pub shaken_by : ℕ × ℕ → List Steps
   shaken_by m = answered_by m (answer_to P rs v.left v.right m)

@@ -2,99 +2,79 @@
 ghost use Rattle.std.specs.Prelude.{◌≡◌};
 ghost use Rattle.labels.specs.Labels.{pairing};
 ghost use Rattle.tables.specs.Working.{moves_in};
-ghost use Rattle.ways.specs.Working.{ways_here, right_ways, handshakes, way_struct, chosen};
+ghost use Rattle.ways.specs.Working.{ways_here, handshakes, way_struct, chosen};
 
-use crate::step::{Way, first_answer, moves_alone};
+use crate::step::{Way, first_answer};
 use halves::step::{Move, Step};
-use labels::label::{Label, Labels, Partner};
+use labels::label::{Label, Labels};
+use machines::joint::moves_alone;
 use machines::step::JointStep;
 
 // The way of a number, from 0, by the rows that leave the step's states. Beyond the last way both halves idle.
+#[tactic(auto, using(crate::proofs::RowWays::sides_sought), unfolding(crate::specs::Working::way_struct, halves::specs::Steps::step_struct))]
 pub fn nth_way(labels: Labels, left: &[u8], right: &[u8], step: JointStep, n: usize) -> Way
     ensures { result ≡ way_struct (chosen (ways_here (pairing labels) (moves_in left.now)
         (moves_in right.now) step) n) }
 {
-    let before = step.before;
-    let after = step.after;
-    let label = step.label;
+    let JointStep {
+        before,
+        label,
+        after,
+    } = step;
     if label.is_idle() {
-        return Way {
-            left: Step::Idle,
-            right: Step::Idle,
-        };
+        return Way::STILL;
     }
-    let target = after.left;
-    if !moves_alone(left, label, target, before.right, after.right) {
-        return nth_right_way(labels, left, right, step, n);
+    let mut passed = n;
+    if moves_alone(left, label, after.left, before.right, after.right) {
+        if passed == 0 {
+            let target = after.left;
+            return Way {
+                left: Step::Move(Move { label, target }),
+                right: Step::Idle,
+            };
+        }
+        passed -= 1;
     }
-    if n == 0 {
-        return Way {
-            left: Step::Move(Move { label, target }),
-            right: Step::Idle,
-        };
+    if moves_alone(right, label, after.right, before.left, after.left) {
+        if passed == 0 {
+            let target = after.right;
+            return Way {
+                left: Step::Idle,
+                right: Step::Move(Move { label, target }),
+            };
+        }
+        passed -= 1;
     }
-    nth_right_way(labels, left, right, step, n - 1)
-}
-
-// The same without the way of the left alone.
-fn nth_right_way(labels: Labels, left: &[u8], right: &[u8], step: JointStep, n: usize) -> Way
-    ensures { result ≡ way_struct (chosen (right_ways (pairing labels) (moves_in left.now)
-        (moves_in right.now) step) n) }
-{
-    let before = step.before;
-    let after = step.after;
-    let label = step.label;
-    let target = after.right;
-    if !moves_alone(right, label, target, before.left, after.left) {
-        return nth_handshake(labels, left, right, step, n);
-    }
-    if n == 0 {
-        return Way {
-            left: Step::Idle,
-            right: Step::Move(Move { label, target }),
-        };
-    }
-    nth_handshake(labels, left, right, step, n - 1)
+    nth_handshake(labels, left, right, step, passed)
 }
 
 // The handshake of a number, by rising left label.
+#[tactic(auto, using(crate::proofs::RowWays::rows_sought), unfolding(crate::specs::Working::way_struct, halves::specs::Steps::step_struct))]
 fn nth_handshake(labels: Labels, left: &[u8], right: &[u8], step: JointStep, n: usize) -> Way
     ensures { result ≡ way_struct (chosen (handshakes (pairing labels) (moves_in left.now)
         (moves_in right.now) step) n) }
 {
-    let after = step.after;
-    let label = step.label;
-    let still = Way {
-        left: Step::Idle,
-        right: Step::Idle,
-    };
-    if !label.is_silent() {
-        return still;
+    if !step.label.is_silent() {
+        return Way::STILL;
     }
-    let mut rows = left;
     let mut passed = n;
-    while 3 <= rows.len() {
-        let answer = first_answer(labels, rows, right, after);
-        let moved = Move {
-            label: Label(rows[1]),
-            target: rows[2],
+    for row in left.chunks_exact(3) {
+        let Some(partner) = first_answer(labels, row, right, step.after) else {
+            continue;
         };
-        rows = &rows[3..];
-        match answer {
-            Partner::Label(partner) => {
-                if passed == 0 {
-                    return Way {
-                        left: Step::Move(moved),
-                        right: Step::Move(Move {
-                            label: partner,
-                            target: after.right,
-                        }),
-                    };
-                }
-                passed -= 1;
-            }
-            Partner::Nobody => {}
+        if passed == 0 {
+            return Way {
+                left: Step::Move(Move {
+                    label: Label(row[1]),
+                    target: row[2],
+                }),
+                right: Step::Move(Move {
+                    label: partner,
+                    target: step.after.right,
+                }),
+            };
         }
+        passed -= 1;
     }
-    still
+    Way::STILL
 }

@@ -1,5 +1,4 @@
 -- Both numbers are small, so nothing wraps.
-use mathlib.Core.Path.{refl}
 use native.Mathlib.Omega.{arith}
 use Rattle.casebook.proofs.Values.{longest_is}
 use Rattle.engine.proofs.place.Goals as goal
@@ -9,6 +8,3 @@ overflow_mul-result c = omega (arith, longest_is)
 
 pub overflow_add-result : goal.overflow_add-result
 overflow_add-result c = omega (arith, longest_is)
-
-pub returns : goal.returns
-returns c = refl

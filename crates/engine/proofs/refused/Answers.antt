@@ -5,4 +5,4 @@ use Rattle.engine.proofs.refused.Goals as goal
 
 pub returns : goal.returns
 unfolding packed only
-returns c = omega (arith, c.number-number.ensures)
+returns c = omega (arith, c.number.ensures)

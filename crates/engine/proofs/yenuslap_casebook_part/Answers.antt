@@ -7,13 +7,13 @@ use Rattle.engine.proofs.Answers.{placed, no_places, gives, refuses}
 use Rattle.engine.proofs.yenuslap_casebook_part.Goals as goal
 
 pub place_in-requires : goal.place_in-requires
-place_in-requires c = placed _ (λ i. omega (arith, c.type_inv.bytes i)) _ _ c.read.ensures c.in-Casebook.is
+place_in-requires c = placed _ (λ i. omega (arith, c.type_inv.bytes i)) _ _ c.read.ensures c.in-Ok.is
 
-pub returns-in-Casebook : goal.returns-in-Casebook
+pub returns-in-Ok : goal.returns-in-Ok
 unfolding read_answer
-returns-in-Casebook c = gives read_answer c.read.ensures c.in-Casebook.is (place_in _) _ refl c.place_in.ensures
+returns-in-Ok c = gives read_answer c.read.ensures c.in-Ok.is (place_in _) _ refl c.place_in.ensures
 
-pub returns-in-Refused : goal.returns-in-Refused
+pub returns-in-Err : goal.returns-in-Err
 unfolding read_answer
-returns-in-Refused c = refuses read_answer c.read.ensures c.in-Refused.is (place_in _) c.in-Refused.refusal
+returns-in-Err c = refuses read_answer c.read.ensures c.in-Err.is (place_in _) c.in-Err.refusal
     (no_places _) refl c.refused.ensures

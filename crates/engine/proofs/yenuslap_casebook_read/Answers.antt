@@ -5,11 +5,11 @@ use Rattle.engine.specs.Answers.{nothing}
 use Rattle.engine.proofs.Answers.{gives, refuses}
 use Rattle.engine.proofs.yenuslap_casebook_read.Goals as goal
 
-pub returns-in-Casebook : goal.returns-in-Casebook
+pub returns-in-Ok : goal.returns-in-Ok
 unfolding read_answer nothing
-returns-in-Casebook c = gives read_answer c.read.ensures c.in-Casebook.is nothing _ refl refl
+returns-in-Ok c = gives read_answer c.read.ensures c.in-Ok.is nothing _ refl refl
 
-pub returns-in-Refused : goal.returns-in-Refused
+pub returns-in-Err : goal.returns-in-Err
 unfolding read_answer nothing
-returns-in-Refused c = refuses read_answer c.read.ensures c.in-Refused.is nothing c.in-Refused.refusal refl refl
+returns-in-Err c = refuses read_answer c.read.ensures c.in-Err.is nothing c.in-Err.refusal refl refl
     c.refused.ensures

@@ -1,35 +1,27 @@
 -- Digit by digit: what was read gives what will be read.
-use Rattle.aldebaran_form.proofs.Scanning.{read_begin, read_over, read_led, read_long, read_again}
-use Rattle.aldebaran_form.proofs.Scanning.{digit_low, digit_high, digit_end}
+use native.Mathlib.Omega.{arith}
+use mathlib.Core.Logic.{⊎_elim}
+use mathlib.Core.Path.{sym, ◌∙◌}
+use Rattle.aldebaran_form.proofs.Scanning.{read_over, read_led, read_long, read_again, digit_other, digit_end}
 use Rattle.aldebaran_form.proofs.scan.number_from.Goals as goal
 
-pub loop-end-init : goal.loop-end-init
-loop-end-init c = read_begin _ _ _ c.requires
-
-pub returns-then-byte-lt48 : goal.returns-then-byte-lt48
-returns-then-byte-lt48 c = read_over _ _ _ _ _ c.loop-end.invariant
-    (digit_low _ c.loop-end.end c.loop-end-test.true c.if-byte-lt48.true)
-
-pub returns-then-byte-gt57 : goal.returns-then-byte-gt57
-returns-then-byte-gt57 c = read_over _ _ _ _ _ c.loop-end.invariant
-    (digit_high _ c.loop-end.end c.loop-end-test.true
-    c.if-byte-gt57.true)
-
 pub returns-then-value-eq0 : goal.returns-then-value-eq0
-returns-then-value-eq0 c = read_led _ _ _ _ _ c.loop-end.invariant
-    c.loop-end-test.true c.if-byte-lt48.false c.if-byte-gt57.false
-    c.if-value-eq0.true
-
-pub returns-then-value-gt9999 : goal.returns-then-value-gt9999
-returns-then-value-gt9999 c = read_long _ _ _ _ _ c.loop-end.invariant
-    c.loop-end-test.true c.if-byte-lt48.false
-    c.if-byte-gt57.false c.if-value-gt9999.true
+returns-then-value-eq0 c =
+    let digit = sym c.is_ascii_digit.ensures.value ∙ c.if-is_ascii_digit.true in
+    rw c.nowhere.ensures
+    (⊎_elim (λ z. read_led _ _ _ _ _ c.loop-end.invariant c.loop-end-test.true digit z)
+    (λ z. read_long _ _ _ _ _ c.loop-end.invariant c.loop-end-test.true digit (omega (arith, z)))
+    c.then-value-eq0.either)
 
 pub loop-end-preserved : goal.loop-end-preserved
-loop-end-preserved c = read_again _ _ _ _ _ c.loop-end.invariant
-    c.loop-end-test.true c.if-byte-lt48.false
-    c.if-byte-gt57.false
-    c.if-value-eq0.false c.if-value-gt9999.false
+loop-end-preserved c = rw c.from.ensures
+    (read_again _ _ _ _ _ c.loop-end.invariant c.loop-end-test.true
+    (sym c.is_ascii_digit.ensures.value ∙ c.if-is_ascii_digit.true) (λ z. omega (arith, z)) (omega arith))
 
-pub returns : goal.returns
-returns c = read_over _ _ _ _ _ c.loop-end.invariant (digit_end _ c.loop-end.end c.loop-end-test.false)
+pub returns-else-is_ascii_digit : goal.returns-else-is_ascii_digit
+returns-else-is_ascii_digit c = read_over _ _ _ _ _ c.loop-end.invariant
+    (digit_other _ c.loop-end.end c.loop-end-test.true
+    (sym c.is_ascii_digit.ensures.value ∙ c.if-is_ascii_digit.false))
+
+pub returns-after-loop-end : goal.returns-after-loop-end
+returns-after-loop-end c = read_over _ _ _ _ _ c.loop-end.invariant (digit_end _ c.loop-end.end c.loop-end-test.false)

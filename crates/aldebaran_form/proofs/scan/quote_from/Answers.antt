@@ -1,23 +1,18 @@
 -- Byte by byte: the place and the label from there on come to the same end.
-use mathlib.Core.Path.{refl}
 use Rattle.aldebaran_form.proofs.Scanning.{label-quote, label_feed, label_end, quote_over, quote_again}
 use Rattle.aldebaran_form.proofs.scan.quote_from.Goals as goal
 
-pub loop-end-init : goal.loop-end-init
-loop-end-init c = refl
+pub returns-else-text-end-ne34 : goal.returns-else-text-end-ne34
+returns-else-text-end-ne34 c = quote_over _ _ _ c.loop-end.invariant
+    (label-quote _ c.loop-end.end c.loop-end-test.true c.if-text-end-ne34.false)
 
-pub returns-then-byte-eq34 : goal.returns-then-byte-eq34
-returns-then-byte-eq34 c = quote_over _ _ _ c.loop-end.invariant
-    (label-quote _ c.loop-end.end c.loop-end-test.true c.if-byte-eq34.true)
-
-pub returns-then-byte-eq10 : goal.returns-then-byte-eq10
-returns-then-byte-eq10 c = quote_over _ _ _ c.loop-end.invariant
-    (label_feed _ c.loop-end.end c.loop-end-test.true
-    c.if-byte-eq10.true)
+pub returns-else-text-end-ne10 : goal.returns-else-text-end-ne10
+returns-else-text-end-ne10 c = quote_over _ _ _ c.loop-end.invariant
+    (label_feed _ c.loop-end.end c.loop-end-test.true c.if-text-end-ne10.false)
 
 pub loop-end-preserved : goal.loop-end-preserved
-loop-end-preserved c = quote_again _ _ _ c.loop-end.invariant
-    c.loop-end-test.true c.if-byte-eq34.false c.if-byte-eq10.false
+loop-end-preserved c = quote_again _ _ _ c.loop-end.invariant c.loop-end-test.true c.if-text-end-ne34.true
+    c.if-text-end-ne10.true
 
-pub returns : goal.returns
-returns c = quote_over _ _ _ c.loop-end.invariant (label_end _ c.loop-end.end c.loop-end-test.false)
+pub returns-after-loop-end : goal.returns-after-loop-end
+returns-after-loop-end c = quote_over _ _ _ c.loop-end.invariant (label_end _ c.loop-end.end c.loop-end-test.false)

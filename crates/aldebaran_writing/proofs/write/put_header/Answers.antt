@@ -66,12 +66,6 @@ overflow_add-result c = let third = third_placed c.args.out.now _ _ c.args.first
     c.put_decimal-third.ensures.out_after _ _ c.put_decimal-end.ensures.value c.put_decimal-end.ensures.out_after in
     omega (arith, c.well_formed, c.requires, third)
 
-pub shape_of-out : goal.shape_of-out
-shape_of-out c = let third = third_placed c.args.out.now _ _ c.args.first c.args.rows c.args.states c.requires
-    c.put_decimal-second.ensures.value c.put_decimal-second.ensures.out_after _ _ c.put_decimal-third.ensures.value
-    c.put_decimal-third.ensures.out_after _ _ c.put_decimal-end.ensures.value c.put_decimal-end.ensures.out_after in
-    simp length-set third.1
-
 pub returns : goal.returns
 returns c = let third = third_placed c.args.out.now _ _ c.args.first c.args.rows c.args.states c.requires
     c.put_decimal-second.ensures.value c.put_decimal-second.ensures.out_after _ _ c.put_decimal-third.ensures.value

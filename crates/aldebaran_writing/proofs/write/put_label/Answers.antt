@@ -1,6 +1,5 @@
 -- The silent step, or the letter, the pair's number and the mark.
 use native.Mathlib.Omega.{arith}
-use lib.ListN.{length-set}
 use Rattle.hml.specs.Labels.{positive}
 use Rattle.aldebaran_writing.proofs.TextLengths.{length-silent, length-spelled}
 use Rattle.aldebaran_writing.proofs.TextPieces.{label-silent, label-placed, label-odd, label_even}
@@ -28,12 +27,6 @@ overflow_add-result-then-code-eq1 c = let some = positive c.args.label.0 c.if-co
     c.put_decimal-end.ensures.out_after in
     omega (arith, c.well_formed, c.requires, placed)
 
-pub shape_of-out-then-code-eq1 : goal.shape_of-out-then-code-eq1
-shape_of-out-then-code-eq1 c = let some = positive c.args.label.0 c.if-code-eq0.false in
-    let placed = label-placed c.args.out.now _ _ _ _ c.requires some c.put_decimal-end.ensures.value
-    c.put_decimal-end.ensures.out_after in
-    simp length-set placed.1
-
 pub returns-then-code-eq1 : goal.returns-then-code-eq1
 returns-then-code-eq1 c = let some = positive c.args.label.0 c.if-code-eq0.false in
     to_value_out_after (label-odd c.args.out.now _ _ _ _ c.requires some c.put_decimal-end.ensures.value
@@ -50,12 +43,6 @@ overflow_add-result-2 c = let some = positive c.args.label.0 c.if-code-eq0.false
     let placed = label-placed c.args.out.now _ _ _ _ c.requires some c.put_decimal-end.ensures.value
     c.put_decimal-end.ensures.out_after in
     omega (arith, c.well_formed, c.requires, placed)
-
-pub shape_of-out : goal.shape_of-out
-shape_of-out c = let some = positive c.args.label.0 c.if-code-eq0.false in
-    let placed = label-placed c.args.out.now _ _ _ _ c.requires some c.put_decimal-end.ensures.value
-    c.put_decimal-end.ensures.out_after in
-    simp length-set placed.1
 
 pub returns : goal.returns
 returns c = let some = positive c.args.label.0 c.if-code-eq0.false in

@@ -92,13 +92,6 @@ overflow_add-result c = let third = row_third c.args.out.now _ _ _ (triple_of c.
     c.put_decimal-to.ensures.value c.put_decimal-to.ensures.out_after in
     omega (arith, c.well_formed, c.requires, third)
 
-pub shape_of-out : goal.shape_of-out
-shape_of-out c = let third = row_third c.args.out.now _ _ _ (triple_of c.args.row) c.requires
-    c.put_decimal-from.ensures.value
-    c.put_decimal-from.ensures.out_after _ _ c.put_label-label.ensures.value c.put_label-label.ensures.out_after _ _
-    c.put_decimal-to.ensures.value c.put_decimal-to.ensures.out_after in
-    simp length-set third.1
-
 pub returns : goal.returns
 returns c = to_value_out_after (row_put c.args.out.now _ _ _ (triple_of c.args.row) c.requires
     c.put_decimal-from.ensures.value

@@ -1,6 +1,5 @@
--- The header and the lines of the first i rows stand in the text; the rows left fall.
-use Prim.Native.Nat.{◌-◌, ◌≤◌}
-use lib.ListN.{length, take}
+-- The header and the lines of the first i rows stand in the text.
+use lib.ListN.{take}
 use Rattle.tables.specs.Tables.{rows_of}
 use Rattle.aldebaran_writing.proofs.TextLengths.{rows_text}
 use Rattle.aldebaran_writing.proofs.TextPieces.{Stands}
@@ -8,7 +7,3 @@ use Rattle.aldebaran_writing.proofs.write.put_text.Given as goal
 
 abbrev pub invariant-loop-i : goal.invariant-loop-i
 invariant-loop-i l = Stands l.initial.text l.text l.initial.at l.at (rows_text (take l.i (rows_of l.table)))
-    × (l.i ≤ length (rows_of l.table))
-
-abbrev pub decreases-loop-i : goal.decreases-loop-i
-decreases-loop-i l = length (rows_of l.table) - l.i

@@ -1,5 +1,4 @@
 -- One count for each size up to five digits; above, four more than a number four digits shorter has.
-use Prim.{tt}
 use Prim.Native.Nat.{◌/◌}
 use mathlib.Core.Path.{sym}
 use native.Mathlib.Omega.{arith}
@@ -20,9 +19,6 @@ returns-then-n-lt10000 t c = sym (count_4 _ (omega arith) (omega arith))
 
 pub returns-then-n-lt100000 : goal.returns-then-n-lt100000
 returns-then-n-lt100000 t c = sym (count_5 _ (omega arith) (omega arith))
-
-pub digit_count-requires : goal.digit_count-requires
-digit_count-requires t c = (omega arith, tt)
 
 pub overflow_add-result : goal.overflow_add-result
 overflow_add-result t c = omega (arith, c.digit_count.ensures, count-within 19 (c.args.n / 10000) (omega arith))

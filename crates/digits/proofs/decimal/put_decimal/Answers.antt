@@ -21,10 +21,6 @@ returns-then-has_room c = let few = count-within 4 c.args.n (omega arith) in
     c.if-has_room.true in
     to_value_out_after (put_answer _ _ _ room _ _ c.write_short.ensures.value c.write_short.ensures.out_after)
 
-pub write_long-requires : goal.write_long-requires
-write_long-requires c = room_told c.args.out.now _ (decimal c.args.n) _ _ c.digit_count.ensures
-    c.has_room-2.ensures c.if-has_room-2.true
-
 pub returns-then-has_room-2 : goal.returns-then-has_room-2
 returns-then-has_room-2 c = let room = room_told c.args.out.now c.args.at (decimal c.args.n) _ _ c.digit_count.ensures
     c.has_room-2.ensures c.if-has_room-2.true in

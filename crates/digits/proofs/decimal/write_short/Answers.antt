@@ -1,10 +1,8 @@
 -- One to five digits, each case by its law.
-use Prim.Native.Nat.{◌+◌, ◌/◌}
 use mathlib.Core.Path.{refl}
 use native.Mathlib.Omega.{arith}
 use lib.ListN.{length-set}
 use Rattle.digits.proofs.DecimalLaws.{count_small, count_2, count_3, count_4, count_5, count-some}
-use Rattle.digits.proofs.Puts.{put-set-kept}
 use Rattle.digits.proofs.DecimalPuts.{put_1, put_2, put_3, put_4, put_5}
 use Rattle.digits.proofs.decimal.write_short.Goals as goal
 
@@ -35,11 +33,6 @@ bounds-out-at-then-n-lt1000 c = omega (arith, c.requires.n_in_bounds, count_3 c.
 pub put_two-requires-then-n-lt1000 : goal.put_two-requires-then-n-lt1000
 put_two-requires-then-n-lt1000 c = simp length-set (omega
     (arith, c.requires.n_in_bounds, count_3 c.args.n (omega arith) (omega arith)))
-
-pub shape_of-out-then-n-lt1000 : goal.shape_of-out-then-n-lt1000
-shape_of-out-then-n-lt1000 c = put-set-kept c.args.out.now c.put_two-then-n-lt1000.new.out c.args.at
-    (48 + c.args.n / 100)
-    (c.args.at + 1) _ c.put_two-then-n-lt1000.ensures
 
 pub returns-then-n-lt1000 : goal.returns-then-n-lt1000
 returns-then-n-lt1000 c = record {
@@ -74,10 +67,6 @@ bounds-out-at-2 c = omega (
 pub put_four-requires-2 : goal.put_four-requires-2
 put_four-requires-2 c = simp length-set (omega
     (arith, c.requires.n_in_bounds, count_5 c.args.n (omega arith) (omega (arith, c.requires.n_bound))))
-
-pub shape_of-out : goal.shape_of-out
-shape_of-out c = put-set-kept c.args.out.now c.put_four-2.new.out c.args.at (48 + c.args.n / 10000)
-    (c.args.at + 1) _ c.put_four-2.ensures
 
 pub returns : goal.returns
 returns c = record {

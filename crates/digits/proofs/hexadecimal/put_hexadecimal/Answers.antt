@@ -7,25 +7,6 @@ use Rattle.digits.proofs.Puts.{room_told, put_answer, no_room_told}
 use Rattle.digits.proofs.Clauses.{to_value_out_after}
 use Rattle.digits.proofs.hexadecimal.put_hexadecimal.Goals as goal
 
-pub write_hexadecimal-requires : goal.write_hexadecimal-requires
-write_hexadecimal-requires c = let counted = length-hexadecimal c.args.bytes.now in
-    omega (
-      arith,
-      room_told c.args.out.now c.args.at (hexadecimal c.args.bytes.now) _ _ (sym counted)
-          c.has_room.ensures c.if-has_room.true,
-      counted,
-    )
-
-pub overflow_add-result : goal.overflow_add-result
-overflow_add-result c = let counted = length-hexadecimal c.args.bytes.now in
-    omega (
-      arith,
-      c.well_formed,
-      room_told c.args.out.now c.args.at (hexadecimal c.args.bytes.now) _ _ (sym counted)
-          c.has_room.ensures c.if-has_room.true,
-      counted,
-    )
-
 pub returns-then-has_room : goal.returns-then-has_room
 returns-then-has_room c = let counted = length-hexadecimal c.args.bytes.now in
     let room = room_told c.args.out.now c.args.at (hexadecimal c.args.bytes.now) _ _ (sym counted)

@@ -9,7 +9,7 @@ use Rattle.tables.proofs.Searching.{leaving-moves}
 use Rattle.dividing.specs.Working.{alone_in}
 use Rattle.labels.proofs.Outputs.{front_length}
 use Rattle.labels.specs.declared.label.Labels.{Labels}
-use Rattle.dividing.proofs.Pieces.{joined, one_piece, two_pieces, second_fits, second_length}
+use Rattle.dividing.proofs.Pieces.{joined, one_piece, two_pieces, second_fits}
 use Rattle.dividing.proofs.Listing.{idle-listed, label-listed, silent-listed, alone_room, listed-fits}
 use Rattle.hml.proofs.Clauses.{to_value_out_after}
 use Rattle.dividing.proofs.disjuncts.list_disjuncts.Goals as goal
@@ -19,34 +19,10 @@ rows_are : {k : Labels} {t : List ℕ} → SoundTable k t → (q : ℕ) (rows : 
     → (Rising (rows_of t) → rows ≡ bytes_of (rows_from q (rows_of t))) → moves_in rows ≡ table_of t q
 rows_are {t = t} s q rows e = leaving-moves t q rows (e s.rising)
 
-pub put_disjunct-requires : goal.put_disjunct-requires
-put_disjunct-requires c = omega (arith, c.requires.in_bounds)
-
-pub shape_of-out-then-operator-eq7 : goal.shape_of-out-then-operator-eq7
-shape_of-out-then-operator-eq7 c = front_length _ _ _ c.put_disjunct.ensures
-    (omega (arith, c.requires.in_bounds))
-
 pub returns-then-operator-eq7 : goal.returns-then-operator-eq7
 returns-then-operator-eq7 c = to_value_out_after (one_piece _ _ _ _ 4 (idle-listed _ _ _ _ _ c.if-operator-eq7.true)
     refl
     c.put_disjunct.ensures)
-
-pub put_disjunct-requires-2 : goal.put_disjunct-requires-2
-put_disjunct-requires-2 c = omega (arith, c.requires.in_bounds)
-
-pub slice_bounds-list_alone-count : goal.slice_bounds-list_alone-count
-slice_bounds-list_alone-count c = omega (
-  arith,
-  c.requires.in_bounds,
-  front_length _ _ _ c.put_disjunct-2.ensures (omega (arith, c.requires.in_bounds)),
-)
-
-pub slice_bounds-list_alone-start : goal.slice_bounds-list_alone-start
-slice_bounds-list_alone-start c = omega (
-  arith,
-  c.requires.in_bounds,
-  front_length _ _ _ c.put_disjunct-2.ensures (omega (arith, c.requires.in_bounds)),
-)
 
 pub list_alone-n-requires : goal.list_alone-n-requires
 list_alone-n-requires c = second_fits _ _ _ _
@@ -69,15 +45,6 @@ overflow_add-at c = omega (
       c.requires.in_bounds) _ _ 4 refl refl
       c.put_disjunct-2.ensures,
 )
-
-pub shape_of-out-then-not-is_silent : goal.shape_of-out-then-not-is_silent
-shape_of-out-then-not-is_silent c = second_length _ _ _ _ _ _ 4
-    (joined (5 ∷ c.args.label.0 ∷ 255 ∷ c.args.state ∷ [])
-    (alone_in c.args.label.0 (moves_in c.rows_leaving-rows.result.now))) refl
-    c.put_disjunct-2.ensures c.list_alone-n.ensures.out_after
-    (alone_room c.args.labels c.args.table.now c.args.operator c.args.label.0 c.args.state _
-    (rows_are c.requires.sound_table _ _ c.rows_leaving-rows.ensures.exact) _ _ c.requires.sound_table
-    c.requires.in_bounds)
 
 pub returns-then-not-is_silent : goal.returns-then-not-is_silent
 returns-then-not-is_silent c = to_value_out_after (one_piece _ _ _ _ _
@@ -176,22 +143,6 @@ overflow_add-result c = omega (
       (alone_in c.args.label.0 (moves_in c.rows_leaving-rows.result.now))) refl c.put_disjunct-2.ensures
       c.list_alone-n.ensures.value c.list_alone-n.ensures.out_after).1,
 )
-
-pub shape_of-out : goal.shape_of-out
-shape_of-out c = second_length _ _ _ _ _ _ _
-    (silent-listed c.args.labels c.args.table.now c.args.operator c.args.label.0 c.args.state _
-    (rows_are c.requires.sound_table _ _ c.rows_leaving-rows.ensures.exact) c.if-operator-eq7.false
-    (sym c.is_silent.ensures ∙ c.if-not-is_silent.false))
-    (two_pieces _ _ _ _ _ _ 4 _
-    (joined (5 ∷ c.args.label.0 ∷ 255 ∷ c.args.state ∷ [])
-    (alone_in c.args.label.0 (moves_in c.rows_leaving-rows.result.now))) refl c.put_disjunct-2.ensures
-    c.list_alone-n.ensures.value c.list_alone-n.ensures.out_after).0
-    (two_pieces _ _ _ _ _ _ 4 _
-    (joined (5 ∷ c.args.label.0 ∷ 255 ∷ c.args.state ∷ [])
-    (alone_in c.args.label.0 (moves_in c.rows_leaving-rows.result.now))) refl c.put_disjunct-2.ensures
-    c.list_alone-n.ensures.value c.list_alone-n.ensures.out_after).1 c.list_shaken-m.ensures.out_after
-    (listed-fits c.args.labels c.args.table.now c.args.operator c.args.label.0 c.args.state _ _
-    c.requires.sound_table c.requires.in_bounds)
 
 pub returns : goal.returns
 returns c = to_value_out_after (two_pieces _ _ _ _ _ _ _ _

@@ -6,8 +6,6 @@ mod Modalities
 mod OneDisjunct
 mod Trees
 use native.Mathlib.Omega.{arith}
-use mathlib.Core.Path.{refl, sym}
-use lib.Seq.{length-take-le}
 use Rattle.formulas.proofs.Operators.{node_room}
 use Rattle.dividing.proofs.write.+writing.Answers.Trees as trees
 use Rattle.dividing.proofs.write.+writing.Answers.Modalities as modalities
@@ -18,9 +16,6 @@ use Rattle.dividing.proofs.write.+writing.Goals as goal
 
 pub write_disjuncts-write_disjunct-requires : goal.write_disjuncts-write_disjunct-requires
 write_disjuncts-write_disjunct-requires t c = disjuncts.write_disjuncts-write_disjunct-requires t c
-
-pub write_disjuncts-shape_of-out-then-disjuncts-lt8 : goal.write_disjuncts-shape_of-out-then-disjuncts-lt8
-write_disjuncts-shape_of-out-then-disjuncts-lt8 t c = disjuncts.write_disjuncts-shape_of-out-then-disjuncts-lt8 t c
 
 pub write_disjuncts-returns-then-disjuncts-lt8 : goal.write_disjuncts-returns-then-disjuncts-lt8
 write_disjuncts-returns-then-disjuncts-lt8 t c = disjuncts.write_disjuncts-returns-then-disjuncts-lt8 t c
@@ -54,9 +49,6 @@ write_disjuncts-write_disjuncts-m-requires t c = disjuncts.write_disjuncts-write
 pub write_disjuncts-overflow_add-result : goal.write_disjuncts-overflow_add-result
 write_disjuncts-overflow_add-result t c = disjuncts.write_disjuncts-overflow_add-result t c
 
-pub write_disjuncts-shape_of-out : goal.write_disjuncts-shape_of-out
-write_disjuncts-shape_of-out t c = disjuncts.write_disjuncts-shape_of-out t c
-
 pub write_disjuncts-returns : goal.write_disjuncts-returns
 write_disjuncts-returns t c = disjuncts.write_disjuncts-returns t c
 
@@ -65,18 +57,6 @@ write_forward-bounds-f-0 t c = omega (arith, node_room _ c.requires.ready.part.t
 
 pub write_forward-bounds-f-1 : goal.write_forward-bounds-f-1
 write_forward-bounds-f-1 t c = omega (arith, node_room _ c.requires.ready.part.tree)
-
-pub write_forward-overflow_sub-len : goal.write_forward-overflow_sub-len
-write_forward-overflow_sub-len t c = omega (arith, c.requires.ready.held.odd)
-
-pub write_forward-bounds-run-len : goal.write_forward-bounds-run-len
-write_forward-bounds-run-len t c = forwards.write_forward-bounds-run-len t c
-
-pub write_forward-slice_bounds-list_disjuncts-end : goal.write_forward-slice_bounds-list_disjuncts-end
-write_forward-slice_bounds-list_disjuncts-end t c = refl
-
-pub write_forward-list_disjuncts-n-requires : goal.write_forward-list_disjuncts-n-requires
-write_forward-list_disjuncts-n-requires t c = forwards.write_forward-list_disjuncts-n-requires t c
 
 pub write_forward-slice_bounds-disjuncts-end : goal.write_forward-slice_bounds-disjuncts-end
 write_forward-slice_bounds-disjuncts-end t c = forwards.write_forward-slice_bounds-disjuncts-end t c
@@ -93,29 +73,14 @@ write_forward-slice_bounds-write_disjuncts-start t c = omega (arith, node_room _
 pub write_forward-write_disjuncts-requires : goal.write_forward-write_disjuncts-requires
 write_forward-write_disjuncts-requires t c = forwards.write_forward-write_disjuncts-requires t c
 
-pub write_forward-shape_of-out : goal.write_forward-shape_of-out
-write_forward-shape_of-out t c = forwards.write_forward-shape_of-out t c
-
 pub write_forward-returns : goal.write_forward-returns
 write_forward-returns t c = forwards.write_forward-returns t c
 
 pub write_modal-bounds-f-0 : goal.write_modal-bounds-f-0
 write_modal-bounds-f-0 t c = omega (arith, node_room _ c.requires.ready.part.tree)
 
-pub write_modal-write_forward-requires : goal.write_modal-write_forward-requires
-write_modal-write_forward-requires t c = modalities.write_modal-write_forward-requires t c
-
-pub write_modal-shape_of-out-then-is_forward : goal.write_modal-shape_of-out-then-is_forward
-write_modal-shape_of-out-then-is_forward t c = modalities.write_modal-shape_of-out-then-is_forward t c
-
-pub write_modal-returns-then-is_forward : goal.write_modal-returns-then-is_forward
-write_modal-returns-then-is_forward t c = modalities.write_modal-returns-then-is_forward t c
-
 pub write_modal-bounds-f-1 : goal.write_modal-bounds-f-1
 write_modal-bounds-f-1 t c = omega (arith, node_room _ c.requires.ready.part.tree)
-
-pub write_modal-slice_bounds-past_node-end : goal.write_modal-slice_bounds-past_node-end
-write_modal-slice_bounds-past_node-end t c = sym (length-take-le _ _ c.requires.ready.held.within)
 
 pub write_modal-put_node-requires : goal.write_modal-put_node-requires
 write_modal-put_node-requires t c = modalities.write_modal-put_node-requires t c
@@ -129,11 +94,11 @@ write_modal-slice_bounds-write_tree-count t c = omega (arith, node_room _ c.requ
 pub write_modal-slice_bounds-write_tree-start : goal.write_modal-slice_bounds-write_tree-start
 write_modal-slice_bounds-write_tree-start t c = omega (arith, node_room _ c.requires.ready.part.tree)
 
-pub write_modal-slice_bounds-write_tree-count-in-Node : goal.write_modal-slice_bounds-write_tree-count-in-Node
-write_modal-slice_bounds-write_tree-count-in-Node t c = modalities.write_modal-slice_bounds-write_tree-count-in-Node t c
+pub write_modal-slice_bounds-write_tree-count-in-Some : goal.write_modal-slice_bounds-write_tree-count-in-Some
+write_modal-slice_bounds-write_tree-count-in-Some t c = modalities.write_modal-slice_bounds-write_tree-count-in-Some t c
 
-pub write_modal-slice_bounds-write_tree-start-in-Node : goal.write_modal-slice_bounds-write_tree-start-in-Node
-write_modal-slice_bounds-write_tree-start-in-Node t c = modalities.write_modal-slice_bounds-write_tree-start-in-Node t c
+pub write_modal-slice_bounds-write_tree-start-in-Some : goal.write_modal-slice_bounds-write_tree-start-in-Some
+write_modal-slice_bounds-write_tree-start-in-Some t c = modalities.write_modal-slice_bounds-write_tree-start-in-Some t c
 
 pub write_modal-write_tree-n-requires : goal.write_modal-write_tree-n-requires
 write_modal-write_tree-n-requires t c = modalities.write_modal-write_tree-n-requires t c
@@ -141,56 +106,17 @@ write_modal-write_tree-n-requires t c = modalities.write_modal-write_tree-n-requ
 pub write_modal-overflow_add-result : goal.write_modal-overflow_add-result
 write_modal-overflow_add-result t c = modalities.write_modal-overflow_add-result t c
 
-pub write_modal-put_node-requires-in-Fails : goal.write_modal-put_node-requires-in-Fails
-write_modal-put_node-requires-in-Fails t c = modalities.write_modal-put_node-requires-in-Fails t c
+pub write_modal-put_node-requires-in-None : goal.write_modal-put_node-requires-in-None
+write_modal-put_node-requires-in-None t c = modalities.write_modal-put_node-requires-in-None t c
 
-pub write_modal-shape_of-out-in-Node : goal.write_modal-shape_of-out-in-Node
-write_modal-shape_of-out-in-Node t c = modalities.write_modal-shape_of-out-in-Node t c
+pub write_modal-returns-in-Some : goal.write_modal-returns-in-Some
+write_modal-returns-in-Some t c = modalities.write_modal-returns-in-Some t c
 
-pub write_modal-returns-in-Node : goal.write_modal-returns-in-Node
-write_modal-returns-in-Node t c = modalities.write_modal-returns-in-Node t c
-
-pub write_modal-shape_of-out-in-Fails : goal.write_modal-shape_of-out-in-Fails
-write_modal-shape_of-out-in-Fails t c = modalities.write_modal-shape_of-out-in-Fails t c
-
-pub write_modal-returns-in-Fails : goal.write_modal-returns-in-Fails
-write_modal-returns-in-Fails t c = modalities.write_modal-returns-in-Fails t c
-
-pub write_disjunct-bounds-disjuncts-0 : goal.write_disjunct-bounds-disjuncts-0
-write_disjunct-bounds-disjuncts-0 t c = one-disjunct.write_disjunct-bounds-disjuncts-0 t c
-
-pub write_disjunct-bounds-disjuncts-1 : goal.write_disjunct-bounds-disjuncts-1
-write_disjunct-bounds-disjuncts-1 t c = one-disjunct.write_disjunct-bounds-disjuncts-1 t c
+pub write_modal-returns-in-None : goal.write_modal-returns-in-None
+write_modal-returns-in-None t c = modalities.write_modal-returns-in-None t c
 
 pub write_disjunct-put_node-requires : goal.write_disjunct-put_node-requires
 write_disjunct-put_node-requires t c = one-disjunct.write_disjunct-put_node-requires t c
-
-pub write_disjunct-bounds-run-len : goal.write_disjunct-bounds-run-len
-write_disjunct-bounds-run-len t c = omega (arith, c.requires.ready.room, c.requires.ready.size)
-
-pub write_disjunct-overflow_add-b : goal.write_disjunct-overflow_add-b
-write_disjunct-overflow_add-b t c = omega (arith, c.requires.ready.room, c.requires.ready.size)
-
-pub write_disjunct-bounds-run-len-2 : goal.write_disjunct-bounds-run-len-2
-write_disjunct-bounds-run-len-2 t c = omega (arith, c.requires.ready.room, c.requires.ready.size)
-
-pub write_disjunct-bounds-disjuncts-2 : goal.write_disjunct-bounds-disjuncts-2
-write_disjunct-bounds-disjuncts-2 t c = one-disjunct.write_disjunct-bounds-disjuncts-2 t c
-
-pub write_disjunct-bounds-run-len-3 : goal.write_disjunct-bounds-run-len-3
-write_disjunct-bounds-run-len-3 t c = omega (arith, c.requires.ready.room, c.requires.ready.size)
-
-pub write_disjunct-bounds-disjuncts-3 : goal.write_disjunct-bounds-disjuncts-3
-write_disjunct-bounds-disjuncts-3 t c = one-disjunct.write_disjunct-bounds-disjuncts-3 t c
-
-pub write_disjunct-overflow_add-run : goal.write_disjunct-overflow_add-run
-write_disjunct-overflow_add-run t c = omega (arith, c.requires.ready.room, c.requires.ready.size)
-
-pub write_disjunct-bounds-run-len-4 : goal.write_disjunct-bounds-run-len-4
-write_disjunct-bounds-run-len-4 t c = omega (arith, c.requires.ready.room, c.requires.ready.size)
-
-pub write_disjunct-overflow_add-len : goal.write_disjunct-overflow_add-len
-write_disjunct-overflow_add-len t c = omega (arith, c.requires.ready.room, c.requires.ready.size)
 
 pub write_disjunct-slice_bounds-write_tree-count : goal.write_disjunct-slice_bounds-write_tree-count
 write_disjunct-slice_bounds-write_tree-count t c = one-disjunct.write_disjunct-slice_bounds-write_tree-count t c
@@ -201,20 +127,8 @@ write_disjunct-slice_bounds-write_tree-start t c = one-disjunct.write_disjunct-s
 pub write_disjunct-write_tree-n-requires : goal.write_disjunct-write_tree-n-requires
 write_disjunct-write_tree-n-requires t c = one-disjunct.write_disjunct-write_tree-n-requires t c
 
-pub write_disjunct-bounds-run-len-5 : goal.write_disjunct-bounds-run-len-5
-write_disjunct-bounds-run-len-5 t c = omega (arith, c.requires.ready.room, c.requires.ready.size)
-
-pub write_disjunct-overflow_add-run-2 : goal.write_disjunct-overflow_add-run-2
-write_disjunct-overflow_add-run-2 t c = omega (arith, c.requires.ready.room, c.requires.ready.size)
-
-pub write_disjunct-bounds-run-len-6 : goal.write_disjunct-bounds-run-len-6
-write_disjunct-bounds-run-len-6 t c = omega (arith, c.requires.ready.room, c.requires.ready.size)
-
 pub write_disjunct-overflow_add-result : goal.write_disjunct-overflow_add-result
 write_disjunct-overflow_add-result t c = one-disjunct.write_disjunct-overflow_add-result t c
-
-pub write_disjunct-shape_of-out : goal.write_disjunct-shape_of-out
-write_disjunct-shape_of-out t c = one-disjunct.write_disjunct-shape_of-out t c
 
 pub write_disjunct-returns : goal.write_disjunct-returns
 write_disjunct-returns t c = one-disjunct.write_disjunct-returns t c
@@ -222,20 +136,8 @@ write_disjunct-returns t c = one-disjunct.write_disjunct-returns t c
 pub write_tree-bounds-f-0 : goal.write_tree-bounds-f-0
 write_tree-bounds-f-0 t c = omega (arith, node_room _ c.requires.ready.part.tree)
 
-pub write_tree-write_modal-requires : goal.write_tree-write_modal-requires
-write_tree-write_modal-requires t c = trees.write_tree-write_modal-requires t c
-
-pub write_tree-shape_of-out-then-is_modality : goal.write_tree-shape_of-out-then-is_modality
-write_tree-shape_of-out-then-is_modality t c = trees.write_tree-shape_of-out-then-is_modality t c
-
-pub write_tree-returns-then-is_modality : goal.write_tree-returns-then-is_modality
-write_tree-returns-then-is_modality t c = trees.write_tree-returns-then-is_modality t c
-
 pub write_tree-put_node-requires : goal.write_tree-put_node-requires
 write_tree-put_node-requires t c = trees.write_tree-put_node-requires t c
-
-pub write_tree-shape_of-out-then-operator-lt2 : goal.write_tree-shape_of-out-then-operator-lt2
-write_tree-shape_of-out-then-operator-lt2 t c = trees.write_tree-shape_of-out-then-operator-lt2 t c
 
 pub write_tree-returns-then-operator-lt2 : goal.write_tree-returns-then-operator-lt2
 write_tree-returns-then-operator-lt2 t c = trees.write_tree-returns-then-operator-lt2 t c
@@ -257,9 +159,6 @@ write_tree-write_tree-n-requires t c = trees.write_tree-write_tree-n-requires t 
 
 pub write_tree-overflow_add-at : goal.write_tree-overflow_add-at
 write_tree-overflow_add-at t c = trees.write_tree-overflow_add-at t c
-
-pub write_tree-shape_of-out-then-operator-eq2 : goal.write_tree-shape_of-out-then-operator-eq2
-write_tree-shape_of-out-then-operator-eq2 t c = trees.write_tree-shape_of-out-then-operator-eq2 t c
 
 pub write_tree-returns-then-operator-eq2 : goal.write_tree-returns-then-operator-eq2
 write_tree-returns-then-operator-eq2 t c = trees.write_tree-returns-then-operator-eq2 t c
@@ -296,9 +195,6 @@ write_tree-write_tree-m-requires t c = trees.write_tree-write_tree-m-requires t 
 
 pub write_tree-overflow_add-result : goal.write_tree-overflow_add-result
 write_tree-overflow_add-result t c = trees.write_tree-overflow_add-result t c
-
-pub write_tree-shape_of-out : goal.write_tree-shape_of-out
-write_tree-shape_of-out t c = trees.write_tree-shape_of-out t c
 
 pub write_tree-returns : goal.write_tree-returns
 write_tree-returns t c = trees.write_tree-returns t c

@@ -4,17 +4,17 @@ use Rattle.sheet_lines.specs.Sheets.{lines_answer}
 use Rattle.engine.proofs.Answers.{lines-given, lines_refused}
 use Rattle.engine.proofs.sheet.yenuslap_sheet_lines.Goals as goal
 
-pub returns-in-Written : goal.returns-in-Written
+pub returns-in-Ok : goal.returns-in-Ok
 unfolding lines_answer
-returns-in-Written c = record {
-  value = lines-given lines_answer c.write_lines.ensures.value c.in-Written.is refl;
+returns-in-Ok c = record {
+  value = lines-given lines_answer c.write_lines.ensures.value c.in-Ok.is refl;
   out_after = c.write_lines.ensures.out_after;
 }
 
-pub returns-in-Refused : goal.returns-in-Refused
+pub returns-in-Err : goal.returns-in-Err
 unfolding lines_answer
-returns-in-Refused c = record {
-  value = lines_refused lines_answer c.write_lines.ensures.value c.in-Refused.is c.in-Refused.refusal refl
+returns-in-Err c = record {
+  value = lines_refused lines_answer c.write_lines.ensures.value c.in-Err.is c.in-Err.refusal refl
       c.number.ensures;
   out_after = c.write_lines.ensures.out_after;
 }

@@ -1,51 +1,38 @@
 -- At each return the tests say which case of `check_formula` holds.
 use mathlib.Core.Path.{sym, ◌∙◌}
-use Rattle.formulas.proofs.Checking.{over_limit, no_formula, no_tree, more_than_tree, one-tree, tree_of_lem}
+use Rattle.formulas.proofs.Checking.{over_limit, no_formula, not_whole, whole, tree_of_lem}
 use Rattle.formulas.proofs.Checking.{label_refused, few_sound, nested_refused, formula_sound}
 use Rattle.formulas.proofs.check.check_formula.Goals as goal
+use Rattle.formulas.proofs.check.check_formula.Goals.{then-limit-f-via-then-limit-f}
+use Rattle.formulas.proofs.check.check_formula.Goals.{then-limit-f-via-else-limit-f+then-ne}
+use Rattle.formulas.proofs.check.check_formula.Goals.{then-limit-f-via-else-limit-f+else-ne+then-not-labels_fit}
+use Rattle.formulas.proofs.check.check_formula.Goals.{else-count_forwards-gt4-via-then-count_forwards-gt4+else-measured-gt4}
+use Rattle.formulas.proofs.check.check_formula.Goals.{else-count_forwards-gt4-via-else-count_forwards-gt4}
 
-pub returns-then-limit-n : goal.returns-then-limit-n
-returns-then-limit-n c = over_limit _ _ _ c.if-limit-n.true
+pub returns-then-limit-f : goal.returns-then-limit-f
+returns-then-limit-f c = elim c.then-limit-f.branch [
+  | then-limit-f-via-then-limit-f w ↦ over_limit _ _ _ w.if-limit-f.true
+  | then-limit-f-via-else-limit-f+then-ne w ↦ no_formula _ _ _
+      (not_whole _ _ _ w.tree_end.ensures w.ne.ensures w.if-ne.true)
+  | then-limit-f-via-else-limit-f+else-ne+then-not-labels_fit w ↦
+      let t = whole c.args.f.now _ _ w.tree_end.ensures w.ne.ensures w.if-ne.false in
+      label_refused _ _ _ t.0 t.1 w.if-limit-f.false (sym w.labels_fit.ensures ∙ w.if-not-labels_fit.true)
+]
 
-pub returns-then-end-n : goal.returns-then-end-n
-returns-then-end-n c = no_formula _ _ _ (more_than_tree _ _
-    (sym c.in-At.is ∙ c.tree_end.ensures) c.if-end-n.true)
+pub measured-requires : goal.measured-requires
+measured-requires c = let t = whole _ _ _ c.tree_end.ensures c.ne.ensures c.if-ne.false in tree_of_lem _ t.0 t.1
 
-pub returns-in-Nowhere : goal.returns-in-Nowhere
-returns-in-Nowhere c = no_formula _ _ _ (no_tree _ (sym c.in-Nowhere.is ∙ c.tree_end.ensures))
-
-pub returns-then-not-labels_fit : goal.returns-then-not-labels_fit
-returns-then-not-labels_fit c = let t = one-tree _ _ (sym c.in-At.is ∙ c.tree_end.ensures)
-    c.if-end-n.false in
-    label_refused _ _ _ t.0 t.1 c.if-limit-n.false
-    (sym c.labels_fit.ensures ∙ c.if-not-labels_fit.true)
-
-pub returns-then-count_forwards-le4 : goal.returns-then-count_forwards-le4
-returns-then-count_forwards-le4 c = let t = one-tree _ _
-    (sym c.in-At.is
-    ∙ c.tree_end.ensures) c.if-end-n.false in
-    few_sound _ _ _ t.0 t.1 c.if-limit-n.false
-    (sym c.labels_fit.ensures ∙ c.if-not-labels_fit.false) _ c.count_forwards.ensures
-    c.if-count_forwards-le4.true
-
-pub measured-tree-requires : goal.measured-tree-requires
-measured-tree-requires c = let t = one-tree _ _
-    (sym c.in-At.is
-    ∙ c.tree_end.ensures) c.if-end-n.false in
-    tree_of_lem _ t.0 t.1
-
-pub returns-then-tree-gt4 : goal.returns-then-tree-gt4
-returns-then-tree-gt4 c = let t = one-tree _ _
-    (sym c.in-At.is
-    ∙ c.tree_end.ensures) c.if-end-n.false in
-    nested_refused _ _ _ t.0 t.1 c.if-limit-n.false
-    (sym c.labels_fit.ensures ∙ c.if-not-labels_fit.false) _ c.measured-tree.ensures
-    c.if-tree-gt4.true
+pub returns-then-measured-gt4 : goal.returns-then-measured-gt4
+returns-then-measured-gt4 c = let t = whole _ _ _ c.tree_end.ensures c.ne.ensures c.if-ne.false in
+    nested_refused _ _ _ t.0 t.1 c.if-limit-f.false (sym c.labels_fit.ensures ∙ c.if-not-labels_fit.false)
+    _ c.measured.ensures c.if-measured-gt4.true
 
 pub returns : goal.returns
-returns c = let t = one-tree _ _
-    (sym c.in-At.is
-    ∙ c.tree_end.ensures) c.if-end-n.false in
-    formula_sound _ _ _ t.0 t.1 c.if-limit-n.false
-    (sym c.labels_fit.ensures ∙ c.if-not-labels_fit.false) _ c.measured-tree.ensures
-    c.if-tree-gt4.false
+returns c = let t = whole _ _ _ c.tree_end.ensures c.ne.ensures c.if-ne.false in
+    let fit = sym c.labels_fit.ensures ∙ c.if-not-labels_fit.false in
+    elim c.else-count_forwards-gt4.branch [
+      | else-count_forwards-gt4-via-then-count_forwards-gt4+else-measured-gt4 w ↦
+          formula_sound _ _ _ t.0 t.1 c.if-limit-f.false fit _ w.measured.ensures w.if-measured-gt4.false
+      | else-count_forwards-gt4-via-else-count_forwards-gt4 w ↦
+          few_sound _ _ _ t.0 t.1 c.if-limit-f.false fit _ c.count_forwards.ensures w.if-count_forwards-gt4.false
+    ]

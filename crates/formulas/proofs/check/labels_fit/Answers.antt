@@ -1,25 +1,17 @@
--- The labels before `rest` fit, and those in it decide; the measure is its length.
-use native.Mathlib.Omega.{arith}
-use mathlib.Core.Path.{refl, sym, ◌∙◌}
-use Rattle.labels.proofs.Slices.{rest_fewer}
-use Rattle.formulas.proofs.FormulaLabels.{label_above, label-fits, no_label-left}
+-- The first node's label decides.
+use mathlib.Core.Path.{sym, ◌∙◌}
+use Rattle.formulas.proofs.FormulaLabels.{node_label}
 use Rattle.formulas.proofs.check.labels_fit.Goals as goal
 
-pub loop-rest-init : goal.loop-rest-init
-loop-rest-init c = refl
-
 pub returns-then-not-has : goal.returns-then-not-has
-returns-then-not-has c = label_above _ _ _ c.loop-rest-test.true c.loop-rest.invariant
-    (sym c.has.ensures ∙ c.if-not-has.true)
+returns-then-not-has c = let s = c.in-Some.ensures.steps in
+    let label = node_label _ _ _ _ s.1.0 (s.1.1 ∙ c.loop-node.invariant.nodes) in
+    sym (c.loop-node.invariant.left ∙ label ∙ rw (← c.has.ensures, c.if-not-has.true))
 
-pub loop-rest-smaller : goal.loop-rest-smaller
-loop-rest-smaller c = rest_fewer 2 c.loop-rest.rest.now (omega arith)
-    c.loop-rest-test.true
-
-pub loop-rest-preserved : goal.loop-rest-preserved
-loop-rest-preserved c = label-fits _ _ _ c.loop-rest-test.true
-    c.loop-rest.invariant
-    (sym c.has.ensures ∙ c.if-not-has.false)
-
-pub returns : goal.returns
-returns c = no_label-left _ _ _ c.loop-rest-test.false c.loop-rest.invariant
+pub loop-node-preserved : goal.loop-node-preserved
+loop-node-preserved c = let s = c.in-Some.ensures.steps in
+    let label = node_label _ _ _ _ s.1.0 (s.1.1 ∙ c.loop-node.invariant.nodes) in
+    record {
+      nodes = s.0 ∙ c.loop-node.invariant.nodes;
+      left = c.loop-node.invariant.left ∙ label ∙ rw (← c.has.ensures, c.if-not-has.false);
+    }

@@ -1,12 +1,12 @@
--- The labels in `rest` fit just when all of them do; its bytes fall.
+-- The labels that are left fit just when all of them do.
 use mathlib.Core.Path.{◌≡◌}
-use lib.ListN.{length}
 use Rattle.labels.specs.Labels.{count}
+use Rattle.std.specs.Slice.Iter.{chunks_exact_rest, chunks_exact_size}
 use Rattle.formulas.specs.Working.{labels_fit}
 use Rattle.formulas.proofs.check.labels_fit.Given as goal
 
-abbrev pub invariant-loop-rest : goal.invariant-loop-rest
-invariant-loop-rest l = labels_fit (count l.labels) l.f ≡ labels_fit (count l.labels) l.rest
-
-abbrev pub decreases-loop-rest : goal.decreases-loop-rest
-decreases-loop-rest l = length l.rest
+abbrev pub invariant-loop-node : goal.invariant-loop-node
+invariant-loop-node l = record {
+  nodes : chunks_exact_size l.node-iterator ≡ 2;
+  left : labels_fit (count l.labels) l.f ≡ labels_fit (count l.labels) (chunks_exact_rest l.node-iterator);
+}

@@ -1,27 +1,32 @@
--- What was counted and what is in `rest` are all; the measure is the length of `rest`.
+-- The first node is counted or not, and those behind it are left.
 use native.Mathlib.Omega.{arith}
 use mathlib.Core.Path.{sym, ◌∙◌}
-use Rattle.labels.proofs.Slices.{rest_fewer}
-use Rattle.formulas.proofs.ForwardCount.{count-start, count-forward, count_other, count_end}
+use Rattle.formulas.proofs.ForwardCount.{node_forwards, forwards_few}
 use Rattle.formulas.proofs.forwards.count_forwards.Goals as goal
-use Rattle.formulas.proofs.forwards.count_forwards.Goals.{then-is_forward, else-is_forward}
 
-pub loop-rest-init : goal.loop-rest-init
-loop-rest-init c = count-start _
+pub overflow_add-count : goal.overflow_add-count
+overflow_add-count c = let s = c.in-Some.ensures.steps in
+    let first = node_forwards _ _ _ s.1.0 (s.1.1 ∙ c.loop-node.invariant.nodes) in
+    omega (
+      arith,
+      rw (sym c.is_forward.ensures ∙ c.if-is_forward.true) at first,
+      c.loop-node.invariant.counted,
+      forwards_few c.args.f.now,
+      c.well_formed,
+    )
 
-pub loop-rest-smaller : goal.loop-rest-smaller
-loop-rest-smaller c = rest_fewer 2 c.loop-rest.rest.now (omega arith)
-    c.loop-rest-test.true
+pub loop-node-preserved-then-is_forward : goal.loop-node-preserved-then-is_forward
+loop-node-preserved-then-is_forward c = let s = c.in-Some.ensures.steps in
+    let first = node_forwards _ _ _ s.1.0 (s.1.1 ∙ c.loop-node.invariant.nodes) in
+    record {
+      nodes = s.0 ∙ c.loop-node.invariant.nodes;
+      counted = omega (arith, rw (sym c.is_forward.ensures ∙ c.if-is_forward.true) at first, c.loop-node.invariant.counted);
+    }
 
-pub loop-rest-preserved : goal.loop-rest-preserved
-loop-rest-preserved c =
-    let seen = sym c.is_forward.ensures in
-    elim c.if-is_forward.branch [
-      | then-is_forward w ↦ count-forward _ _ _ c.loop-rest.invariant c.loop-rest-test.true
-          (seen ∙ w.if-is_forward.true) _ w.count-is
-      | else-is_forward w ↦ count_other _ _ _ c.loop-rest.invariant c.loop-rest-test.true (seen ∙ w.if-is_forward.false)
-          _ w.count-is
-    ]
-
-pub returns : goal.returns
-returns c = count_end _ _ _ c.loop-rest.invariant c.loop-rest-test.false
+pub loop-node-preserved : goal.loop-node-preserved
+loop-node-preserved c = let s = c.in-Some.ensures.steps in
+    let first = node_forwards _ _ _ s.1.0 (s.1.1 ∙ c.loop-node.invariant.nodes) in
+    record {
+      nodes = s.0 ∙ c.loop-node.invariant.nodes;
+      counted = omega (arith, rw (sym c.is_forward.ensures ∙ c.if-is_forward.false) at first, c.loop-node.invariant.counted);
+    }

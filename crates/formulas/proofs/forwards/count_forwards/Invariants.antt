@@ -1,10 +1,12 @@
--- `Counting`: the forward modalities counted and those in `rest` are all of them; its bytes fall.
-use lib.ListN.{length}
-use Rattle.formulas.proofs.ForwardCount.{Counting}
+-- The forward modalities that are counted and those in the nodes that are left are all of them.
+use Prim.Native.Nat.{◌+◌}
+use mathlib.Core.Path.{◌≡◌}
+use Rattle.std.specs.Slice.Iter.{chunks_exact_rest, chunks_exact_size}
+use Rattle.formulas.specs.Working.{forwards_in}
 use Rattle.formulas.proofs.forwards.count_forwards.Given as goal
 
-abbrev pub invariant-loop-rest : goal.invariant-loop-rest
-invariant-loop-rest l = Counting l.f l.count l.rest
-
-abbrev pub decreases-loop-rest : goal.decreases-loop-rest
-decreases-loop-rest l = length l.rest
+abbrev pub invariant-loop-node : goal.invariant-loop-node
+invariant-loop-node l = record {
+  nodes : chunks_exact_size l.node-iterator ≡ 2;
+  counted : l.count + forwards_in (chunks_exact_rest l.node-iterator) ≡ forwards_in l.f;
+}

@@ -1,29 +1,23 @@
--- The steps before step i match; the measure is the steps of the left half that are left.
-use native.Mathlib.Omega.{arith}
-use mathlib.Core.Path.{sym, ◌∙◌}
-use Rattle.joining.proofs.Joined.{labelled-here, match_begin, match_on, match_stop, match_end}
+-- Each step is looked at: the law of `all`.
+use Rattle.std.proofs.Common.{rules}
+use Rattle.std.proofs.lemmas.Iterator.{cases_from_all, YieldsList-from_range}
+use mathlib.Core.Path.{refl}
+use Rattle.joining.proofs.Joined.{match_uneven, match_searched, found_is}
 use Rattle.joining.proofs.join.halves_match.Goals as goal
+use borrow.Author.Tests.{tests}
+use mathlib.Core.Bool.{true, false}
+use lib.ListN.{length}
+use Prim.Native.Nat.{◌/◌}
+use native.Mathlib.Omega.{arith}
 
-pub loop-i-init : goal.loop-i-init
-loop-i-init c = match_begin _ _ _ c.requires.0 c.requires.1
+pub returns-then-left-right : goal.returns-then-left-right
+returns-then-left-right c = match_uneven _ _ _ c.requires.0 c.requires.1 c.if-left-right.true
 
-pub returns-in-NoMatch : goal.returns-in-NoMatch
-returns-in-NoMatch c = match_stop _ _ _ c.requires.0 c.requires.1 _ (sym c.in-NoMatch.is ∙ c.label_at.ensures)
-
-pub returns-in-Ended : goal.returns-in-Ended
-returns-in-Ended c = match_end _ _ _ c.requires.0 c.requires.1 _ c.loop-i.invariant
-    (sym c.in-Ended.is ∙ c.label_at.ensures)
-
-pub overflow_add-i : goal.overflow_add-i
-overflow_add-i c = omega (
-  arith,
-  (labelled-here _ _ _ _ _ (sym c.in-Label.is ∙ c.label_at.ensures)).left,
-  c.well_formed,
-)
-
-pub loop-i-smaller : goal.loop-i-smaller
-loop-i-smaller c = omega (arith, (labelled-here _ _ _ _ _ (sym c.in-Label.is ∙ c.label_at.ensures)).left)
-
-pub loop-i-preserved : goal.loop-i-preserved
-loop-i-preserved c = match_on _ _ _ c.requires.0 c.requires.1 _ c.loop-i.invariant _
-    (sym c.in-Label.is ∙ c.label_at.ensures)
+pub returns : goal.returns
+returns c = match_searched _ _ _ c.requires.0 c.requires.1 c.if-left-right.false _
+    (cases_from_all _ _ _
+    (found_is c.args.labels c.args.left.now c.args.right.now true)
+    (found_is c.args.labels c.args.left.now c.args.right.now false)
+    c.all.ensures.ran
+    (YieldsList-from_range 0 (length c.args.left.now / 2) (length c.args.left.now / 2) refl (omega arith))
+    (λ x q k. search (rules, tests)) (λ x q k. search (rules, tests)))

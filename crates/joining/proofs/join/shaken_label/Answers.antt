@@ -1,13 +1,12 @@
 -- The partner of the left label beside the right one.
-use mathlib.Core.Path.{sym, ◌∙◌}
-use Rattle.joining.proofs.Joined.{nobody_shakes, partner-shakes, other_shakes}
+use Rattle.labels.specs.Labels.{partner_found}
+use Rattle.joining.proofs.Joined.{shaken-compared}
 use Rattle.joining.proofs.join.shaken_label.Goals as goal
 
-pub returns-then-partner-right : goal.returns-then-partner-right
-returns-then-partner-right c = partner-shakes _ _ _ _ (sym c.in-Label.is ∙ c.partner.ensures) c.if-partner-right.true
+pub returns-then-eq : goal.returns-then-eq
+unfolding partner_found
+returns-then-eq c = shaken-compared _ _ _ c.partner.ensures c.if-eq.ensures
 
-pub returns-else-partner-right : goal.returns-else-partner-right
-returns-else-partner-right c = other_shakes _ _ _ _ (sym c.in-Label.is ∙ c.partner.ensures) c.if-partner-right.false
-
-pub returns-in-Nobody : goal.returns-in-Nobody
-returns-in-Nobody c = nobody_shakes _ _ _ (sym c.in-Nobody.is ∙ c.partner.ensures)
+pub returns : goal.returns
+unfolding partner_found
+returns c = shaken-compared _ _ _ c.partner.ensures c.if-eq.ensures

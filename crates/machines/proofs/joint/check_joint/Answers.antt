@@ -1,36 +1,40 @@
 -- The tables' refusals come first; then the length, then the steps decide.
+use Rattle.std.proofs.Common.{arith}
+use Rattle.std.proofs.lemmas.Grind.{common_steps}
 use mathlib.Core.Path.{sym, ◌∙◌}
-use Rattle.machines.proofs.Joints.{tables-judged, tables_ready, tables_refused, misfit_run, long_run, joint_sound, joint_refused}
+use Rattle.labels.specs.Refusals.{first_of}
+use Rattle.labels.proofs.Refusals.{handed_on}
+use Rattle.tables.proofs.SoundTables.{ready}
+use Rattle.machines.specs.Joints.{check_joint, fit_joint}
+use Rattle.machines.proofs.Joints.{left_refused, right_refused, run_decides}
 use Rattle.machines.proofs.joint.check_joint.Goals as goal
 
-pub returns-in-Refused : goal.returns-in-Refused
-returns-in-Refused c = tables_refused _ _ _ _ _ (tables-judged _ _ _ c.then.ensures c.check_table.ensures
-    c.check_table-2.ensures c.in-Refused.is)
+pub returns-in_err-check_table : goal.returns-in_err-check_table
+returns-in_err-check_table c = handed_on c.from_residual.ensures.1
+    ∙ left_refused _ _ _ _ _ (sym c.check_table.ensures ∙ c.in_err-check_table.was)
+
+pub returns-in_err-check_table-2 : goal.returns-in_err-check_table-2
+returns-in_err-check_table-2 c = handed_on c.from_residual-in_err-check_table-2.ensures.1
+    ∙ right_refused _ _ _ _ (sym c.check_table.ensures ∙ c.in_ok-check_table.was) _
+    (sym c.check_table-2.ensures ∙ c.in_err-check_table-2.was)
 
 pub returns-then-n-ne2 : goal.returns-then-n-ne2
-returns-then-n-ne2 c = misfit_run _ _ _ _ (tables-judged _ _ _ c.then.ensures c.check_table.ensures
-    c.check_table-2.ensures
-    c.in-Sound.is) c.if-n-ne2.true
+unfolding check_joint first_of fit_joint
+returns-then-n-ne2 c = run_decides _ _ _ _ (sym c.check_table.ensures ∙ c.in_ok-check_table.was)
+    (sym c.check_table-2.ensures ∙ c.in_ok-check_table-2.was) (grind (arith, common_steps))
 
-pub returns-then-n-gt602 : goal.returns-then-n-gt602
-returns-then-n-gt602 c = long_run _ _ _ _ (tables-judged _ _ _ c.then.ensures c.check_table.ensures
-    c.check_table-2.ensures
-    c.in-Sound.is) c.if-n-ne2.false c.if-n-gt602.true
-
-pub is_joint_run-requires : goal.is_joint_run-requires
-is_joint_run-requires c = record {
-  ready = tables_ready _ _ _ (tables-judged _ _ _ c.then.ensures c.check_table.ensures c.check_table-2.ensures
-      c.in-Sound.is);
-  run_len = c.if-n-ne2.false;
-}
+pub is_joint_run-requires-clause-ready : goal.is_joint_run-requires-clause-ready
+is_joint_run-requires-clause-ready c = (
+  ready _ _ (sym c.check_table.ensures ∙ c.in_ok-check_table.was),
+  ready _ _ (sym c.check_table-2.ensures ∙ c.in_ok-check_table-2.was),
+)
 
 pub returns-then-is_joint_run : goal.returns-then-is_joint_run
-returns-then-is_joint_run c = joint_sound _ _ _ _ (tables-judged _ _ _ c.then.ensures c.check_table.ensures
-    c.check_table-2.ensures
-    c.in-Sound.is) c.if-n-ne2.false c.if-n-gt602.false
-    (sym c.is_joint_run.ensures ∙ c.if-is_joint_run.true)
+unfolding check_joint first_of fit_joint
+returns-then-is_joint_run c = run_decides _ _ _ _ (sym c.check_table.ensures ∙ c.in_ok-check_table.was)
+    (sym c.check_table-2.ensures ∙ c.in_ok-check_table-2.was) (grind (arith, common_steps))
 
-pub returns : goal.returns
-returns c = joint_refused _ _ _ _ (tables-judged _ _ _ c.then.ensures c.check_table.ensures
-    c.check_table-2.ensures c.in-Sound.is) c.if-n-ne2.false c.if-n-gt602.false
-    (sym c.is_joint_run.ensures ∙ c.if-is_joint_run.false)
+pub returns-else-is_joint_run : goal.returns-else-is_joint_run
+unfolding check_joint first_of fit_joint
+returns-else-is_joint_run c = run_decides _ _ _ _ (sym c.check_table.ensures ∙ c.in_ok-check_table.was)
+    (sym c.check_table-2.ensures ∙ c.in_ok-check_table-2.was) (grind (arith, common_steps))

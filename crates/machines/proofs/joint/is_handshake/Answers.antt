@@ -1,33 +1,28 @@
--- The left rows of the state are tried one after the other; the measure is the bytes that are left.
-use native.Mathlib.Omega.{arith}
-use mathlib.Core.Path.{sym, ◌∙◌}
-use Rattle.labels.proofs.Slices.{rest_fewer}
-use Rattle.tables.proofs.Searching.{search_rows, search_end, search_hit, search_miss, leaving-moves}
-use Rattle.machines.proofs.Joints.{answered, unanswered, no_handshake, search_decides}
+-- The left rows of the state are tried one after the other.
+use Rattle.std.proofs.Common.{rules, get_or, ◌≡◌, ℕ, Bool, List}
+use borrow.Author.Tests.{tests}
+use mathlib.Core.Path.{sym, ◌∙◌, ap}
+use Rattle.std.specs.List.{list_any}
+use Rattle.std.proofs.lemmas.Iterator.{YieldsList-from_slice}
+use Rattle.std.proofs.lemmas.Iterator.Search.{any_from_yields_List}
+use Rattle.labels.specs.Labels.{pairing}
+use Rattle.tables.specs.Working.{moves_in}
+use Rattle.tables.proofs.Searching.{rows_searched}
+use Rattle.machines.specs.Working.{is_answered}
+use Rattle.machines.proofs.Joints.{answered_as}
 use Rattle.machines.proofs.joint.is_handshake.Goals as goal
 
-pub returns-then-not-is_silent : goal.returns-then-not-is_silent
-returns-then-not-is_silent c = no_handshake _ _ _ _ _ _ _ _ (sym c.is_silent.ensures ∙ c.if-not-is_silent.true)
+-- the code's test of a row of the left
+abbrev answers_row : (c : goal.After-any) → List ℕ → Bool
+answers_row c x = is_answered (pairing c.args.labels) (moves_in c.args.right.now) c.args.to.left c.args.to.right
+    (get_or x 1 0, get_or x 2 0)
 
-pub loop-rows-init : goal.loop-rows-init
-loop-rows-init c = search_rows _ _
-
-pub returns-in-Label : goal.returns-in-Label
-returns-in-Label c = search_decides _ _ _ _ _ _ _ _ (sym c.is_silent.ensures ∙ c.if-not-is_silent.false) _ _
-    (leaving-moves _ _ _ (c.rows_leaving-rows.ensures.exact c.requires.0.rising))
-    (leaving-moves _ _ _ (c.rows_leaving-answers.ensures.exact c.requires.1.rising))
-    (search_hit _ _ _ c.loop-rows.invariant c.loop-rows-test.true
-    (answered _ _ _ _ _ _ (sym c.in-Label.is ∙ c.answer_to.ensures)))
-
-pub loop-rows-smaller : goal.loop-rows-smaller
-loop-rows-smaller c = rest_fewer 3 c.loop-rows.rows.now (omega arith) c.loop-rows-test.true
-
-pub loop-rows-preserved : goal.loop-rows-preserved
-loop-rows-preserved c = search_miss _ _ _ c.loop-rows.invariant c.loop-rows-test.true
-    (unanswered _ _ _ _ _ (sym c.in-Nobody.is ∙ c.answer_to.ensures))
+found : (c : goal.After-any) → c.any.result ≡ list_any (answers_row c) c.rows_in.result.now
+found c = any_from_yields_List (answers_row c) _ _ _ c.any.ensures.ran
+    (YieldsList-from_slice c.rows_in.result.now c.iter.ensures.rest) (λ x b q k. search (rules, tests, answered_as))
 
 pub returns : goal.returns
-returns c = search_decides _ _ _ _ _ _ _ _ (sym c.is_silent.ensures ∙ c.if-not-is_silent.false) _ _
-    (leaving-moves _ _ _ (c.rows_leaving-rows.ensures.exact c.requires.0.rising))
-    (leaving-moves _ _ _ (c.rows_leaving-answers.ensures.exact c.requires.1.rising))
-    (search_end _ _ _ c.loop-rows.invariant c.loop-rows-test.false)
+returns c = rw (sym c.is_silent.ensures ∙ c.if-not-is_silent.false)
+    (found c ∙ ap (list_any (answers_row c)) c.rows_in.ensures
+    ∙ rows_searched (is_answered (pairing c.args.labels) (moves_in c.args.right.now) c.args.to.left c.args.to.right)
+    c.args.left.now)

@@ -1,21 +1,20 @@
--- The ways are tried in the document's order, and the first that there is decides.
+-- The four ways are tried in the document's order, by the rows that leave the two states.
+use Rattle.std.proofs.Common.{rules}
 use mathlib.Core.Path.{sym, ◌∙◌}
-use Rattle.machines.proofs.Joints.{by_left, by_right, by_handshake, by_idle}
+use Rattle.labels.specs.Labels.{pairing}
+use Rattle.tables.specs.Tables.{table_of}
+use Rattle.tables.proofs.Searching.{leaving-moves}
+use Rattle.machines.proofs.Joints.{ways_tried}
 use Rattle.machines.proofs.joint.is_real.Goals as goal
 
-pub returns-then-moves_alone : goal.returns-then-moves_alone
-returns-then-moves_alone c = by_left _ _ _ _ _ _ _ _ (sym c.moves_alone.ensures ∙ c.if-moves_alone.true)
-
-pub returns-then-moves_alone-2 : goal.returns-then-moves_alone-2
-returns-then-moves_alone-2 c = by_right _ _ _ _ _ _ _ _ (sym c.moves_alone.ensures ∙ c.if-moves_alone.false)
-    (sym c.moves_alone-2.ensures ∙ c.if-moves_alone-2.true)
-
 pub returns-then-is_handshake : goal.returns-then-is_handshake
-returns-then-is_handshake c = by_handshake _ _ _ _ _ _ _ _ (sym c.moves_alone.ensures ∙ c.if-moves_alone.false)
-    (sym c.moves_alone-2.ensures ∙ c.if-moves_alone-2.false)
-    (sym c.is_handshake.ensures ∙ c.if-is_handshake.true)
+returns-then-is_handshake c = search rules
+    ∙ sym (ways_tried (pairing c.args.labels) (table_of c.args.left.now) (table_of c.args.right.now) _ _ _ _ _ _ _
+    (leaving-moves _ _ _ (c.rows_leaving-left.ensures.exact c.requires.0.rising))
+    (leaving-moves _ _ _ (c.rows_leaving-right.ensures.exact c.requires.1.rising)))
 
-pub returns : goal.returns
-returns c = by_idle _ _ _ _ _ _ _ _ (sym c.moves_alone.ensures ∙ c.if-moves_alone.false)
-    (sym c.moves_alone-2.ensures ∙ c.if-moves_alone-2.false)
-    (sym c.is_handshake.ensures ∙ c.if-is_handshake.false) c.is_joint_idle.ensures
+pub returns-else-is_handshake : goal.returns-else-is_handshake
+returns-else-is_handshake c = search rules
+    ∙ sym (ways_tried (pairing c.args.labels) (table_of c.args.left.now) (table_of c.args.right.now) _ _ _ _ _ _ _
+    (leaving-moves _ _ _ (c.rows_leaving-left.ensures.exact c.requires.0.rising))
+    (leaving-moves _ _ _ (c.rows_leaving-right.ensures.exact c.requires.1.rising)))

@@ -1,20 +1,22 @@
--- The kinds in front of the index are others.
-use mathlib.Core.Path.{refl, sym, ◌∙◌}
-use native.Mathlib.Omega.{arith}
-use Rattle.records.proofs.Records.{kind_here, kind_later, kind_nowhere}
+-- What `any` answers is what the definition says.
+use Prim.Native.Nat.{ℕ}
+use mathlib.Core.Path.{refl, ◌∙◌}
+use mathlib.Core.Bool.{Bool, ◌||◌}
+use lib.Dec.{eqb}
+use borrow.Author.Tests.{tests}
+use Rattle.std.proofs.Common.{rules}
+use Rattle.std.specs.List.{list_any}
+use Rattle.std.proofs.lemmas.Iterator.{YieldsList-from_slice}
+use Rattle.std.proofs.lemmas.Iterator.Search.{any_from_yields_List}
+use Rattle.std.proofs.lemmas.List.Recursion.{same_from_clauses}
+use Rattle.hml.specs.Lists.{any}
+use Rattle.records.specs.Records.{may_stand}
 use Rattle.records.proofs.record.may_stand.Goals as goal
 
-pub loop-i-init : goal.loop-i-init
-loop-i-init c = refl
-
-pub overflow_cast-kinds : goal.overflow_cast-kinds
-overflow_cast-kinds c = omega (arith, c.shared_slice_known-1.given c.loop-i.i)
-
-pub returns-then-kinds-i : goal.returns-then-kinds-i
-returns-then-kinds-i c = sym (kind_here _ _ c.loop-i.i c.loop-i-test.true c.if-kinds-i.true) ∙ c.loop-i.invariant
-
-pub loop-i-preserved : goal.loop-i-preserved
-loop-i-preserved c = sym (kind_later _ _ c.loop-i.i c.loop-i-test.true c.if-kinds-i.false) ∙ c.loop-i.invariant
-
 pub returns : goal.returns
-returns c = sym (kind_nowhere _ _ c.loop-i.i c.loop-i-test.false) ∙ c.loop-i.invariant
+unfolding may_stand
+returns c = let same = λ (k : ℕ). eqb k c.args.kind in
+    any_from_yields_List same _ _ c.any.result c.any.ensures.ran (YieldsList-from_slice c.args.kinds.now cc)
+    (λ x b q k. search (rules, tests))
+    ∙ same_from_clauses (list_any same) (any same) (λ (k : ℕ) (b : Bool). same k || b) refl (λ _ _. refl) (λ _ _. refl)
+    c.args.kinds.now

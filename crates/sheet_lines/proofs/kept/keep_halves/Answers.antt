@@ -7,20 +7,20 @@ pub returns-then-ways-lt64 : goal.returns-then-ways-lt64
 returns-then-ways-lt64 c = halved_none _ _ c.requires.1
 
 pub middle-mid-requires : goal.middle-mid-requires
-middle-mid-requires c = (parts_fit _ c.requires.0 _ c.steps_of-steps.ensures 0 (omega arith)).1
+middle-mid-requires c = (parts_fit _ c.requires.0 _ c.steps-steps.ensures 0 (omega arith)).1
 
-pub part_of-older-requires : goal.part_of-older-requires
-part_of-older-requires c = (
+pub part-older-requires : goal.part-older-requires
+part-older-requires c = (
   omega arith,
-  (parts_fit _ c.requires.0 _ c.steps_of-steps.ensures _
+  (parts_fit _ c.requires.0 _ c.steps-steps.ensures _
       c.middle-mid.ensures.within).0,
 )
 
-pub part_of-newer-requires : goal.part_of-newer-requires
-part_of-newer-requires c = (
+pub part-newer-requires : goal.part-newer-requires
+part-newer-requires c = (
   c.middle-mid.ensures.within,
   (parts_fit _ c.requires.0 _
-      c.steps_of-steps.ensures _ c.middle-mid.ensures.within).1,
+      c.steps-steps.ensures _ c.middle-mid.ensures.within).1,
 )
 
 pub returns-then-older_ways-gt256 : goal.returns-then-older_ways-gt256
@@ -31,28 +31,28 @@ returns-then-newer_ways-gt256 c = halved_none _ _ c.requires.1
 
 pub list_halves-requires : goal.list_halves-requires
 list_halves-requires c = let x = older_ready _ c.requires.0 _
-    c.steps_of-steps.ensures _
+    c.steps-steps.ensures _
     c.middle-mid.ensures.within _
-    c.part_of-older.ensures _
-    c.splittings_of-older_ways.ensures in
+    c.part-older.ensures _
+    c.splittings-older_ways.ensures in
     record {
       splits = x;
       n_bound = (omega arith, omega arith, c.requires.1);
     }
 
 pub list_halves-requires-2 : goal.list_halves-requires-2
-list_halves-requires-2 c = let x = newer_ready _ c.requires.0 _ c.steps_of-steps.ensures _
-    c.middle-mid.ensures.within _ c.part_of-older.ensures _
-    c.splittings_of-older_ways.ensures _ c.part_of-newer.ensures _ c.splittings_of-newer_ways.ensures in
+list_halves-requires-2 c = let x = newer_ready _ c.requires.0 _ c.steps-steps.ensures _
+    c.middle-mid.ensures.within _ c.part-older.ensures _
+    c.splittings-older_ways.ensures _ c.part-newer.ensures _ c.splittings-newer_ways.ensures in
     record {
       splits = x;
       n_bound = (omega arith, omega arith, omega (arith, c.list_halves.auto, c.requires.1));
     }
 
 pub returns : goal.returns
-returns c = halved-kept _ c.requires.0 _ c.steps_of-steps.ensures _
-    c.middle-mid.ensures.within _ c.part_of-older.ensures _
-    c.splittings_of-older_ways.ensures _ c.part_of-newer.ensures _ c.splittings_of-newer_ways.ensures
+returns c = halved-kept _ c.requires.0 _ c.steps-steps.ensures _
+    c.middle-mid.ensures.within _ c.part-older.ensures _
+    c.splittings-older_ways.ensures _ c.part-newer.ensures _ c.splittings-newer_ways.ensures
     _ _ (omega (arith, c.if-older_ways-gt256.false))
     (omega (arith, c.if-newer_ways-gt256.false))
     c.list_halves.ensures.halves_at c.list_halves-2.ensures.halves_at

@@ -1,24 +1,12 @@
 -- A loop over the splittings; the halves of the first i stand in the table.
-use mathlib.Core.Path.{refl, sym, ◌∙◌}
+use mathlib.Core.Path.{refl, ◌∙◌}
 use native.Mathlib.Omega.{arith}
 use Rattle.sheet_lines.proofs.Puts.{put-kept}
-use Rattle.sheet_lines.proofs.KeptTable.{listed-none, listed_more, listed-all, front_kept}
+use Rattle.sheet_lines.proofs.KeptTable.{listed-none, listed_more, front_kept}
 use Rattle.sheet_lines.proofs.kept.list_halves.Goals as goal
 
 pub loop-i-init : goal.loop-i-init
 loop-i-init c = (listed-none _ c.requires.splits.0.log _ _, refl, c.requires.n_bound.2, omega arith)
-
-pub overflow_add-first : goal.overflow_add-first
-overflow_add-first c = omega (arith, c.requires.n_bound)
-
-pub list_half-requires : goal.list_half-requires
-list_half-requires c = record {
-  splits = (c.requires.splits.0, omega (arith, c.requires.splits.1));
-  place_bound = (omega (arith, c.requires.n_bound), c.loop-i.invariant.2);
-}
-
-pub overflow_add-i : goal.overflow_add-i
-overflow_add-i c = omega (arith, c.requires.n_bound)
 
 pub loop-i-preserved : goal.loop-i-preserved
 loop-i-preserved c = (
@@ -29,13 +17,3 @@ loop-i-preserved c = (
   put-kept _ _ _ _ c.list_half.ensures ∙ c.loop-i.invariant.2,
   omega arith,
 )
-
-pub shape_of-halves : goal.shape_of-halves
-shape_of-halves c = c.loop-i.invariant.2 ∙ sym c.requires.n_bound.2
-
-pub returns : goal.returns
-returns c = record {
-  halves_at = listed-all _ c.requires.splits.0.log _ _ c.loop-i.i _ (omega arith)
-      c.loop-i.invariant.0;
-  halves_unchanged = c.loop-i.invariant.1;
-}

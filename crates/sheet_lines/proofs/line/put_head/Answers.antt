@@ -50,11 +50,6 @@ overflow_add-result c = let placed = head_second _ _ _ _ _ _ _ c.requires c.put_
     c.put_decimal-second.ensures.out_after in
     omega (arith, c.well_formed, c.requires, placed)
 
-pub shape_of-out : goal.shape_of-out
-shape_of-out c = simp length-set (head_second _ _ _ _ _ _ _ c.requires c.put_decimal-first.ensures.value
-    c.put_decimal-first.ensures.out_after _ _
-    c.put_decimal-second.ensures.value c.put_decimal-second.ensures.out_after).1
-
 pub returns : goal.returns
 returns c = record {
   value = (head_second _ _ _ _ _ _ _ c.requires c.put_decimal-first.ensures.value c.put_decimal-first.ensures.out_after

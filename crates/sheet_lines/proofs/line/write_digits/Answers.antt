@@ -9,9 +9,6 @@ use Rattle.sheet_lines.proofs.line.write_digits.Goals as goal
 pub returns-then-out-line : goal.returns-then-out-line
 returns-then-out-line c = digits_none _ _ _ _ _ _ (tens_few _ _ c.requires.0).0 c.requires.3 c.if-out-line.true
 
-pub overflow_sub-last : goal.overflow_sub-last
-overflow_sub-last c = omega (arith, c.if-out-line.false)
-
 pub overflow_sub-end : goal.overflow_sub-end
 overflow_sub-end c = omega (arith, (tens_few _ _ c.requires.0).0)
 
@@ -26,48 +23,10 @@ loop-digit-init c = let few = tens_few _ _ c.requires.0 in
     let z : c.args.number + (48 + c.args.number % 10 - (48 + c.args.number % 10)) ≡ c.args.number = omega arith in
     (rw z (filled_none _ _ _ _ _ few.0 c.requires.3), omega arith, omega arith)
 
-pub overflow_sub-result : goal.overflow_sub-result
-overflow_sub-result c = omega (arith, c.loop-digit.invariant.1)
-
-pub overflow_add-result : goal.overflow_add-result
-overflow_add-result c = omega (arith, c.requires.1, c.loop-digit.invariant)
-
-pub shape_of-out-then-last-to : goal.shape_of-out-then-last-to
-shape_of-out-then-last-to c = kept _ _ _ _ _ _ _ _ c.loop-digit.invariant.0
-
 pub returns-then-last-to : goal.returns-then-last-to
 returns-then-last-to c = digits_stop _ _ _ _ _ _ _ _ _ c.loop-digit.digit c.loop-digit.invariant.0
     (omega (arith, c.loop-digit.invariant.1, c.loop-digit-test.true)) (omega (arith, c.loop-digit.invariant.1))
     (omega (arith, c.if-last-to.true, c.if-out-line.false, kept _ _ _ _ _ _ _ _ c.loop-digit.invariant.0))
-
-pub put_line-requires : goal.put_line-requires
-put_line-requires c = (
-  omega (
-    arith,
-    kept _ _ _ _ _ _ _ _ c.loop-digit.invariant.0,
-    c.if-last-to.false,
-    c.if-out-line.false,
-  ),
-  c.requires.2,
-)
-
-pub overflow_add-to : goal.overflow_add-to
-overflow_add-to c = omega (
-  arith,
-  kept _ _ _ _ _ _ _ _ c.loop-digit.invariant.0,
-  c.if-last-to.false,
-  c.if-out-line.false,
-)
-
-pub overflow_add-digit : goal.overflow_add-digit
-overflow_add-digit c = omega (
-  arith,
-  c.loop-digit-test.true,
-  tens_few _ _ c.requires.0,
-)
-
-pub loop-digit-smaller : goal.loop-digit-smaller
-loop-digit-smaller c = omega (arith, c.loop-digit-test.true)
 
 pub loop-digit-preserved : goal.loop-digit-preserved
 loop-digit-preserved c = let z : c.args.number + (c.loop-digit.digit - (48 + c.args.number % 10)) + 1 ≡ c.args.number +
@@ -79,9 +38,6 @@ loop-digit-preserved c = let z : c.args.number + (c.loop-digit.digit - (48 + c.a
       omega (arith, c.loop-digit.invariant.1),
       omega (arith, c.loop-digit-test.true),
     )
-
-pub shape_of-out : goal.shape_of-out
-shape_of-out c = kept _ _ _ _ _ _ _ _ c.loop-digit.invariant.0
 
 pub returns : goal.returns
 returns c = let few = tens_few _ _ c.requires.0 in

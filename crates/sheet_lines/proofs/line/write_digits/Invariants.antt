@@ -8,6 +8,3 @@ abbrev pub invariant-loop-digit : goal.invariant-loop-digit
 invariant-loop-digit l = Filled (digit_line l.line l.place l.number) l.initial.out l.at l.number l.until l.out l.to
     (l.number + (l.digit - (48 + l.number % 10)))
     × (48 + l.number % 10 ≤ l.digit) × (l.digit ≤ 48 + l.number % 10 + (l.until - l.number))
-
-abbrev pub decreases-loop-digit : goal.decreases-loop-digit
-decreases-loop-digit l = 48 + l.number % 10 + (l.until - l.number) - l.digit

@@ -10,9 +10,6 @@ head_length-head-requires c = (
   omega (arith, c.requires.number_bound.1, (tens_few _ _ c.requires.tens.0).0),
 )
 
-pub put_head-requires : goal.put_head-requires
-put_head-requires c = omega (arith, c.head_length-head.ensures.value, c.head_length-head.ensures.few, c.requires.tens.1)
-
 pub overflow_sub-head : goal.overflow_sub-head
 overflow_sub-head c = omega (
   arith,

@@ -6,4 +6,4 @@ pub returns-then-ways-eq1 : goal.returns-then-ways-eq1
 returns-then-ways-eq1 c = after_one _ _ c.if-ways-eq1.true
 
 pub returns : goal.returns
-returns c = after_more _ _ _ c.if-ways-eq1.false c.splittings_of.ensures
+returns c = after_more _ _ _ c.if-ways-eq1.false c.splittings.ensures

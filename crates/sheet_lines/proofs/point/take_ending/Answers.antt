@@ -3,7 +3,7 @@ use mathlib.Core.Path.{◌∙◌, ap}
 use native.Mathlib.Omega.{arith}
 use lib.ListN.{length}
 use Rattle.labels.proofs.Slices.{rest_length}
-use Rattle.casebook.specs.Reading.{case_of}
+use Rattle.sheet_lines.specs.Working.{shown}
 use Rattle.sheet_lines.specs.Working.{ending_in}
 use Rattle.sheet_lines.proofs.EndingLaws.{ending_short}
 use Rattle.sheet_lines.proofs.PointTurns.{standing_within, standing_bytes, copied_ending, made_ending}
@@ -31,15 +31,15 @@ slice_bounds-copy-end c = omega (
 
 pub returns-then-end-ne0 : goal.returns-then-end-ne0
 returns-then-end-ne0 c = let b = (standing_bytes
-    (ending_in (case_of c.args.casebook.now c.args.window) c.args.point.letter) _ _
+    (ending_in (shown c.args.window) c.args.point.letter) _ _
     _ _ _ _ c.requires.endings_known c.requires.t_lt_ways.0 c.if-end-ne0.true) in
     let z = (copied_count _ _ _ (omega (
       arith,
       ap length
-          (standing_bytes (ending_in (case_of c.args.casebook.now c.args.window) c.args.point.letter) _ _ _
+          (standing_bytes (ending_in (shown c.args.window) c.args.point.letter) _ _ _
           _ _ _
           c.requires.endings_known c.requires.t_lt_ways.0 c.if-end-ne0.true),
-      (ending_short (case_of c.args.casebook.now c.args.window) c.args.point.letter c.args.t),
+      (ending_short (shown c.args.window) c.args.point.letter c.args.t),
       rest_length 12 c.args.line.now,
       c.requires.scratch.line_size,
     )) c.copy.ensures.count) ∙ ap length b in
@@ -48,26 +48,26 @@ returns-then-end-ne0 c = let b = (standing_bytes
       line_after = copied_ending c.args.line.now _ _ _ (copied_count _ _ _ (omega (
         arith,
         ap length
-            (standing_bytes (ending_in (case_of c.args.casebook.now c.args.window) c.args.point.letter) _ _ _
+            (standing_bytes (ending_in (shown c.args.window) c.args.point.letter) _ _ _
             _ _ _
             c.requires.endings_known c.requires.t_lt_ways.0 c.if-end-ne0.true),
-        (ending_short (case_of c.args.casebook.now c.args.window) c.args.point.letter c.args.t),
+        (ending_short (shown c.args.window) c.args.point.letter c.args.t),
         rest_length 12 c.args.line.now,
         c.requires.scratch.line_size,
       )) c.copy.ensures.count)
           (omega (
             arith,
             ap length b,
-            (ending_short (case_of c.args.casebook.now c.args.window)
+            (ending_short (shown c.args.window)
                 c.args.point.letter c.args.t),
             c.requires.scratch.line_size,
           )) (copied_whole _ _ _ _ (omega (
             arith,
             ap length
-                (standing_bytes (ending_in (case_of c.args.casebook.now c.args.window) c.args.point.letter) _ _ _
+                (standing_bytes (ending_in (shown c.args.window) c.args.point.letter) _ _ _
                 _ _ _
                 c.requires.endings_known c.requires.t_lt_ways.0 c.if-end-ne0.true),
-            (ending_short (case_of c.args.casebook.now c.args.window) c.args.point.letter c.args.t),
+            (ending_short (shown c.args.window) c.args.point.letter c.args.t),
             rest_length 12 c.args.line.now,
             c.requires.scratch.line_size,
           )) c.copy.ensures.count c.copy.ensures.copied)
@@ -75,7 +75,7 @@ returns-then-end-ne0 c = let b = (standing_bytes
       upper_bound = omega (
         arith,
         z,
-        (ending_short (case_of c.args.casebook.now c.args.window) c.args.point.letter
+        (ending_short (shown c.args.window) c.args.point.letter
             c.args.t),
       );
     }

@@ -2,7 +2,7 @@
 use mathlib.Core.Path.{refl, sym, ◌∙◌}
 use native.Mathlib.Omega.{arith}
 use native.Mathlib.Nat.{mod-lt}
-use Rattle.casebook.specs.Reading.{case_of}
+use Rattle.sheet_lines.specs.Working.{shown}
 use Rattle.sheet_lines.proofs.Filling.{kept, filled_none, filled_end}
 use Rattle.sheet_lines.proofs.PointTurns.{ending-within, turn_known, turn_done, turn_full, scratch_kept}
 use Rattle.sheet_lines.proofs.point.write_numbers.Goals as goal
@@ -51,10 +51,10 @@ write_turn-done-requires c = record {
     c.requires.number_bound.0,
     omega (
       arith,
-      c.smaller-end.ensures,
+      c.min-end.ensures,
       c.loop-n-test.true,
     ),
-    omega (arith, c.smaller-end.ensures, c.requires.number_bound.2),
+    omega (arith, c.min-end.ensures, c.requires.number_bound.2),
     omega
         (arith, c.loop-n.invariant.0.room, kept _ _ _ _ _ _ _ _ c.loop-n.invariant.0),
   );
@@ -64,12 +64,12 @@ write_turn-done-requires c = record {
 
 pub remember-requires : goal.remember-requires
 remember-requires c = (
-  ending-within (case_of c.args.casebook.now c.args.window) c.args.point _ _ _ _ _ _ _ _ _ _ _ _
+  ending-within (shown c.args.window) c.args.point _ _ _ _ _ _ _ _ _ _ _ _
       c.take_ending-len.ensures.line_after c.loop-n.invariant.1
       (omega (arith, c.loop-n.invariant.0.room, kept _ _ _ _ _ _ _ _ c.loop-n.invariant.0))
       (omega (
         arith,
-        c.smaller-end.ensures,
+        c.min-end.ensures,
         c.loop-n-test.true,
       ))
       c.write_turn-done.ensures _ c.take_ending-len.ensures.value,
@@ -92,15 +92,15 @@ shape_of-line-then-n-end c = c.write_turn-done.auto.line ∙ c.take_ending-len.a
 
 pub returns-then-n-end : goal.returns-then-n-end
 returns-then-n-end c = record {
-  full = turn_full (case_of c.args.casebook.now c.args.window) c.args.point _ _ _ _ _ _ _ _ _ _ _ _
+  full = turn_full (shown c.args.window) c.args.point _ _ _ _ _ _ _ _ _ _ _ _
       c.take_ending-len.ensures.line_after c.loop-n.invariant.1
       (omega (arith, c.loop-n.invariant.0.room, kept _ _ _ _ _ _ _ _ c.loop-n.invariant.0))
       (omega (
         arith,
-        c.smaller-end.ensures,
+        c.min-end.ensures,
         c.loop-n-test.true,
       )) c.write_turn-done.ensures _
-      _ _ _ c.loop-n.invariant.0 (omega (arith, c.smaller-end.ensures)) (omega (arith, c.smaller-end.ensures))
+      _ _ _ c.loop-n.invariant.0 (omega (arith, c.min-end.ensures)) (omega (arith, c.min-end.ensures))
       c.requires.after_nonzero.0
       refl
       (omega (arith, c.if-n-end.true));
@@ -113,7 +113,7 @@ returns-then-n-end c = record {
 pub loop-n-smaller : goal.loop-n-smaller
 loop-n-smaller c = omega (
   arith,
-  c.smaller-end.ensures,
+  c.min-end.ensures,
   c.if-n-end.false,
   mod-lt
       c.loop-n.n {m = c.args.point.after}
@@ -122,16 +122,16 @@ loop-n-smaller c = omega (
 
 pub loop-n-preserved : goal.loop-n-preserved
 loop-n-preserved c = (
-  turn_done (case_of c.args.casebook.now c.args.window) c.args.point _ _ _ _ _ _ _ _ _ _ _ _
+  turn_done (shown c.args.window) c.args.point _ _ _ _ _ _ _ _ _ _ _ _
       c.take_ending-len.ensures.line_after c.loop-n.invariant.1
       (omega (arith, c.loop-n.invariant.0.room, kept _ _ _ _ _ _ _ _ c.loop-n.invariant.0))
-      (omega (arith, c.smaller-end.ensures, c.loop-n-test.true)) c.write_turn-done.ensures _ _ _ _ c.loop-n.invariant.0
-      (omega (arith, c.smaller-end.ensures)) (omega (arith, c.smaller-end.ensures)) c.requires.after_nonzero.0 refl
+      (omega (arith, c.min-end.ensures, c.loop-n-test.true)) c.write_turn-done.ensures _ _ _ _ c.loop-n.invariant.0
+      (omega (arith, c.min-end.ensures)) (omega (arith, c.min-end.ensures)) c.requires.after_nonzero.0 refl
       (omega (arith, c.if-n-end.false)),
-  turn_known (case_of c.args.casebook.now c.args.window) c.args.point _ _ _ _ _ _ _ _ _ _ _ _
+  turn_known (shown c.args.window) c.args.point _ _ _ _ _ _ _ _ _ _ _ _
       c.take_ending-len.ensures.line_after c.loop-n.invariant.1
       (omega (arith, c.loop-n.invariant.0.room, kept _ _ _ _ _ _ _ _ c.loop-n.invariant.0))
-      (omega (arith, c.smaller-end.ensures, c.loop-n-test.true)) c.write_turn-done.ensures _
+      (omega (arith, c.min-end.ensures, c.loop-n-test.true)) c.write_turn-done.ensures _
       c.take_ending-len.ensures.value
       c.loop-n.invariant.2.froms_size c.loop-n.invariant.2.ends_size _ _ c.remember.ensures.froms_after
       c.remember.ensures.ends_after,

@@ -6,23 +6,23 @@ use Rattle.sheet_lines.proofs.PointLines.{point_bytes, window_splits, point_numb
 use Rattle.sheet_lines.proofs.PointLines.{numbers_few}
 use Rattle.sheet_lines.proofs.point.write_point.Goals as goal
 
-pub part_of-window-requires : goal.part_of-window-requires
-part_of-window-requires c = (
+pub part-window-requires : goal.part-window-requires
+part-window-requires c = (
   omega (arith, c.window_start-first.ensures),
   (point_bytes _ c.requires.asked _ c.requires.back_value.1).0,
 )
 
-pub part_of-rest-requires : goal.part_of-rest-requires
-part_of-rest-requires c = let fits = point_bytes _ c.requires.asked _ c.requires.back_value.1 in
-    (omega (arith, fits, c.steps_of.ensures), omega (arith, fits, c.steps_of.ensures))
+pub part-rest-requires : goal.part-rest-requires
+part-rest-requires c = let fits = point_bytes _ c.requires.asked _ c.requires.back_value.1 in
+    (omega (arith, fits, c.steps.ensures), omega (arith, fits, c.steps.ensures))
 
 pub keep_halves-kept-requires : goal.keep_halves-kept-requires
 keep_halves-kept-requires c = (
   window_splits _ c.requires.asked _ c.requires.back_value.1 c.requires.number_le_until.2 _ c.requires.back_value.0 _ _
       c.window_start-first.ensures
-      c.steps_of.ensures _ _
-      c.part_of-window.ensures
-      c.part_of-rest.ensures,
+      c.steps.ensures _ _
+      c.part-window.ensures
+      c.part-rest.ensures,
   c.requires.at_in_bounds.1,
 )
 
@@ -38,18 +38,18 @@ write_numbers-requires c = let few : c.args.point < 1000 = omega
       after_nonzero = point_numbers _ c.requires.asked _ c.requires.back_value.1 c.requires.number_le_until.2 _
           c.requires.back_value.0 _ _
           c.window_start-first.ensures
-          c.steps_of.ensures _ _
-          c.part_of-window.ensures
-          c.part_of-rest.ensures
-          _ _ _ c.letter_at-letter.ensures c.splittings_of-ways.ensures
+          c.steps.ensures _ _
+          c.part-window.ensures
+          c.part-rest.ensures
+          _ _ _ c.letter_at-letter.ensures c.splittings-ways.ensures
           c.splittings_after-after.ensures;
       shared = point_shared _ c.requires.asked _ c.requires.back_value.1 c.requires.number_le_until.2 _
           c.requires.back_value.0 _ _
           c.window_start-first.ensures
-          c.steps_of.ensures _ _
-          c.part_of-window.ensures
-          c.part_of-rest.ensures _ _ _ c.letter_at-letter.ensures
-          c.splittings_of-ways.ensures c.splittings_after-after.ensures _ _
+          c.steps.ensures _ _
+          c.part-window.ensures
+          c.part-rest.ensures _ _ _ c.letter_at-letter.ensures
+          c.splittings-ways.ensures c.splittings_after-after.ensures _ _
           c.keep_halves-kept.ensures;
       scratch = record {
         froms_size = c.requires.at_in_bounds.2.froms_size;
@@ -64,9 +64,9 @@ pub returns : goal.returns
 returns c = let lines = point_lines _ c.requires.asked _ c.requires.back_value.1 c.requires.number_le_until.2 _
     c.requires.back_value.0 _ _
     c.window_start-first.ensures
-    c.steps_of.ensures _ _
-    c.part_of-window.ensures c.part_of-rest.ensures _ _
-    _ c.letter_at-letter.ensures c.splittings_of-ways.ensures c.splittings_after-after.ensures
+    c.steps.ensures _ _
+    c.part-window.ensures c.part-rest.ensures _ _
+    _ c.letter_at-letter.ensures c.splittings-ways.ensures c.splittings_after-after.ensures
     c.keep_halves-kept.result c.args.number (c.args.until - c.args.number)
     (omega (arith, c.requires.number_le_until)) in
     record {

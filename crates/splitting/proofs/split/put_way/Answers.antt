@@ -1,5 +1,4 @@
 -- The rows that leave the step's states are found once; the way is chosen among theirs.
-use native.Mathlib.Omega.{arith}
 use Rattle.splitting.proofs.Counts.{ways-options}
 use Rattle.splitting.proofs.Unrolling.{ways-some, number_before, left-put, right-put}
 use Rattle.splitting.proofs.split.put_way.Goals as goal
@@ -9,12 +8,6 @@ nonzero_rem-n c = let e = ways-options _ _ _ c.requires.tables _ _ _
     (c.rows_leaving-left_rows.ensures.exact c.requires.tables.left.rising)
     (c.rows_leaving-right_rows.ensures.exact c.requires.tables.right.rising) in
     ways-some _ _ _ _ 0 _ e _ c.count_ways-ways.ensures c.requires.nonzero
-
-pub put_step-requires : goal.put_step-requires
-put_step-requires c = omega (arith, c.requires.i_in_bounds.0)
-
-pub put_step-requires-2 : goal.put_step-requires-2
-put_step-requires-2 c = omega (arith, c.requires.i_in_bounds.1)
 
 pub nonzero_div-result : goal.nonzero_div-result
 nonzero_div-result c = let e = ways-options _ _ _ c.requires.tables _ _ _

@@ -13,30 +13,30 @@ returns-then-i-eq0 c = first-judged _ _ _ _
     (seen_range _ _ c.row_of-row.ensures c.row_of-row.ensures _ _ c.in_range.ensures
     c.if-not-in_range.false) c.if-i-eq0.true
 
-pub returns-then-not-is_below : goal.returns-then-not-is_below
-returns-then-not-is_below c = low_judged _ _ _ _
+pub returns-then-le : goal.returns-then-le
+returns-then-le c = low_judged _ _ _ _
     (seen_range _ _ c.row_of-row.ensures c.row_of-row.ensures _ _ c.in_range.ensures c.if-not-in_range.false)
     c.if-i-eq0.false
-    (seen_below _ _ c.row_of-last.ensures c.row_of-row.ensures c.is_below.ensures c.if-not-is_below.true)
+    (seen_below _ _ c.row_of-last.ensures c.row_of-row.ensures c.le.ensures c.if-le.true)
 
 pub returns-then-last-row : goal.returns-then-last-row
 returns-then-last-row c = new_judged _ _ _ _
     (seen_range _ _ c.row_of-row.ensures c.row_of-row.ensures _ _ c.in_range.ensures
     c.if-not-in_range.false) c.if-i-eq0.false
-    (seen_below _ _ c.row_of-last.ensures c.row_of-row.ensures c.is_below.ensures
-    c.if-not-is_below.false) _ c.requires.1
+    (seen_below _ _ c.row_of-last.ensures c.row_of-row.ensures c.le.ensures
+    c.if-le.false) _ c.requires.1
     (unseen_from _ _ c.row_of-last.ensures c.row_of-row.ensures c.if-last-row.true)
 
 pub returns-then-earlier-ge8 : goal.returns-then-earlier-ge8
 returns-then-earlier-ge8 c = ninth-judged _ _ _ _ (seen_range _ _ c.row_of-row.ensures c.row_of-row.ensures _ _
     c.in_range.ensures c.if-not-in_range.false)
     c.if-i-eq0.false
-    (seen_below _ _ c.row_of-last.ensures c.row_of-row.ensures c.is_below.ensures c.if-not-is_below.false) _
+    (seen_below _ _ c.row_of-last.ensures c.row_of-row.ensures c.le.ensures c.if-le.false) _
     c.requires.1 (seen_from _ _ c.row_of-last.ensures c.row_of-row.ensures c.if-last-row.false) c.if-earlier-ge8.true
 
 pub returns : goal.returns
 returns c = more-judged _ _ _ _ (seen_range _ _ c.row_of-row.ensures c.row_of-row.ensures _ _ c.in_range.ensures
     c.if-not-in_range.false)
     c.if-i-eq0.false
-    (seen_below _ _ c.row_of-last.ensures c.row_of-row.ensures c.is_below.ensures c.if-not-is_below.false) _
+    (seen_below _ _ c.row_of-last.ensures c.row_of-row.ensures c.le.ensures c.if-le.false) _
     c.requires.1 (seen_from _ _ c.row_of-last.ensures c.row_of-row.ensures c.if-last-row.false) c.if-earlier-ge8.false

@@ -1,27 +1,22 @@
--- The rows are tried one after the other; the measure is the bytes that are left.
-use native.Mathlib.Omega.{arith}
-use mathlib.Core.Path.{sym, ◌∙◌}
-use Rattle.labels.proofs.Slices.{rest_fewer}
+-- The rows are tried one after the other, each by its label and target.
+use Rattle.std.proofs.Common.{rules, eqb, get_or, ◌≡◌, ◌&&◌}
+use Rattle.std.specs.List.{list_any}
+use Rattle.std.proofs.lemmas.Iterator.Search.{any_from_yields_List}
+use Rattle.std.proofs.lemmas.Iterator.{YieldsList-from_slice}
+use borrow.Author.Tests.{tests}
 use Rattle.tables.specs.Tables.{among}
-use Rattle.tables.proofs.Searching.{search_rows, search_end, search_hit, search_miss}
+use Rattle.tables.proofs.Searching.{rows_searched}
+use mathlib.Core.Path.{◌∙◌}
 use Rattle.tables.proofs.leaving.leads_to.Goals as goal
 
-pub loop-rest-init : goal.loop-rest-init
-loop-rest-init c = search_rows _ _
-
-pub returns-then-leads : goal.returns-then-leads
-unfolding among
-returns-then-leads c = search_hit _ _ _ c.loop-rest.invariant c.loop-rest-test.true
-    (sym c.leads.ensures ∙ c.if-leads.true)
-
-pub loop-rest-smaller : goal.loop-rest-smaller
-loop-rest-smaller c = rest_fewer 3 c.loop-rest.rest.now (omega arith)
-    c.loop-rest-test.true
-
-pub loop-rest-preserved : goal.loop-rest-preserved
-loop-rest-preserved c = search_miss _ _ _ c.loop-rest.invariant c.loop-rest-test.true
-    (sym c.leads.ensures ∙ c.if-leads.false)
+found : (c : goal.After-any)
+    → c.any.result
+    ≡ list_any (λ x. eqb (get_or x 1 0) c.args.label.0 && eqb (get_or x 2 0) c.args.to) c.rows_in.result.now
+found c = any_from_yields_List (λ x. eqb (get_or x 1 0) c.args.label.0 && eqb (get_or x 2 0) c.args.to) _ _ _
+    c.any.ensures.ran (YieldsList-from_slice c.rows_in.result.now c.iter.ensures.rest)
+    (λ x b q k. search (rules, tests))
 
 pub returns : goal.returns
 unfolding among
-returns c = search_end _ _ _ c.loop-rest.invariant c.loop-rest-test.false
+returns c = found c ∙ rw c.rows_in.ensures
+    (rows_searched (λ m. eqb m.0 c.args.label.0 && eqb m.1 c.args.to) c.args.rows.now)

@@ -5,8 +5,8 @@ use Rattle.verdict.proofs.back.goes_on.Goals as goal
 
 pub returns-then-is_connective : goal.returns-then-is_connective
 unfolding goes_on
-returns-then-is_connective c = rw (sym c.is_connective.ensures ∙ c.if-is_connective.true)
+returns-then-is_connective c = rw (sym c.is_connective.ensures ∙ c.if-is_connective.true) c.if-is_connective.true
 
-pub returns : goal.returns
+pub returns-else-is_connective : goal.returns-else-is_connective
 unfolding goes_on
-returns c = rw (sym c.is_connective.ensures ∙ c.if-is_connective.false) c.is_back.ensures
+returns-else-is_connective c = rw (sym c.is_connective.ensures ∙ c.if-is_connective.false) c.is_back.ensures

@@ -1,10 +1,6 @@
--- The first i steps stand in the wider run (`Widening`); the steps left fall.
-use Prim.Native.Nat.{◌-◌}
+-- The first i steps stand in the wider run (`Widening`).
 use Rattle.verdict.proofs.Widening.{Widening}
 use Rattle.verdict.proofs.beside.beside_still.Given as goal
 
 abbrev pub invariant-loop-i : goal.invariant-loop-i
 invariant-loop-i l = Widening l.half l.steps l.initial.run l.run l.i
-
-abbrev pub decreases-loop-i : goal.decreases-loop-i
-decreases-loop-i l = l.steps - l.i

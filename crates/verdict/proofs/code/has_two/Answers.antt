@@ -7,6 +7,6 @@ pub returns-then-operator-eq3 : goal.returns-then-operator-eq3
 unfolding has_two
 returns-then-operator-eq3 c = rw (eq-eqb _ _ c.if-operator-eq3.true)
 
-pub returns : goal.returns
+pub returns-else-operator-eq3 : goal.returns-else-operator-eq3
 unfolding has_two
-returns c = rw (ne_eqb _ _ c.if-operator-eq3.false)
+returns-else-operator-eq3 c = rw (ne_eqb _ _ c.if-operator-eq3.false)

@@ -1,5 +1,4 @@
 -- Each return is the size by what is known of the operator.
-use native.Mathlib.Omega.{arith}
 use mathlib.Core.Path.{sym, ◌∙◌}
 use borrow.Author.Tests.{le-leb, lt-leb}
 use Rattle.verdict.specs.Working.{size_by}
@@ -8,10 +7,6 @@ use Rattle.verdict.proofs.code.size.Goals as goal
 pub returns-then-operator-le1 : goal.returns-then-operator-le1
 unfolding size_by
 returns-then-operator-le1 c = rw (le-leb _ _ c.if-operator-le1.true)
-
-pub overflow_add-result-then-has_two : goal.overflow_add-result-then-has_two
-overflow_add-result-then-has_two c = let two = sym c.has_two.ensures ∙ c.if-has_two.true in
-    omega (arith, c.requires.first_bound two, c.requires.first_le_n)
 
 pub returns-then-has_two : goal.returns-then-has_two
 unfolding size_by

@@ -1,12 +1,7 @@
 -- Each return is the word by whether the operator has two operands.
-use native.Mathlib.Omega.{arith}
 use mathlib.Core.Path.{sym, ◌∙◌}
 use Rattle.verdict.specs.Working.{word_of}
 use Rattle.verdict.proofs.code.word.Goals as goal
-
-pub overflow_add-result : goal.overflow_add-result
-overflow_add-result c = let two = sym c.has_two.ensures ∙ c.if-has_two.true in
-    omega (arith, c.requires.below_bound two, c.requires.operator_bound)
 
 pub returns-then-has_two : goal.returns-then-has_two
 unfolding word_of

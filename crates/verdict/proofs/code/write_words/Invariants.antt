@@ -1,9 +1,7 @@
--- All nodes but the last n have their words (`Wording`); n falls.
+-- The first i nodes have their words, those behind them their sizes still (`Wording`).
+use Prim.Native.Nat.{◌-◌, ◌*◌}
 use Rattle.verdict.proofs.Coding.{Wording}
 use Rattle.verdict.proofs.code.write_words.Given as goal
 
-abbrev pub invariant-loop-n : goal.invariant-loop-n
-invariant-loop-n l = Wording l.f l.code l.n l.at
-
-abbrev pub decreases-loop-n : goal.decreases-loop-n
-decreases-loop-n l = l.n
+abbrev pub invariant-loop-i : goal.invariant-loop-i
+invariant-loop-i l = Wording l.formula l.code (l.nodes - l.i) (2 * l.i)

@@ -9,8 +9,5 @@ returns-then-forwards-eq0 c = record {
   same = λ φ h j. unread_judged _ _ _ _ _ φ j (omega (arith, h, c.if-forwards-eq0.true));
 }
 
-pub returns : goal.returns
-returns c = record {
-  grids = c.fill.ensures.two_grids;
-  same = λ φ h j. filled_judged _ _ _ _ _ φ j c.fill.ensures.by_index c.fill.ensures.by_index_2;
-}
+pub returns-clause-same : goal.returns-clause-same
+returns-clause-same c φ h j = filled_judged _ _ _ _ _ φ j c.fill.ensures.by_index c.fill.ensures.by_index_2

@@ -4,21 +4,14 @@ use Rattle.verdict.proofs.TwoGrids.{start_low, rows-beyond, rows_few, rows-here}
 use Rattle.hml.proofs.Clauses.{to_few_exact}
 use Rattle.verdict.proofs.grids.rows_from.Goals as goal
 
-pub returns-then-state-ge64 : goal.returns-then-state-ge64
-returns-then-state-ge64 c = record {
-  few = (omega arith, omega arith);
-  exact = rows-beyond _ c.requires _ _ c.if-state-ge64.true;
-}
+pub returns-then-state-ge64-clause-exact : goal.returns-then-state-ge64-clause-exact
+returns-then-state-ge64-clause-exact c = rows-beyond _ c.requires _ _ c.if-state-ge64.true
 
 pub overflow_add-place : goal.overflow_add-place
 overflow_add-place c = omega (arith, start_low c.args.mover, c.grid_start.ensures, c.if-state-ge64.false)
 
 pub bounds-grids-place : goal.bounds-grids-place
 bounds-grids-place c = omega (arith, start_low c.args.mover, c.grid_start.ensures, c.if-state-ge64.false)
-
-pub overflow_cast-count : goal.overflow_cast-count
-overflow_cast-count c = let few = rows_few _ c.requires c.args.mover _ c.if-state-ge64.false in
-    rw c.grid_start.ensures (omega (arith, few))
 
 pub overflow_add-result : goal.overflow_add-result
 overflow_add-result c = omega (arith, start_low c.args.mover, c.grid_start.ensures, c.if-state-ge64.false)

@@ -40,17 +40,14 @@ decreases-try_both l = l.nodes * K + 24
 abbrev pub decreases-try_handshakes : goal.decreases-try_handshakes
 decreases-try_handshakes l = l.nodes * K + 15 + l.rows.count
 
-abbrev pub decreases-try_left : goal.decreases-try_left
-decreases-try_left l = l.nodes * K + 14
+abbrev pub decreases-try_alone : goal.decreases-try_alone
+decreases-try_alone l = l.nodes * K + 14
 
 abbrev pub decreases-try_moves : goal.decreases-try_moves
 decreases-try_moves l = l.nodes * K + 13
 
 abbrev pub decreases-try_partner : goal.decreases-try_partner
 decreases-try_partner l = l.nodes * K + 14
-
-abbrev pub decreases-try_right : goal.decreases-try_right
-decreases-try_right l = l.nodes * K + 14
 
 abbrev pub decreases-try_rows : goal.decreases-try_rows
 decreases-try_rows l = l.nodes * K + 4 + l.rows.count

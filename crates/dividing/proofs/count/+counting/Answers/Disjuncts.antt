@@ -9,14 +9,8 @@ use Rattle.halves.specs.Halves.{half_of}
 use Rattle.halves.proofs.HalfBuffers.{half_longer, put_two_back}
 use Rattle.dividing.proofs.Counting as counting
 use Rattle.dividing.proofs.Readiness.{longer_ready}
-use Rattle.dividing.proofs.Forwards.{listed-room, listed_keeps, listed_rest, texts-last, texts-more, first-text}
+use Rattle.dividing.proofs.Forwards.{listed_keeps, listed_rest, texts-last, texts-more, first-text}
 use Rattle.dividing.proofs.count.+counting.Goals as goal
-
-pub count_disjuncts-count_disjunct-requires : goal.count_disjuncts-count_disjunct-requires
-count_disjuncts-count_disjunct-requires t c = (
-  omega arith,
-  (c.requires.sound_table, (c.requires.ready, c.requires.limit_bound)),
-)
 
 pub count_disjuncts-returns-then-disjuncts-lt8 : goal.count_disjuncts-returns-then-disjuncts-lt8
 count_disjuncts-returns-then-disjuncts-lt8 t c = let r = half_of (take c.args.len c.args.run.now) in
@@ -35,12 +29,6 @@ count_disjuncts-returns-then-limit-eq0 t c = let r = half_of (take c.args.len c.
       run_unchanged = refl;
     }
 
-pub count_disjuncts-count_disjunct-n-requires : goal.count_disjuncts-count_disjunct-n-requires
-count_disjuncts-count_disjunct-n-requires t c = (
-  omega arith,
-  (c.requires.sound_table, (c.requires.ready, (omega (arith, c.requires.limit_bound.0), c.requires.limit_bound.1))),
-)
-
 pub count_disjuncts-returns-then-n-limit : goal.count_disjuncts-returns-then-n-limit
 count_disjuncts-returns-then-n-limit t c = let r = half_of (take c.args.len c.args.run.now) in
     let q = get_or c.args.run.now (c.args.len - 1) 0 in
@@ -52,18 +40,6 @@ count_disjuncts-returns-then-n-limit t c = let r = half_of (take c.args.len c.ar
           c.if-n-limit.true;
       run_unchanged = c.count_disjunct-n.ensures.run_unchanged;
     }
-
-pub count_disjuncts-overflow_sub-limit-3 : goal.count_disjuncts-overflow_sub-limit-3
-count_disjuncts-overflow_sub-limit-3 t c = let r = half_of (take c.args.len c.args.run.now) in
-    let q = get_or c.args.run.now (c.args.len - 1) 0 in
-    omega (
-      arith,
-      counting.count_left _ _ _ _ _
-          (texts-more q c.args.labels c.args.table.now c.args.f.now r c.args.disjuncts.now c.requires.limit_bound.1
-          c.if-disjuncts-lt8.false) _ _
-          (positive _ c.if-limit-eq0.false)
-          c.count_disjunct-n.ensures.result_value c.if-n-limit.false,
-    )
 
 pub count_disjuncts-count_disjuncts-m-requires : goal.count_disjuncts-count_disjuncts-m-requires
 count_disjuncts-count_disjuncts-m-requires t c = let q = get_or c.args.run.now (c.args.len - 1) 0 in (
@@ -79,33 +55,6 @@ count_disjuncts-count_disjuncts-m-requires t c = let q = get_or c.args.run.now (
     ),
   ),
 )
-
-pub count_disjuncts-overflow_add-result-2 : goal.count_disjuncts-overflow_add-result-2
-count_disjuncts-overflow_add-result-2 t c = let r = half_of (take c.args.len c.args.run.now) in
-    let q = get_or c.args.run.now (c.args.len - 1) 0 in
-    omega (
-      arith,
-      counting.count_left _ _ _ _ _
-          (texts-more q c.args.labels c.args.table.now c.args.f.now r c.args.disjuncts.now c.requires.limit_bound.1
-          c.if-disjuncts-lt8.false) _ _
-          (positive _ c.if-limit-eq0.false)
-          c.count_disjunct-n.ensures.result_value c.if-n-limit.false,
-      c.requires.limit_bound.0,
-    )
-
-pub count_disjuncts-overflow_add-result-3 : goal.count_disjuncts-overflow_add-result-3
-count_disjuncts-overflow_add-result-3 t c = let r = half_of (take c.args.len c.args.run.now) in
-    let q = get_or c.args.run.now (c.args.len - 1) 0 in
-    omega (
-      arith,
-      counting.count_left _ _ _ _ _
-          (texts-more q c.args.labels c.args.table.now c.args.f.now r c.args.disjuncts.now c.requires.limit_bound.1
-          c.if-disjuncts-lt8.false) _ _
-          (positive _ c.if-limit-eq0.false)
-          c.count_disjunct-n.ensures.result_value c.if-n-limit.false,
-      c.requires.limit_bound.0,
-      c.count_disjuncts-m.ensures.result_value,
-    )
 
 pub count_disjuncts-returns : goal.count_disjuncts-returns
 count_disjuncts-returns t c = let r = half_of (take c.args.len c.args.run.now) in
@@ -130,14 +79,6 @@ count_disjunct-returns-then-limit-eq0 t c = let r = half_of (take c.args.len c.a
           c.args.disjuncts.now) c.if-limit-eq0.true;
       run_unchanged = refl;
     }
-
-pub count_disjunct-bounds-disjuncts-2 : goal.count_disjunct-bounds-disjuncts-2
-count_disjunct-bounds-disjuncts-2 t c = let q = get_or c.args.run.now (c.args.len - 1) 0 in
-    omega (arith, listed-room q c.args.disjuncts.now c.requires.limit_bound.1)
-
-pub count_disjunct-bounds-disjuncts-3 : goal.count_disjunct-bounds-disjuncts-3
-count_disjunct-bounds-disjuncts-3 t c = let q = get_or c.args.run.now (c.args.len - 1) 0 in
-    omega (arith, listed-room q c.args.disjuncts.now c.requires.limit_bound.1)
 
 pub count_disjunct-count_tree-n-requires : goal.count_disjunct-count_tree-n-requires
 count_disjunct-count_tree-n-requires t c = let q = get_or c.args.run.now (c.args.len - 1) 0 in (

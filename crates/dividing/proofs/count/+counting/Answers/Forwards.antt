@@ -13,20 +13,6 @@ use Rattle.dividing.proofs.Pieces.{taken, piece_within, piece_length}
 use Rattle.dividing.proofs.Listing.{listed-fits}
 use Rattle.dividing.proofs.count.+counting.Goals as goal
 
-pub count_forward-bounds-run-len : goal.count_forward-bounds-run-len
-count_forward-bounds-run-len t c = omega (
-  arith,
-  c.requires.ready.held.within,
-  c.requires.ready.held.odd,
-  c.requires.ready.size,
-)
-
-pub count_forward-list_disjuncts-n-requires : goal.count_forward-list_disjuncts-n-requires
-count_forward-list_disjuncts-n-requires t c = record {
-  sound_table = c.requires.sound_table;
-  in_bounds = omega arith;
-}
-
 pub count_forward-slice_bounds-disjuncts-end : goal.count_forward-slice_bounds-disjuncts-end
 count_forward-slice_bounds-disjuncts-end t c = piece_within _ _ _ _ c.list_disjuncts-n.ensures.out_after
     c.list_disjuncts-n.ensures.value

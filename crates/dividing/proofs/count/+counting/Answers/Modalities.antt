@@ -9,32 +9,10 @@ use Rattle.formulas.proofs.Operands.{back-operator}
 use Rattle.dividing.proofs.Texts as texts
 use Rattle.dividing.proofs.count.+counting.Goals as goal
 
-pub count_modal-count_forward-requires : goal.count_modal-count_forward-requires
-count_modal-count_forward-requires t c = (
-  omega arith,
-  (
-    c.requires.sound_table,
-    (
-      c.requires.ready,
-      (
-        c.requires.le_limit.1,
-        sym c.is_forward.ensures ∙
-            c.if-is_forward.true,
-      ),
-    ),
-  ),
-)
-
-pub count_modal-returns-then-is_forward : goal.count_modal-returns-then-is_forward
-count_modal-returns-then-is_forward t c = record {
-  result_value = c.count_forward.ensures.result_value;
-  run_unchanged = c.count_forward.ensures.run_unchanged;
-}
-
 pub count_modal-overflow_sub-len : goal.count_modal-overflow_sub-len
 count_modal-overflow_sub-len t c = let o = back-operator _ c.requires.le_limit.2
     (sym c.is_forward.ensures ∙ c.if-is_forward.false) in
-    let read = sym c.in-Node.is ∙ c.past_node.ensures in
+    let read = sym c.in-Some.is ∙ c.past_node.ensures in
     omega (
       arith,
       texts.past_step _ c.args.table.now _ c.args.f.now c.requires.ready.part c.args.run.now c.args.len
@@ -45,7 +23,7 @@ count_modal-overflow_sub-len t c = let o = back-operator _ c.requires.le_limit.2
 pub count_modal-count_tree-n-requires : goal.count_modal-count_tree-n-requires
 count_modal-count_tree-n-requires t c = let o = back-operator _ c.requires.le_limit.2
     (sym c.is_forward.ensures ∙ c.if-is_forward.false) in
-    let read = sym c.in-Node.is ∙ c.past_node.ensures in
+    let read = sym c.in-Some.is ∙ c.past_node.ensures in
     let l = texts.past_step _ c.args.table.now _ c.args.f.now c.requires.ready.part c.args.run.now c.args.len
     c.requires.ready.held o _
     read in (
@@ -53,10 +31,10 @@ count_modal-count_tree-n-requires t c = let o = back-operator _ c.requires.le_li
       (c.requires.sound_table, (back_ready _ _ _ _ c.requires.ready o l, omega (arith, c.requires.le_limit.1))),
     )
 
-pub count_modal-returns-in-Node : goal.count_modal-returns-in-Node
-count_modal-returns-in-Node t c = let o = back-operator _ c.requires.le_limit.2
+pub count_modal-returns-in-Some : goal.count_modal-returns-in-Some
+count_modal-returns-in-Some t c = let o = back-operator _ c.requires.le_limit.2
     (sym c.is_forward.ensures ∙ c.if-is_forward.false) in
-    let read = sym c.in-Node.is ∙ c.past_node.ensures in
+    let read = sym c.in-Some.is ∙ c.past_node.ensures in
     let over = texts.past_over _ _ _ c.args.f.now c.requires.ready.part c.args.run.now c.args.len c.requires.ready.held
     o _ read in
     record {
@@ -64,10 +42,10 @@ count_modal-returns-in-Node t c = let o = back-operator _ c.requires.le_limit.2
       run_unchanged = c.count_tree-n.ensures.run_unchanged;
     }
 
-pub count_modal-returns-in-Fails : goal.count_modal-returns-in-Fails
-count_modal-returns-in-Fails t c = let o = back-operator _ c.requires.le_limit.2
+pub count_modal-returns-in-None : goal.count_modal-returns-in-None
+count_modal-returns-in-None t c = let o = back-operator _ c.requires.le_limit.2
     (sym c.is_forward.ensures ∙ c.if-is_forward.false) in
-    let read = sym c.in-Fails.is ∙ c.past_node.ensures in
+    let read = sym c.in-None.is ∙ c.past_node.ensures in
     record {
       result_value = counting.count-leaf _ _ _ _
           (texts.past_fails _ _ _ c.args.f.now c.requires.ready.part c.args.run.now c.args.len c.requires.ready.held o

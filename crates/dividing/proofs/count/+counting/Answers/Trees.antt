@@ -30,29 +30,6 @@ count_tree-returns-then-limit-eq0 t c = let r = half_of (take c.args.len c.args.
       run_unchanged = refl;
     }
 
-pub count_tree-count_modal-requires : goal.count_tree-count_modal-requires
-count_tree-count_modal-requires t c = (
-  omega arith,
-  (
-    c.requires.sound_table,
-    (
-      c.requires.ready,
-      (
-        positive _ c.if-limit-eq0.false,
-        c.requires.limit_bound,
-        sym
-            c.is_modality.ensures ∙ c.if-is_modality.true,
-      ),
-    ),
-  ),
-)
-
-pub count_tree-returns-then-is_modality : goal.count_tree-returns-then-is_modality
-count_tree-returns-then-is_modality t c = record {
-  result_value = c.count_modal.ensures.result_value;
-  run_unchanged = c.count_modal.ensures.run_unchanged;
-}
-
 pub count_tree-count_tree-n-requires : goal.count_tree-count_tree-n-requires
 count_tree-count_tree-n-requires t c = (
   omega (arith, rest_length 2 c.args.f.now, node_room _ c.requires.ready.part.tree),
@@ -145,29 +122,6 @@ count_tree-slice_bounds-second-start t c = let o = and-or _ (connective_operator
     let m = get_or c.args.sizes.now (length c.args.f.now / 2 - 2) 0 in
     second_room _ c.args.f.now c.requires.ready.part o m refl
 
-pub count_tree-overflow_sub-limit-2 : goal.count_tree-overflow_sub-limit-2
-count_tree-overflow_sub-limit-2 t c = omega (
-  arith,
-  positive _
-      c.if-limit-eq0.false,
-)
-
-pub count_tree-overflow_sub-limit-3 : goal.count_tree-overflow_sub-limit-3
-count_tree-overflow_sub-limit-3 t c = let r = half_of (take c.args.len c.args.run.now) in
-    let o = and-or _
-    (connective_operator _ c.requires.ready.part.tree
-    c.if-operator-lt2.false
-    (sym c.is_modality.ensures
-    ∙ c.if-is_modality.false))
-    c.if-operator-eq2.false in
-    let m = get_or c.args.sizes.now (length c.args.f.now / 2 - 2) 0 in
-    omega (
-      arith,
-      counting.count_left _ _ _ _ _ (texts.text-both _ _ _ c.args.f.now c.requires.ready.part r o m refl) _ _
-          (positive _ c.if-limit-eq0.false)
-          c.count_tree-n.ensures.result_value c.if-n-limit.false,
-    )
-
 pub count_tree-count_tree-m-requires : goal.count_tree-count_tree-m-requires
 count_tree-count_tree-m-requires t c = let o = and-or _
     (connective_operator _ c.requires.ready.part.tree
@@ -184,45 +138,6 @@ count_tree-count_tree-m-requires t c = let o = and-or _
           omega (arith, c.requires.limit_bound),
         ),
       ),
-    )
-
-pub count_tree-overflow_add-result-2 : goal.count_tree-overflow_add-result-2
-count_tree-overflow_add-result-2 t c = let r = half_of (take c.args.len c.args.run.now) in
-    let o = and-or _
-    (connective_operator _ c.requires.ready.part.tree
-    c.if-operator-lt2.false
-    (sym c.is_modality.ensures
-    ∙ c.if-is_modality.false))
-    c.if-operator-eq2.false in
-    let m = get_or c.args.sizes.now (length c.args.f.now / 2 - 2) 0 in
-    omega (
-      arith,
-      counting.count_left _ _ _ _ _ (texts.text-both _ _ _ c.args.f.now c.requires.ready.part r o m refl) _ _
-          (positive _
-          c.if-limit-eq0.false)
-          c.count_tree-n.ensures.result_value
-          c.if-n-limit.false,
-      c.requires.limit_bound,
-    )
-
-pub count_tree-overflow_add-result-3 : goal.count_tree-overflow_add-result-3
-count_tree-overflow_add-result-3 t c = let r = half_of (take c.args.len c.args.run.now) in
-    let o = and-or _
-    (connective_operator _ c.requires.ready.part.tree
-    c.if-operator-lt2.false
-    (sym c.is_modality.ensures
-    ∙ c.if-is_modality.false))
-    c.if-operator-eq2.false in
-    let m = get_or c.args.sizes.now (length c.args.f.now / 2 - 2) 0 in
-    omega (
-      arith,
-      counting.count_left _ _ _ _ _ (texts.text-both _ _ _ c.args.f.now c.requires.ready.part r o m refl) _ _
-          (positive _
-          c.if-limit-eq0.false)
-          c.count_tree-n.ensures.result_value
-          c.if-n-limit.false,
-      c.requires.limit_bound,
-      c.count_tree-m.ensures.result_value,
     )
 
 pub count_tree-returns : goal.count_tree-returns

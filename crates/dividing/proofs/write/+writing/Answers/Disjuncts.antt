@@ -8,7 +8,7 @@ use Rattle.labels.proofs.Slices.{rest_length}
 use Rattle.halves.specs.Halves.{half_of}
 use Rattle.dividing.specs.Working.{first_text}
 use Rattle.labels.proofs.Outputs.{front_length}
-use Rattle.dividing.proofs.Pieces.{joined, two_pieces, first_fits, second_fits, second_length}
+use Rattle.dividing.proofs.Pieces.{joined, two_pieces, first_fits, second_fits}
 use Rattle.dividing.proofs.Forwards.{listed_rest, texts-last, texts-more}
 use Rattle.dividing.proofs.write.+writing.Goals as goal
 
@@ -28,13 +28,6 @@ write_disjuncts-write_disjunct-requires t c = let r = half_of (take c.args.len c
         ),
       ),
     )
-
-pub write_disjuncts-shape_of-out-then-disjuncts-lt8 : goal.write_disjuncts-shape_of-out-then-disjuncts-lt8
-write_disjuncts-shape_of-out-then-disjuncts-lt8 t c = let r = half_of (take c.args.len c.args.run.now) in
-    let q = get_or c.args.run.now (c.args.len - 1) 0 in
-    front_length _ _ _ c.write_disjunct.ensures.out_after
-    (rw (texts-last q c.args.labels c.args.table.now c.args.f.now r c.args.disjuncts.now c.requires.listed
-    c.if-disjuncts-lt8.true) c.requires.disjuncts_in_bounds)
 
 pub write_disjuncts-returns-then-disjuncts-lt8 : goal.write_disjuncts-returns-then-disjuncts-lt8
 write_disjuncts-returns-then-disjuncts-lt8 t c = let r = half_of (take c.args.len c.args.run.now) in
@@ -159,18 +152,6 @@ write_disjuncts-overflow_add-result t c = let r = half_of (take c.args.len c.arg
       second_fits _ _ _ _ more c.requires.disjuncts_in_bounds _ _ _ refl w.0 w.1,
       c.well_formed,
     )
-
-pub write_disjuncts-shape_of-out : goal.write_disjuncts-shape_of-out
-write_disjuncts-shape_of-out t c = let r = half_of (take c.args.len c.args.run.now) in
-    let q = get_or c.args.run.now (c.args.len - 1) 0 in
-    let more = texts-more q c.args.labels c.args.table.now c.args.f.now r c.args.disjuncts.now c.requires.listed
-    c.if-disjuncts-lt8.false in
-    let j = joined (4 ∷ 0 ∷ []) (first_text c.args.labels c.args.table.now c.args.f.now r c.args.disjuncts.now) in
-    let w = two_pieces _ _ _ _ _ _ 2 _ j refl c.put_node.ensures c.write_disjunct-n.ensures.value
-    c.write_disjunct-n.ensures.out_after in
-    second_length _ _ _ _ _ _ _ more w.0 w.1
-    (rw c.write_disjunct-n.ensures.run_unchanged at c.write_disjuncts-m.ensures.out_after)
-    c.requires.disjuncts_in_bounds
 
 pub write_disjuncts-returns : goal.write_disjuncts-returns
 write_disjuncts-returns t c = let r = half_of (take c.args.len c.args.run.now) in

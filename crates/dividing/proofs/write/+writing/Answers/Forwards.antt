@@ -5,7 +5,6 @@ use mathlib.Core.Path.{ap}
 use lib.ListN.{get_or, take, length}
 use Rattle.labels.proofs.Slices.{rest_length}
 use Rattle.halves.specs.Halves.{half_of}
-use Rattle.labels.proofs.Outputs.{front_length}
 use Rattle.dividing.proofs.Pieces.{taken, piece_within, piece_length}
 use Rattle.dividing.proofs.Forwards.{forward-texts, forward-listed}
 use Rattle.halves.proofs.HalfBuffers.{half_last}
@@ -13,20 +12,6 @@ use Rattle.formulas.proofs.Operators.{node_room}
 use Rattle.dividing.proofs.Listing.{listed-fits}
 use Rattle.dividing.proofs.Readiness.{forward_ready}
 use Rattle.dividing.proofs.write.+writing.Goals as goal
-
-pub write_forward-bounds-run-len : goal.write_forward-bounds-run-len
-write_forward-bounds-run-len t c = omega (
-  arith,
-  c.requires.ready.held.within,
-  c.requires.ready.held.odd,
-  c.requires.ready.size,
-)
-
-pub write_forward-list_disjuncts-n-requires : goal.write_forward-list_disjuncts-n-requires
-write_forward-list_disjuncts-n-requires t c = record {
-  sound_table = c.requires.sound_table;
-  in_bounds = omega arith;
-}
 
 pub write_forward-slice_bounds-disjuncts-end : goal.write_forward-slice_bounds-disjuncts-end
 write_forward-slice_bounds-disjuncts-end t c = piece_within _ _ _ _ c.list_disjuncts-n.ensures.out_after
@@ -65,18 +50,6 @@ write_forward-write_disjuncts-requires t c = let r = half_of (take c.args.len c.
         ),
       ),
     )
-
-pub write_forward-shape_of-out : goal.write_forward-shape_of-out
-write_forward-shape_of-out t c = let r = half_of (take c.args.len c.args.run.now) in
-    let q = get_or c.args.run.now (c.args.len - 1) 0 in
-    let listed = taken _ _ _ _ c.list_disjuncts-n.ensures.out_after c.list_disjuncts-n.ensures.value in
-    front_length _ _ _ c.write_disjuncts.ensures.out_after
-    (rw (
-      listed,
-      forward-texts c.args.labels c.args.table.now c.args.sizes.now c.args.f.now c.requires.ready.part r q
-          c.requires.sound_table
-          c.requires.f_value (half_last c.args.run.now c.args.len c.requires.ready.held),
-    ) c.requires.run_in_bounds)
 
 pub write_forward-returns : goal.write_forward-returns
 write_forward-returns t c = let r = half_of (take c.args.len c.args.run.now) in

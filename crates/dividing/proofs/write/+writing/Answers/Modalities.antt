@@ -5,32 +5,12 @@ use lib.ListN.{take}
 use Rattle.labels.proofs.Slices.{rest_length}
 use Rattle.halves.specs.Halves.{half_of}
 use Rattle.labels.proofs.Outputs.{front_length}
-use Rattle.dividing.proofs.Pieces.{two_pieces, second_fits, second_length, one_piece, node_over_length}
+use Rattle.dividing.proofs.Pieces.{two_pieces, second_fits, one_piece, node_over_length}
 use Rattle.formulas.proofs.Operators.{node_room}
 use Rattle.dividing.proofs.Readiness.{back_ready}
 use Rattle.formulas.proofs.Operands.{back-operator}
 use Rattle.dividing.proofs.Texts as texts
 use Rattle.dividing.proofs.write.+writing.Goals as goal
-
-pub write_modal-write_forward-requires : goal.write_modal-write_forward-requires
-write_modal-write_forward-requires t c = (
-  omega arith,
-  (
-    c.requires.sound_table,
-    (c.requires.ready, (sym c.is_forward.ensures ∙ c.if-is_forward.true, c.requires.run_in_bounds)),
-  ),
-)
-
-pub write_modal-shape_of-out-then-is_forward : goal.write_modal-shape_of-out-then-is_forward
-write_modal-shape_of-out-then-is_forward t c = front_length _ _ _ c.write_forward.ensures.out_after
-    c.requires.run_in_bounds
-
-pub write_modal-returns-then-is_forward : goal.write_modal-returns-then-is_forward
-write_modal-returns-then-is_forward t c = record {
-  value = c.write_forward.ensures.value;
-  out_after = c.write_forward.ensures.out_after;
-  run_unchanged = c.write_forward.ensures.run_unchanged;
-}
 
 pub write_modal-put_node-requires : goal.write_modal-put_node-requires
 write_modal-put_node-requires t c = let some = texts.text-some c.args.labels c.args.table.now c.args.f.now
@@ -40,7 +20,7 @@ write_modal-put_node-requires t c = let some = texts.text-some c.args.labels c.a
 pub write_modal-overflow_sub-len : goal.write_modal-overflow_sub-len
 write_modal-overflow_sub-len t c = let o = back-operator _ c.requires.f_value
     (sym c.is_forward.ensures ∙ c.if-is_forward.false) in
-    let read = sym c.in-Node.is ∙ c.past_node.ensures in
+    let read = sym c.in-Some.is ∙ c.past_node.ensures in
     omega (
       arith,
       texts.past_step _ c.args.table.now _ c.args.f.now c.requires.ready.part c.args.run.now c.args.len
@@ -48,15 +28,15 @@ write_modal-overflow_sub-len t c = let o = back-operator _ c.requires.f_value
           read,
     )
 
-pub write_modal-slice_bounds-write_tree-count-in-Node : goal.write_modal-slice_bounds-write_tree-count-in-Node
-write_modal-slice_bounds-write_tree-count-in-Node t c = let some = texts.text-some c.args.labels c.args.table.now
+pub write_modal-slice_bounds-write_tree-count-in-Some : goal.write_modal-slice_bounds-write_tree-count-in-Some
+write_modal-slice_bounds-write_tree-count-in-Some t c = let some = texts.text-some c.args.labels c.args.table.now
     c.args.f.now
     (half_of (take c.args.len c.args.run.now)) in
     let kept = front_length _ _ _ c.put_node.ensures (omega (arith, c.requires.run_in_bounds, some)) in
     omega (arith, c.requires.run_in_bounds, some, kept)
 
-pub write_modal-slice_bounds-write_tree-start-in-Node : goal.write_modal-slice_bounds-write_tree-start-in-Node
-write_modal-slice_bounds-write_tree-start-in-Node t c = let some = texts.text-some c.args.labels c.args.table.now
+pub write_modal-slice_bounds-write_tree-start-in-Some : goal.write_modal-slice_bounds-write_tree-start-in-Some
+write_modal-slice_bounds-write_tree-start-in-Some t c = let some = texts.text-some c.args.labels c.args.table.now
     c.args.f.now
     (half_of (take c.args.len c.args.run.now)) in
     let kept = front_length _ _ _ c.put_node.ensures (omega (arith, c.requires.run_in_bounds, some)) in
@@ -65,7 +45,7 @@ write_modal-slice_bounds-write_tree-start-in-Node t c = let some = texts.text-so
 pub write_modal-write_tree-n-requires : goal.write_modal-write_tree-n-requires
 write_modal-write_tree-n-requires t c = let o = back-operator _ c.requires.f_value
     (sym c.is_forward.ensures ∙ c.if-is_forward.false) in
-    let read = sym c.in-Node.is ∙ c.past_node.ensures in
+    let read = sym c.in-Some.is ∙ c.past_node.ensures in
     let over = texts.past_over _ _ _ c.args.f.now c.requires.ready.part c.args.run.now c.args.len c.requires.ready.held
     o _ read in
     let l = texts.past_step _ c.args.table.now _ c.args.f.now c.requires.ready.part c.args.run.now c.args.len
@@ -79,29 +59,21 @@ write_modal-write_tree-n-requires t c = let o = back-operator _ c.requires.f_val
 pub write_modal-overflow_add-result : goal.write_modal-overflow_add-result
 write_modal-overflow_add-result t c = let o = back-operator _ c.requires.f_value
     (sym c.is_forward.ensures ∙ c.if-is_forward.false) in
-    let read = sym c.in-Node.is ∙ c.past_node.ensures in
+    let read = sym c.in-Some.is ∙ c.past_node.ensures in
     let over = texts.past_over _ _ _ c.args.f.now c.requires.ready.part c.args.run.now c.args.len c.requires.ready.held
     o _ read in
     let whole = node_over_length _ _ _ _ over c.write_tree-n.ensures.value in
     omega (arith, whole, c.requires.run_in_bounds, c.well_formed)
 
-pub write_modal-put_node-requires-in-Fails : goal.write_modal-put_node-requires-in-Fails
-write_modal-put_node-requires-in-Fails t c = let some = texts.text-some c.args.labels c.args.table.now c.args.f.now
+pub write_modal-put_node-requires-in-None : goal.write_modal-put_node-requires-in-None
+write_modal-put_node-requires-in-None t c = let some = texts.text-some c.args.labels c.args.table.now c.args.f.now
     (half_of (take c.args.len c.args.run.now)) in
     omega (arith, c.requires.run_in_bounds, some)
 
-pub write_modal-shape_of-out-in-Node : goal.write_modal-shape_of-out-in-Node
-write_modal-shape_of-out-in-Node t c = let o = back-operator _ c.requires.f_value
+pub write_modal-returns-in-Some : goal.write_modal-returns-in-Some
+write_modal-returns-in-Some t c = let o = back-operator _ c.requires.f_value
     (sym c.is_forward.ensures ∙ c.if-is_forward.false) in
-    let read = sym c.in-Node.is ∙ c.past_node.ensures in
-    let over = texts.past_over _ _ _ c.args.f.now c.requires.ready.part c.args.run.now c.args.len c.requires.ready.held
-    o _ read in
-    second_length _ _ _ _ _ _ 2 over refl c.put_node.ensures c.write_tree-n.ensures.out_after c.requires.run_in_bounds
-
-pub write_modal-returns-in-Node : goal.write_modal-returns-in-Node
-write_modal-returns-in-Node t c = let o = back-operator _ c.requires.f_value
-    (sym c.is_forward.ensures ∙ c.if-is_forward.false) in
-    let read = sym c.in-Node.is ∙ c.past_node.ensures in
+    let read = sym c.in-Some.is ∙ c.past_node.ensures in
     let over = texts.past_over _ _ _ c.args.f.now c.requires.ready.part c.args.run.now c.args.len c.requires.ready.held
     o _ read in
     let p = two_pieces _ _ _ _ _ _ 2 _ over refl c.put_node.ensures c.write_tree-n.ensures.value
@@ -112,18 +84,13 @@ write_modal-returns-in-Node t c = let o = back-operator _ c.requires.f_value
       run_unchanged = c.write_tree-n.ensures.run_unchanged;
     }
 
-pub write_modal-shape_of-out-in-Fails : goal.write_modal-shape_of-out-in-Fails
-write_modal-shape_of-out-in-Fails t c = let some = texts.text-some c.args.labels c.args.table.now c.args.f.now
-    (half_of (take c.args.len c.args.run.now)) in
-    front_length _ _ _ c.put_node-in-Fails.ensures (omega (arith, c.requires.run_in_bounds, some))
-
-pub write_modal-returns-in-Fails : goal.write_modal-returns-in-Fails
-write_modal-returns-in-Fails t c = let o = back-operator _ c.requires.f_value
+pub write_modal-returns-in-None : goal.write_modal-returns-in-None
+write_modal-returns-in-None t c = let o = back-operator _ c.requires.f_value
     (sym c.is_forward.ensures ∙ c.if-is_forward.false) in
-    let read = sym c.in-Fails.is ∙ c.past_node.ensures in
+    let read = sym c.in-None.is ∙ c.past_node.ensures in
     let fails = texts.past_fails _ _ _ c.args.f.now c.requires.ready.part c.args.run.now c.args.len
     c.requires.ready.held o read in
-    let p = one_piece _ _ _ _ 2 fails refl c.put_node-in-Fails.ensures in
+    let p = one_piece _ _ _ _ 2 fails refl c.put_node-in-None.ensures in
     record {
       value = p.0;
       out_after = p.1;

@@ -5,33 +5,17 @@ use mathlib.Core.Path.{refl}
 use lib.ListN.{get_or, take}
 use Rattle.halves.specs.Halves.{half_of}
 use Rattle.labels.proofs.Outputs.{front_length}
-use Rattle.dividing.proofs.Pieces.{two_pieces, first_fits, second_fits, second_length}
-use Rattle.dividing.proofs.Forwards.{listed-room, listed_keeps, first-text}
+use Rattle.dividing.proofs.Pieces.{two_pieces, first_fits, second_fits}
+use Rattle.dividing.proofs.Forwards.{listed_keeps, first-text}
 use Rattle.halves.proofs.HalfBuffers.{half_longer, put_two_back}
 use Rattle.dividing.proofs.Readiness.{longer_ready}
 use Rattle.dividing.proofs.write.+writing.Goals as goal
-
-pub write_disjunct-bounds-disjuncts-0 : goal.write_disjunct-bounds-disjuncts-0
-write_disjunct-bounds-disjuncts-0 t c = let q = get_or c.args.run.now (c.args.len - 1) 0 in
-    omega (arith, listed-room q c.args.disjuncts.now c.requires.listed)
-
-pub write_disjunct-bounds-disjuncts-1 : goal.write_disjunct-bounds-disjuncts-1
-write_disjunct-bounds-disjuncts-1 t c = let q = get_or c.args.run.now (c.args.len - 1) 0 in
-    omega (arith, listed-room q c.args.disjuncts.now c.requires.listed)
 
 pub write_disjunct-put_node-requires : goal.write_disjunct-put_node-requires
 write_disjunct-put_node-requires t c = let r = half_of (take c.args.len c.args.run.now) in
     let q = get_or c.args.run.now (c.args.len - 1) 0 in
     let over = first-text q c.args.labels c.args.table.now c.args.f.now r c.args.disjuncts.now in
     first_fits _ _ _ _ over c.requires.disjuncts_in_bounds
-
-pub write_disjunct-bounds-disjuncts-2 : goal.write_disjunct-bounds-disjuncts-2
-write_disjunct-bounds-disjuncts-2 t c = let q = get_or c.args.run.now (c.args.len - 1) 0 in
-    omega (arith, listed-room q c.args.disjuncts.now c.requires.listed)
-
-pub write_disjunct-bounds-disjuncts-3 : goal.write_disjunct-bounds-disjuncts-3
-write_disjunct-bounds-disjuncts-3 t c = let q = get_or c.args.run.now (c.args.len - 1) 0 in
-    omega (arith, listed-room q c.args.disjuncts.now c.requires.listed)
 
 pub write_disjunct-slice_bounds-write_tree-count : goal.write_disjunct-slice_bounds-write_tree-count
 write_disjunct-slice_bounds-write_tree-count t c = let r = half_of (take c.args.len c.args.run.now) in
@@ -85,16 +69,6 @@ write_disjunct-overflow_add-result t c = let r = half_of (take c.args.len c.args
           c.put_node.ensures,
       c.well_formed,
     )
-
-pub write_disjunct-shape_of-out : goal.write_disjunct-shape_of-out
-write_disjunct-shape_of-out t c = let r = half_of (take c.args.len c.args.run.now) in
-    let q = get_or c.args.run.now (c.args.len - 1) 0 in
-    let over = first-text q c.args.labels c.args.table.now c.args.f.now r c.args.disjuncts.now in
-    second_length _ _ _ _ _ _ 2 over refl
-    c.put_node.ensures
-    (rw (half_longer c.args.run.now c.args.len c.requires.ready.held (get_or c.args.disjuncts.now 2 0)
-    (get_or c.args.disjuncts.now 3 0) (omega (arith, c.requires.ready.room)))
-    at c.write_tree-n.ensures.out_after) c.requires.disjuncts_in_bounds
 
 pub write_disjunct-returns : goal.write_disjunct-returns
 write_disjunct-returns t c = let r = half_of (take c.args.len c.args.run.now) in

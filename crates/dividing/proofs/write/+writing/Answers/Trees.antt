@@ -8,36 +8,16 @@ use Rattle.labels.proofs.Slices.{rest_length, rest}
 use Rattle.halves.specs.Halves.{half_of}
 use Rattle.dividing.specs.Working.{text}
 use Rattle.labels.proofs.Outputs.{front_length}
-use Rattle.dividing.proofs.Pieces.{joined, two_pieces, second_fits, second_length, one_piece}
+use Rattle.dividing.proofs.Pieces.{joined, two_pieces, second_fits, one_piece}
 use Rattle.formulas.proofs.Operators.{node_room}
 use Rattle.dividing.proofs.Readiness.{connective_ready, second_ready}
 use Rattle.formulas.proofs.Operands.{size_read, second_room, and-or, connective_operator}
 use Rattle.dividing.proofs.Texts as texts
 use Rattle.dividing.proofs.write.+writing.Goals as goal
 
-pub write_tree-write_modal-requires : goal.write_tree-write_modal-requires
-write_tree-write_modal-requires t c = let o = sym c.is_modality.ensures ∙ c.if-is_modality.true in
-    (omega arith, (c.requires.sound_table, (c.requires.ready, (o, c.requires.run_in_bounds))))
-
-pub write_tree-shape_of-out-then-is_modality : goal.write_tree-shape_of-out-then-is_modality
-write_tree-shape_of-out-then-is_modality t c = front_length _ _ _ c.write_modal.ensures.out_after
-    c.requires.run_in_bounds
-
-pub write_tree-returns-then-is_modality : goal.write_tree-returns-then-is_modality
-write_tree-returns-then-is_modality t c = record {
-  value = c.write_modal.ensures.value;
-  out_after = c.write_modal.ensures.out_after;
-  run_unchanged = c.write_modal.ensures.run_unchanged;
-}
-
 pub write_tree-put_node-requires : goal.write_tree-put_node-requires
 write_tree-put_node-requires t c = let r = half_of (take c.args.len c.args.run.now) in
     omega (arith, c.requires.run_in_bounds, texts.text-some c.args.labels c.args.table.now c.args.f.now r)
-
-pub write_tree-shape_of-out-then-operator-lt2 : goal.write_tree-shape_of-out-then-operator-lt2
-write_tree-shape_of-out-then-operator-lt2 t c = let r = half_of (take c.args.len c.args.run.now) in
-    front_length _ _ _ c.put_node.ensures
-    (omega (arith, c.requires.run_in_bounds, texts.text-some c.args.labels c.args.table.now c.args.f.now r))
 
 pub write_tree-returns-then-operator-lt2 : goal.write_tree-returns-then-operator-lt2
 write_tree-returns-then-operator-lt2 t c = let r = half_of (take c.args.len c.args.run.now) in
@@ -115,24 +95,6 @@ write_tree-overflow_add-at t c = let r = half_of (take c.args.len c.args.run.now
           c.put_node.ensures,
       c.well_formed,
     )
-
-pub write_tree-shape_of-out-then-operator-eq2 : goal.write_tree-shape_of-out-then-operator-eq2
-write_tree-shape_of-out-then-operator-eq2 t c = let r = half_of (take c.args.len c.args.run.now) in
-    let i = connective_operator _ c.requires.ready.part.tree c.if-operator-lt2.false
-    (sym c.is_modality.ensures
-    ∙ c.if-is_modality.false) in
-    let j = joined (get_or c.args.f.now 0 0 ∷ 0 ∷ []) (text c.args.labels c.args.table.now (rest 2 c.args.f.now) r) in
-    let inside : length ((get_or c.args.f.now 0 0 ∷ 0 ∷ []) ++ text c.args.labels c.args.table.now (rest 2 c.args.f.now)
-    r)
-    ≤ length c.args.out.now =
-    omega (
-      arith,
-      texts.text_connective c.args.labels c.args.table.now _ c.args.f.now c.requires.ready.part r i,
-      c.requires.run_in_bounds,
-    ) in
-    second_length _ _ _ _ _ _ 2 j refl
-    c.put_node.ensures
-    c.write_tree-n.ensures.out_after inside
 
 pub write_tree-returns-then-operator-eq2 : goal.write_tree-returns-then-operator-eq2
 write_tree-returns-then-operator-eq2 t c = let r = half_of (take c.args.len c.args.run.now) in
@@ -297,17 +259,6 @@ write_tree-overflow_add-result t c = let r = half_of (take c.args.len c.args.run
           _ _ _ refl w.0 w.1,
       c.well_formed,
     )
-
-pub write_tree-shape_of-out : goal.write_tree-shape_of-out
-write_tree-shape_of-out t c = let r = half_of (take c.args.len c.args.run.now) in
-    let j = joined (get_or c.args.f.now 0 0 ∷ 0 ∷ []) (text c.args.labels c.args.table.now (rest 2 c.args.f.now) r) in
-    let o = and-or _ (connective_operator _ c.requires.ready.part.tree c.if-operator-lt2.false
-    (sym c.is_modality.ensures ∙ c.if-is_modality.false)) c.if-operator-eq2.false in
-    let m = get_or c.args.sizes.now (length c.args.f.now / 2 - 2) 0 in
-    let w = two_pieces _ _ _ _ _ _ 2 _ j refl c.put_node.ensures c.write_tree-n.ensures.value
-    c.write_tree-n.ensures.out_after in
-    second_length _ _ _ _ _ _ _ (texts.text-both _ _ _ c.args.f.now c.requires.ready.part r o m refl) w.0 w.1
-    (rw c.write_tree-n.ensures.run_unchanged at c.write_tree-m.ensures.out_after) c.requires.run_in_bounds
 
 pub write_tree-returns : goal.write_tree-returns
 write_tree-returns t c = let r = half_of (take c.args.len c.args.run.now) in

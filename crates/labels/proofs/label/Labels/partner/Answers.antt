@@ -6,5 +6,5 @@ use Rattle.labels.proofs.label.Labels.partner.Goals as goal
 pub returns-then-has : goal.returns-then-has
 returns-then-has c = c.partner.ensures ∙ inside_found _ _ (sym c.has.ensures ∙ c.if-has.true)
 
-pub returns : goal.returns
-returns c = outside_found _ _ (sym c.has.ensures ∙ c.if-has.false)
+pub returns-else-has : goal.returns-else-has
+returns-else-has c = outside_found _ _ (sym c.has.ensures ∙ c.if-has.false)

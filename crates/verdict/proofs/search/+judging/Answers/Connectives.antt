@@ -1,6 +1,6 @@
 -- "Not", "and", "or" and the back modalities, then true, false and the forward modalities.
 use native.Mathlib.Omega.{arith}
-use mathlib.Core.Path.{refl, sym, ◌∙◌}
+use mathlib.Core.Path.{sym, ◌∙◌}
 use Rattle.verdict.proofs.Operands as operands
 use Rattle.verdict.proofs.Going as going
 use Rattle.verdict.proofs.search.+judging.Goals as goal
@@ -10,21 +10,11 @@ holds-loop-word-preserved-then-operator-eq2 t c = let two = sym c.operator_in-op
     in
     (c.loop-word.invariant.0, going.going_not _ _ _ _ _ _ _ _ _ _ c.loop-word.invariant.1 two)
 
-pub holds-steps_back-requires : goal.holds-steps_back-requires
-holds-steps_back-requires t c = omega (
-  arith,
-  c.loop-word.invariant.1.ready.held.within,
-  c.loop-word.invariant.1.ready.size,
-)
-
-pub holds-returns-then-not-steps_back : goal.holds-returns-then-not-steps_back
-holds-returns-then-not-steps_back t c = let o = rw c.operator_in-operator.ensures at
+pub holds-returns-then-not-steps_back-clause-value : goal.holds-returns-then-not-steps_back-clause-value
+holds-returns-then-not-steps_back-clause-value t c = let o = rw c.operator_in-operator.ensures at
     (sym c.is_back.ensures ∙ c.if-is_back.true) in
     let q = rw (c.operator_in-operator.ensures, c.label_in.ensures, c.loop-word.invariant.0) at c.steps_back.ensures in
-    record {
-      value = going.going_nowhere _ _ _ _ _ _ _ _ _ _ c.loop-word.invariant.1 o _ q c.if-not-steps_back.true;
-      run_unchanged = c.loop-word.invariant.0;
-    }
+    going.going_nowhere _ _ _ _ _ _ _ _ _ _ c.loop-word.invariant.1 o _ q c.if-not-steps_back.true
 
 pub holds-overflow_sub-len : goal.holds-overflow_sub-len
 holds-overflow_sub-len t c = let o = rw c.operator_in-operator.ensures at (sym c.is_back.ensures ∙ c.if-is_back.true) in
@@ -34,7 +24,8 @@ holds-overflow_sub-len t c = let o = rw c.operator_in-operator.ensures at (sym c
 pub holds-loop-word-preserved-then-is_back : goal.holds-loop-word-preserved-then-is_back
 holds-loop-word-preserved-then-is_back t c = let o = rw c.operator_in-operator.ensures at
     (sym c.is_back.ensures ∙ c.if-is_back.true) in
-    let q = rw (c.operator_in-operator.ensures, c.label_in.ensures, c.loop-word.invariant.0) at c.steps_back.ensures in (
+    let q = rw (c.operator_in-operator.ensures, c.label_in.ensures, c.loop-word.invariant.0) at c.steps_back.ensures
+    in (
       c.loop-word.invariant.0,
       going.going_back _ _ _ _ _ _ _ _ _ _ c.loop-word.invariant.1 o _ q
           c.if-not-steps_back.false,
@@ -53,17 +44,14 @@ holds-operand-first-requires t c = let on = rw c.operator_in.ensures at (sym c.g
       ),
     )
 
-pub holds-returns-then-first-operator : goal.holds-returns-then-first-operator
-holds-returns-then-first-operator t c = let on = rw c.operator_in.ensures at
+pub holds-returns-then-first-operator-clause-value : goal.holds-returns-then-first-operator-clause-value
+holds-returns-then-first-operator-clause-value t c = let on = rw c.operator_in.ensures at
     (sym c.goes_on.ensures ∙ c.loop-word-test.true) in
     let other = rw c.operator_in-operator.ensures at (sym c.is_back.ensures ∙ c.if-is_back.false) in
     let o = operands.two_operands _ on (λ z. c.if-operator-eq2.false (c.operator_in-operator.ensures ∙ z)) other in
     let first = rw c.loop-word.invariant.0 at c.operand-first.ensures.value in
-    record {
-      value = going.going_settled _ _ _ _ _ _ _ _ _ _ c.loop-word.invariant.1 o _ first
-          (rw c.operator_in-operator.ensures at c.if-first-operator.true);
-      run_unchanged = c.operand-first.ensures.run_unchanged ∙ c.loop-word.invariant.0;
-    }
+    going.going_settled _ _ _ _ _ _ _ _ _ _ c.loop-word.invariant.1 o _ first
+    (rw c.operator_in-operator.ensures at c.if-first-operator.true)
 
 pub holds-overflow_sub-nodes-in-loop-word-3 : goal.holds-overflow_sub-nodes-in-loop-word-3
 holds-overflow_sub-nodes-in-loop-word-3 t c = let on = rw c.operator_in.ensures at
@@ -87,77 +75,25 @@ holds-loop-word-preserved t c = let on = rw c.operator_in.ensures at (sym c.goes
           (rw c.operator_in-operator.ensures at c.if-first-operator.false)),
     )
 
-pub holds-judge-last-requires : goal.holds-judge-last-requires
-holds-judge-last-requires t c = let other = rw c.operator_in.ensures at (sym c.goes_on.ensures ∙ c.loop-word-test.false)
-    in (
-      omega (arith, c.loop-word.invariant.1.shorter),
-      (
-        c.requires.two_grids,
-        (rw c.loop-word.invariant.0 c.loop-word.invariant.1.ready, other),
-      ),
-    )
+pub operand-returns-in-0-clause-value : goal.operand-returns-in-0-clause-value
+operand-returns-in-0-clause-value t c = operands.judged-top _ _ _ _ _ _ c.requires.ready.tree
+    (sym c.operator_in.ensures ∙ c.in-0.is)
 
-pub holds-returns : goal.holds-returns
-holds-returns t c = record {
-  value = going.going_end _ _ _ _ _ _ _ _ _ _ c.loop-word.invariant.1 _
-      (rw c.loop-word.invariant.0 at c.judge-last.ensures.value);
-  run_unchanged = c.judge-last.ensures.run_unchanged ∙ c.loop-word.invariant.0;
-}
+pub operand-returns-in-1-clause-value : goal.operand-returns-in-1-clause-value
+operand-returns-in-1-clause-value t c = operands.judged-bottom _ _ _ _ _ _ c.requires.ready.tree
+    (sym c.operator_in.ensures ∙ c.in-1.is)
 
-pub operand-returns-then-operator-eq0 : goal.operand-returns-then-operator-eq0
-operand-returns-then-operator-eq0 t c = record {
-  value = operands.judged-top _ _ _ _ _ _ c.requires.ready.tree
-      (sym c.operator_in-operator.ensures ∙ c.if-operator-eq0.true);
-  run_unchanged = refl;
-}
+pub judge-returns-in-0-clause-value : goal.judge-returns-in-0-clause-value
+judge-returns-in-0-clause-value t c = operands.judged-top _ _ _ _ _ _ c.requires.ready.tree
+    (sym c.operator_in.ensures ∙ c.in-0.is)
 
-pub operand-returns-then-operator-eq1 : goal.operand-returns-then-operator-eq1
-operand-returns-then-operator-eq1 t c = record {
-  value = operands.judged-bottom _ _ _ _ _ _ c.requires.ready.tree
-      (sym c.operator_in-operator.ensures ∙ c.if-operator-eq1.true);
-  run_unchanged = refl;
-}
-
-pub operand-ahead-requires : goal.operand-ahead-requires
-operand-ahead-requires t c = let looks = rw c.operator_in-operator.ensures at
-    (sym c.is_forward.ensures ∙ c.if-is_forward.true) in
-    (omega arith, (c.requires.two_grids, (c.requires.ready, looks)))
-
-pub operand-returns-then-is_forward : goal.operand-returns-then-is_forward
-operand-returns-then-is_forward t c = record {
-  value = c.ahead.ensures.value;
-  run_unchanged = c.ahead.ensures.run_unchanged;
-}
-
-pub operand-returns : goal.operand-returns
-operand-returns t c = record {
-  value = c.holds.ensures.value;
-  run_unchanged = c.holds.ensures.run_unchanged;
-}
-
-pub judge-returns-then-operator-eq0 : goal.judge-returns-then-operator-eq0
-judge-returns-then-operator-eq0 t c = record {
-  value = operands.judged-top _ _ _ _ _ _ c.requires.ready.tree
-      (sym c.operator_in-operator.ensures ∙ c.if-operator-eq0.true);
-  run_unchanged = refl;
-}
-
-pub judge-returns-then-operator-eq1 : goal.judge-returns-then-operator-eq1
-judge-returns-then-operator-eq1 t c = record {
-  value = operands.judged-bottom _ _ _ _ _ _ c.requires.ready.tree
-      (sym c.operator_in-operator.ensures ∙ c.if-operator-eq1.true);
-  run_unchanged = refl;
-}
+pub judge-returns-in-1-clause-value : goal.judge-returns-in-1-clause-value
+judge-returns-in-1-clause-value t c = operands.judged-bottom _ _ _ _ _ _ c.requires.ready.tree
+    (sym c.operator_in.ensures ∙ c.in-1.is)
 
 pub judge-ahead-requires : goal.judge-ahead-requires
 judge-ahead-requires t c = let looks = operands.looks-forward _ c.requires.ready.tree _
     (operands.operator_read _ _ c.requires.ready.tree)
-    (λ z. c.if-operator-eq0.false (c.operator_in-operator.ensures ∙ z))
-    (λ z. c.if-operator-eq1.false (c.operator_in-operator.ensures ∙ z)) c.requires.nodes_value in
+    (λ z. omega (arith, z, c.operator_in.ensures))
+    (λ z. omega (arith, z, c.operator_in.ensures)) c.requires.nodes_value in
     (omega arith, (c.requires.two_grids, (c.requires.ready, looks)))
-
-pub judge-returns : goal.judge-returns
-judge-returns t c = record {
-  value = c.ahead.ensures.value;
-  run_unchanged = c.ahead.ensures.run_unchanged;
-}

@@ -10,13 +10,11 @@ use Rattle.verdict.proofs.TwoGrids as two-grids
 use Rattle.verdict.proofs.Written as written
 use Rattle.verdict.proofs.search.+judging.Goals as goal
 
-pub try_moves-returns-then-rows-eq0 : goal.try_moves-returns-then-rows-eq0
-try_moves-returns-then-rows-eq0 t c = let none = two-grids.no_rows _ _ c.args.grids.now c.wanted_rows-rows.result.at _
+pub try_moves-returns-then-rows-eq0-clause-value : goal.try_moves-returns-then-rows-eq0-clause-value
+try_moves-returns-then-rows-eq0-clause-value t c =
+    let none = two-grids.no_rows _ _ c.args.grids.now c.wanted_rows-rows.result.at _
     c.if-rows-eq0.true in
-    record {
-      value = none ∙ c.wanted_rows-rows.ensures.same _;
-      run_unchanged = refl;
-    }
+    none ∙ c.wanted_rows-rows.ensures.same _
 
 pub try_moves-try_rows-held-requires : goal.try_moves-try_rows-held-requires
 try_moves-try_rows-held-requires t c = let some = positive _ c.if-rows-eq0.false in (
@@ -134,22 +132,6 @@ try_rows-returns t c = let back = written.set_back c.args.run.now _ _ _ c.operan
           ((rw back at c.try_rows.ensures.value) ∙ c.wanted_rows-rest.ensures.same _);
       run_unchanged = c.try_rows.ensures.run_unchanged ∙ back;
     }
-
-pub stay-bounds-run-len : goal.stay-bounds-run-len
-stay-bounds-run-len t c = omega (
-  arith,
-  c.requires.ready.held.whole,
-  c.requires.ready.held.within,
-  c.requires.ready.size,
-)
-
-pub stay-bounds-run-len-2 : goal.stay-bounds-run-len-2
-stay-bounds-run-len-2 t c = omega (
-  arith,
-  c.requires.ready.held.whole,
-  c.requires.ready.held.within,
-  c.requires.ready.size,
-)
 
 pub stay-holds-held-requires : goal.stay-holds-held-requires
 stay-holds-held-requires t c = let p = get_or c.args.run.now (c.args.len - 2) 0 in
