@@ -1,6 +1,6 @@
 // How many nodes a quotient has, counted without a tree, and no further than to one above a limit.
-// It walks as write.rt does; one walk for both would lend a count an output, or hold the writing to a limit. The run lies
-// in an array of fixed size with its length beside it: it grows and shrinks by a step, and C lends no allocator.
+// It walks as write.rt does; one walk for both would lend a count an output, or hold the writing to a limit. The run
+// lies in an array of fixed size with its length beside it: it grows and shrinks by a step, and C lends no allocator.
 ghost use Rattle.std.specs.Prelude.{◌≡◌, true, ◌+◌, ◌-◌, ◌*◌, ◌≤◌, min, length, get_or, take};
 ghost use Rattle.tables.specs.Tables.{SoundTable};
 ghost use Rattle.halves.specs.Halves.{half_of};

@@ -42,7 +42,7 @@ pub(crate) fn refused(refusal: Refusal) -> u64
     refusal.number() as u64 * 4294967296
 }
 
-// What a call gives, as a number.
+// What a call gives, as a number. Here, and where a call has more values than one, a Result ends: C gets numbers.
 pub(crate) fn value(answer: Result<usize, Refusal>) -> u64
     ensures { result ≡ packed only (value_answer answer) }
 {

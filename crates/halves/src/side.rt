@@ -2,8 +2,8 @@
 ghost use Rattle.std.specs.Prelude.{◌≡◌};
 ghost use Rattle.halves.specs.Cuts.{known_of, cut_of, prefix_of};
 
-// The known side as a caller names it, or does not. No Option of a side: "unnamed" is a choice of its own, which the left
-// half answers.
+// The known side as a caller names it, or does not. No Option of a side: "unnamed" is a choice of its own, which the
+// left half answers.
 #[derive(Clone, Copy)]
 pub enum Side {
     Unnamed,

@@ -30,7 +30,7 @@ joint_label P (step.Move m) step.Idle = Some m.label.0
 joint_label P step.Idle (step.Move n) = Some n.label.0
 joint_label P step.Idle step.Idle = Some 255
 
--- that of what is read of each half: none, where a half has no step
+-- the label that what is read of each half forms; none where a half has no step
 unfoldable pub label_read : Pairing → Option Step → Option Step → Option ℕ
 label_read P (Some x) (Some y) = joint_label P x y
 label_read P (Some x) None = None

@@ -65,7 +65,7 @@ impl Labels {
         2 * self.pairs.min(127)
     }
 
-    // Is this one of the labels?
+    // Is this one of the labels? Their numbers are compared: the highest one is told as a number.
     pub fn has(self, label: Label) -> bool
         ensures { result ≡ leb label.0 (count self) }
     {

@@ -4,7 +4,7 @@ ghost use Rattle.std.specs.Prelude.{◌≡◌};
 ghost use Rattle.labels.specs.Refusals.{number_of};
 
 // Why a call is refused: one case for each number of "Who can cause a refusal", then of document 02, with its number.
-#[derive(Clone, Copy, PartialEq, Eq, PartialOrd, Ord)]
+#[derive(Clone, Copy, PartialEq, Eq)]
 pub enum Refusal {
     // 1 to 11: the author of the bytes.
     // The bytes end before the question record is complete.

@@ -71,7 +71,7 @@ fn is_real(labels: Labels, left: &[u8], right: &[u8], step: JointStep) -> bool
         || is_joint_idle(step)
 }
 
-// One side moves by one of these rows, and the other keeps its state.
+// One side moves by one of these rows, and the other keeps its state: it is `other` before the step and `kept` after it.
 pub fn moves_alone(rows: &[u8], label: Label, to: u8, other: u8, kept: u8) -> bool
     ensures { result ≡ (eqb kept other && among (moves_in rows.now) label.0 to) }
 {

@@ -1,6 +1,6 @@
 -- The sheet: document 01, "The casebook". A sheet is a list of lines, each as bytes.
 -- The verdicts, the quotient and its number are those that the calls of verdict and quotient promise.
-use Rattle.std.specs.Prelude.{ℕ, zero, suc, ◌-◌, Bool, true, false, false, cond, List, [], ◌∷◌, ◌++◌, length, take, drop, leb, ltb, Err, Ok, Result}
+use Rattle.std.specs.Prelude.{ℕ, zero, suc, ◌-◌, Bool, true, false, cond, List, [], ◌∷◌, ◌++◌, length, take, drop, leb, ltb, Err, Ok, Result}
 use Rattle.hml.specs.Lists.{each}
 use Rattle.hml.specs.System.{steps}
 use Rattle.labels.specs.Refusals.{number_of, refused_if, output_of, Answer, refused_as, giving, Check}

@@ -41,6 +41,7 @@ fn count_splittings(labels: Labels, left: &[u8], right: &[u8], run: &[u8]) -> us
     let steps = run.len() / 3;
     let mut splittings = 1;
     for i in 0..steps {
+        // Each of these steps is there, so nothing is passed over.
         if let Some(step) = joint_step(run, i) {
             splittings = (splittings * ways_of(labels, left, right, step)).min(65536);
         }

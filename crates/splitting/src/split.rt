@@ -98,6 +98,7 @@ fn write_halves(
     let steps = run.len() / 3;
     let mut n = number;
     for i in (0..steps).rev() {
+        // Each of these steps is there, so nothing is passed over.
         if let Some(step) = joint_step(run, i) {
             n = put_way(labels, left, right, step, i, n, left_out, right_out);
         }

@@ -1,7 +1,7 @@
 // Verdicts on joint runs and half runs: document 01, "Questions and verdicts".
 #![tactic(auto)]
 
-pub mod answer;
+mod answer;
 mod back;
 mod beside;
 mod chain;

@@ -64,6 +64,7 @@ pub(crate) fn holds(
     let mut nodes = nodes;
     // Does "not" stand an even number of times before what is left?
     let mut even = true;
+    // From node to node: how far, each word says.
     while goes_on(operator_in(code[nodes])) {
         let word = code[nodes];
         let operator = operator_in(word);
