@@ -64,9 +64,12 @@ fn is_real(labels: Labels, left: &[u8], right: &[u8], step: JointStep) -> bool
     let to = step.after;
     let label = step.label;
     let left = rows_leaving(left, from.left);
+    if moves_alone(left, label, to.left, from.right, to.right) {
+        return true;
+    }
+    // Looked up only now: most steps are the left's, and a search among 512 rows is what a step costs.
     let right = rows_leaving(right, from.right);
-    moves_alone(left, label, to.left, from.right, to.right)
-        || moves_alone(right, label, to.right, from.left, to.left)
+    moves_alone(right, label, to.right, from.left, to.left)
         || is_handshake(labels, left, right, label, to)
         || is_joint_idle(step)
 }
