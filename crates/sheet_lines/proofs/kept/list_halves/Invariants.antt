@@ -1,5 +1,5 @@
 -- The first i splittings have their halves in the table, and those in front keep theirs; the rest fall.
-use Prim.Native.Nat.{◌-◌, ◌*◌, ◌≤◌}
+use Prim.Native.Nat.{◌*◌, ◌≤◌}
 use mathlib.Core.Path.{◌≡◌}
 use lib.ListN.{length, take}
 use Rattle.sheet_lines.specs.Working.{shown}
