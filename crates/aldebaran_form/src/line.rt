@@ -38,7 +38,8 @@ pub fn header_line(text: &[u8]) -> Option<HeaderLine>
     let states = number_at(text, third);
     let end = past(text, states.end, 41);
     let start = past(text, end, 10);
-    if text.len() < start {
+    let missing = text.len() < start;
+    if missing {
         return None;
     }
     Some(HeaderLine {
@@ -76,7 +77,8 @@ pub fn row_line(text: &[u8], at: usize) -> Option<RowLine>
     let to = number_at(text, second);
     let end = past(text, to.end, 41);
     let behind = past(text, end, 10);
-    if text.len() < behind {
+    let missing = text.len() < behind;
+    if missing {
         return None;
     }
     Some(RowLine {

@@ -9,7 +9,8 @@ pub fn back_depth(f: &[u8]) -> usize
     ensures value { result ≡ backs_of f.now }
     ensures few { result ≤ length f.now }
 {
-    if tree_end(f) != Some(f.len()) {
+    let longer = tree_end(f) != Some(f.len());
+    if longer {
         return 0;
     }
     measured(f).backs

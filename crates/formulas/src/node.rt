@@ -45,12 +45,13 @@ pub fn is_forward(operator: u8) -> bool
     matches!(operator, 5 | 7)
 }
 
-// Operators 6 and 8 look back.
+// Operators 6 and 8 look back. (By `matches!` the compiler asks for both kinds of operators that a verdict goes on from
+// at once: an "or" over 2,047 times false took 12.9 million instructions for 9.2.)
 #[tactic(auto, using(crate::proofs::OperatorTable::back_numbers))]
 pub fn is_back(operator: u8) -> bool
     ensures { result ≡ is_back operator }
 {
-    matches!(operator, 6 | 8)
+    operator == 6 || operator == 8
 }
 
 // The modalities look forward or back.

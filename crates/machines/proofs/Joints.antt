@@ -86,6 +86,74 @@ module _ (P : Pairing) (L R : System ℕ) (p q c p' q' : ℕ) where
       rw (e, f) (ap (λ z. (eqb q' q && among (L p) c p') || ((eqb p' p && among (R q) c q')
       || ((eqb c 0 && z) || is_joint_idle p q c p' q'))) (sym (any_cong (answer_shakes P R q p' q') (L p))))
 
+  -- a joint idle is real, whatever rows there are; where the step is none, the other three ways are left
+  last_decides : (a b h : Bool) → (a || (b || (h || true))) ≡ true
+  last_decides true b h = refl
+  last_decides false true h = refl
+  last_decides false false true = refl
+  last_decides false false false = refl
+
+  last_lost : (a b h : Bool) → (a || (b || (h || false))) ≡ (a || (b || h))
+  last_lost true b h = refl
+  last_lost false true h = refl
+  last_lost false false true = refl
+  last_lost false false false = refl
+
+  pub idle_real : is_joint_idle p q c p' q' ≡ true → is_real P L R p q c p' q' ≡ true
+  unfolding is_real
+  idle_real e =
+      rw e (last_decides (is_left_alone P L R p q c p' q') (is_right_alone P L R p q c p' q')
+      (is_handshake P L R p q c p' q'))
+
+  pub moves_tried : (left right : List (ℕ × ℕ)) → left ≡ L p → right ≡ R q → is_joint_idle p q c p' q' ≡ false
+      → is_real P L R p q c p' q'
+      ≡ ((eqb q' q && among left c p') || ((eqb p' p && among right c q')
+      || (eqb c 0 && any (is_answered P right p' q') left)))
+  moves_tried left right e f n =
+      ways_tried left right e f
+      ∙ rw n (last_lost (eqb q' q && among left c p') (eqb p' p && among right c q')
+      (eqb c 0 && any (is_answered P right p' q') left))
+
+  -- where the right's state changes: the right alone, or a handshake
+  idle_lost : (a b s t : Bool) → (a || (b || (s && (t && false)))) ≡ (a || b)
+  idle_lost true b s t = refl
+  idle_lost false true s t = refl
+  idle_lost false false true true = refl
+  idle_lost false false true false = refl
+  idle_lost false false false t = refl
+
+  pub right_changed : (left right : List (ℕ × ℕ)) → left ≡ L p → right ≡ R q → (q' ≡ q → ⊥)
+      → is_real P L R p q c p' q'
+      ≡ ((eqb p' p && among right c q') || (eqb c 0 && any (is_answered P right p' q') left))
+  unfolding is_joint_idle
+  right_changed left right e f n =
+      ways_tried left right e f
+      ∙ rw (ne_eqb q' q n) (idle_lost (eqb p' p && among right c q') (eqb c 0 && any (is_answered P right p' q') left)
+      (eqb c 255) (eqb p' p))
+
+  -- the right alone, by a search of its table
+  pub right_alone : p' ≡ p → has_move R q c q' ≡ true → (eqb p' p && among (R q) c q') ≡ true
+  unfolding has_move
+  right_alone e h = rw (eq-eqb p' p e) h
+
+  never : (b : Bool) → (b && false) ≡ false
+  never true = refl
+  never false = refl
+
+  pub right_still : (right : List (ℕ × ℕ)) → right ≡ R q → has_move R q c q' ≡ false → (eqb p' p && among right c q') ≡ false
+  unfolding has_move
+  right_still right f h = rw (f, h) (never (eqb p' p))
+
+  pub left_elsewhere : (right : List (ℕ × ℕ)) → (p' ≡ p → ⊥) → (eqb p' p && among right c q') ≡ false
+  left_elsewhere right n = rw (ne_eqb p' p n)
+
+-- the first of two tests decides, or leaves it to the second
+pub either : {a : Bool} → a ≡ true → (b : Bool) → (a || b) ≡ true
+either e b = rw e
+
+pub neither : {a : Bool} → a ≡ false → (b : Bool) → (a || b) ≡ b
+neither e b = rw e
+
 -- the bytes of a joint run, from step i on
 module _ (s : List ℕ) (i : ℕ) where
   pub next_three : 3 * i + 4 < length s

@@ -20,7 +20,8 @@ pub fn answer_to(
     ensures { result ≡ partner_found (answer_to (pairing labels) (moves_in answers.now) left right
         (label.0, target)) }
 {
-    if target != left {
+    let elsewhere = target != left;
+    if elsewhere {
         return None;
     }
     let partner = labels.partner(label)?;

@@ -12,7 +12,7 @@ use crate::step::{JointStep, States, joint_step};
 use labels::label::{Label, Labels};
 use labels::refusal::Refusal;
 use tables::check::check_table;
-use tables::leaving::{leads_to, rows_leaving};
+use tables::leaving::{has_row, leads_to, rows_leaving};
 use tables::row::rows_in;
 
 // The check of two tables and of a joint run of them: the tables' numbers, then 3 and 8.
@@ -54,7 +54,8 @@ fn is_joint_run(labels: Labels, left: &[u8], right: &[u8], run: &[u8]) -> bool
     true
 }
 
-// The four ways that make a step real.
+// The four ways that make a step real. A side's rows are looked up only where one of the ways left may be by them: a
+// search among 512 rows is what a step costs.
 fn is_real(labels: Labels, left: &[u8], right: &[u8], step: JointStep) -> bool
     requires { Ready left.now × Ready right.now }
     ensures { result ≡ is_real_step (pairing labels) (table_of left.now) (table_of right.now)
@@ -63,15 +64,41 @@ fn is_real(labels: Labels, left: &[u8], right: &[u8], step: JointStep) -> bool
     let from = step.before;
     let to = step.after;
     let label = step.label;
+    if to.right != from.right {
+        return moves_right(labels, left, right, step);
+    }
+    if is_joint_idle(step) {
+        return true;
+    }
     let left = rows_leaving(left, from.left);
     if moves_alone(left, label, to.left, from.right, to.right) {
         return true;
     }
-    // Looked up only now: most steps are the left's, and a search among 512 rows is what a step costs.
     let right = rows_leaving(right, from.right);
     moves_alone(right, label, to.right, from.left, to.left)
         || is_handshake(labels, left, right, label, to)
-        || is_joint_idle(step)
+}
+
+// The two ways of a step that changes the right's state: the right alone, or a handshake.
+fn moves_right(labels: Labels, left: &[u8], right: &[u8], step: JointStep) -> bool
+    requires ready { Ready left.now × Ready right.now }
+    requires changed { step.after.right ≡ step.before.right → ⊥ }
+    ensures { result ≡ is_real_step (pairing labels) (table_of left.now) (table_of right.now)
+        (step.before.left, step.before.right) step.label.0 (step.after.left, step.after.right) }
+{
+    let from = step.before;
+    let to = step.after;
+    if to.left == from.left && has_row(right, from.right, step.label, to.right) {
+        return true;
+    }
+    let left = rows_leaving(left, from.left);
+    is_handshake(
+        labels,
+        left,
+        rows_leaving(right, from.right),
+        step.label,
+        to,
+    )
 }
 
 // One side moves by one of these rows, and the other keeps its state: it is `other` before the step and `kept` after it.

@@ -4,11 +4,14 @@ use mathlib.Core.Path.{◌≡◌, refl, sym, ap}
 use mathlib.Core.Bool.{Bool, true, false, cond, ◌||◌, false≢true}
 use mathlib.Core.List.{List, [], ◌∷◌}
 use native.Mathlib.Omega.{arith}
+use lib.ListN.{length}
 use lib.Dec.{eqb}
-use borrow.Author.Tests.{eqb-true}
+use borrow.Author.Tests.{eqb-true, le-ltb}
 use Rattle.hml.specs.Lists.{any}
 use Rattle.hml.proofs.Tests.{apart, Decides, decides, decided_iff, decided_and, decided_same, decided_le}
-use Rattle.records.specs.Records.{lengths_of, fit_length, longest_body, may_stand}
+use Rattle.records.specs.Records.{lengths_of, fit_length, longest_body, may_stand, word_at, next_at}
+use Rattle.labels.specs.declared.refusal.Refusal.TheVariants.{WrongKind}
+use Rattle.std.specs.Prelude.{Err}
 use Rattle.records.specs.declared.record.Lengths.{Lengths}
 
 -- the table of records by its kinds
@@ -73,3 +76,10 @@ only_kind k kind e = go (eqb k kind) refl e
     go : (b : Bool) → eqb k kind ≡ b → (b || false) ≡ true → kind ≡ k
     go true p e = sym (eqb-true k kind p)
     go false p e = absurd (apart cc)
+
+-- a kind that may not stand at a place is refused, whatever the length before it
+module _ (s : List ℕ) (at : ℕ) (kinds : List ℕ) (header : at + 4 ≤ length s)
+    (kind : ℕ) (seen : kind ≡ word_at s (at + 2)) where
+  pub other_kind : may_stand kinds kind ≡ false → Err WrongKind ≡ next_at s at kinds
+  unfolding next_at
+  other_kind n = rw (le-ltb (length s) (at + 4) header, ← seen, n)
